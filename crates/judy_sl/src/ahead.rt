@@ -75,14 +75,12 @@ impl Batch {
         Some(entry)
     }
 
-    // Reads the next of a level's entries where none is left.
+    // Reads the next of a level's entries, where none is left of those that were read.
     #[inline(always)]
-    fn read_on(&mut self, behind: &mut Option<Entries<'_>>)
-        ensures { self.new ++ unwrap_or behind.new [] ≡ self.old ++ unwrap_or behind.old [] }
+    fn fill(&mut self, behind: &mut Option<Entries<'_>>)
+        requires none { self.old ≡ [] }
+        ensures { self.new ++ unwrap_or behind.new [] ≡ unwrap_or behind.old [] }
     {
-        if self.at < self.end {
-            return;
-        }
         if let Some(entries) = behind {
             self.at = 0;
             self.end = entries.fill(&mut self.read);
@@ -136,10 +134,10 @@ fn next_of(entries: &mut Option<Entries<'_>>) -> Option<(u64, u64)>
 pub struct Ahead<'a> {
     batch: Batch,
     batch_above: Batch,
-    // Of the two, one is behind the level's own batch and the other behind that of the level above: which, changes with the level. They are made where
-    // a walk first wants them, and then in their place, since a move of them takes longer than most steps.
-    behind: Option<Entries<'a>>,
-    behind_too: Option<Entries<'a>>,
+    // What is behind the batches: of the level itself the first and of the level above the second, or the other way round where they are turned. They
+    // are made where a walk first wants them, and then in their place, since a move of them takes longer than most steps.
+    first: Option<Entries<'a>>,
+    second: Option<Entries<'a>>,
     turned: bool,
     kept: bool,
     seen: u64,
@@ -152,7 +150,7 @@ impl<'a> Model for Ahead<'a> {
     ghost Value = { List (ℕ × ℕ) × Option (List (ℕ × ℕ)) };
 
     ghost view = { λ a.
-        own_and_above a.batch a.batch_above a.behind a.behind_too a.turned a.kept };
+        own_and_above a.batch a.batch_above a.first a.second a.turned a.kept };
 }
 
 impl<'a> Ahead<'a> {
@@ -164,8 +162,8 @@ impl<'a> Ahead<'a> {
         Ahead {
             batch: Batch::new(),
             batch_above: Batch::new(),
-            behind: None,
-            behind_too: None,
+            first: None,
+            second: None,
             turned: false,
             kept: false,
             seen: 0,
@@ -180,9 +178,9 @@ impl<'a> Ahead<'a> {
         self.batch.give_up();
         self.kept = false;
         if self.turned {
-            begin_from(&mut self.behind_too, level, piece);
+            begin_from(&mut self.second, level, piece);
         } else {
-            begin_from(&mut self.behind, level, piece);
+            begin_from(&mut self.first, level, piece);
         }
     }
 
@@ -195,9 +193,9 @@ impl<'a> Ahead<'a> {
         self.turned = !self.turned;
         self.kept = true;
         if self.turned {
-            begin(&mut self.behind_too, level);
+            begin(&mut self.second, level);
         } else {
-            begin(&mut self.behind, level);
+            begin(&mut self.first, level);
         }
     }
 
@@ -226,21 +224,26 @@ impl<'a> Ahead<'a> {
             return entry;
         }
         if self.turned {
-            next_of(&mut self.behind_too)
+            next_of(&mut self.second)
         } else {
-            next_of(&mut self.behind)
+            next_of(&mut self.first)
         }
     }
 
-    // Reads the level's next entries ahead, where none is left of those that were read.
-    pub fn read_on(&mut self)
+    // Reads the level's next entries ahead where none is left of those that were read, and answers whether it did.
+    #[inline(always)]
+    pub fn read_on(&mut self) -> bool
         ensures { self.new ≡ self.old }
     {
-        if self.turned {
-            self.batch.read_on(&mut self.behind_too);
-        } else {
-            self.batch.read_on(&mut self.behind);
+        if !self.batch.as_slice().is_empty() {
+            return false;
         }
+        if self.turned {
+            self.batch.fill(&mut self.second);
+        } else {
+            self.batch.fill(&mut self.first);
+        }
+        true
     }
 
     // The level's next entries, as many as are read ahead.

@@ -187,8 +187,7 @@ impl Arena {
         requires leads { All (LeadsOn (world_of self.now)) following.old.0 }
         ensures { following.new ≡ following.old }
     {
-        if following.batch().is_empty() {
-            following.read_on();
+        if following.read_on() {
             let seen = self.touch(following.batch());
             following.keep(seen);
         }

@@ -1,14 +1,16 @@
-use Rattle.std.proofs.Common.{◌≡◌, ◌∙◌, ◌++◌, ℕ, ◌*◌, ◌<◌, List, [], ◌∷◌, length, drop, Option, Some, None, IfSome, MatchOption, is_some, true, true≢false, sym, refl, ap, arith, subst}
+use Rattle.std.proofs.Common.{◌≡◌, ◌∙◌, ◌++◌, ℕ, ◌-◌, ◌*◌, ◌<◌, List, [], ◌∷◌, length, drop, take, Option, Some, None, IfSome, MatchOption, is_some, true, true≢false, sym, refl, ap, arith, subst}
 use Rattle.std.specs.Borrow.{Bor}
 use Rattle.std.specs.FinMap.{contains_key}
 use Rattle.std.specs.Option.{option_to_list}
 use Rattle.std.proofs.lemmas.List.{append-nil, take_rest}
 use Rattle.judy_model.specs.Arrays.{ArrayOf}
 use Rattle.judy_model.specs.Keys.{word_order}
-use Rattle.judy_sl.specs.Pieces.{piece_of}
+use Rattle.judy_sl.specs.declared.runs.Run.{Run}
+use Rattle.judy_sl.specs.Pieces.{IsText, piece_of}
+use Rattle.judy_sl.specs.World.{World}
 use Rattle.judy_sl.specs.Arenas.{world_of}
 use Rattle.judy_sl.specs.Runs.{AreBeyond, Levels, Stands}
-use Rattle.judy_sl.proofs.lemmas.scans.RunWays.{next_leads, none_above, rise, rise_some}
+use Rattle.judy_sl.proofs.lemmas.scans.RunWays.{Risen, next_leads, none_above, rise, rise_some}
 use Rattle.judy_sl.proofs.arena.Arena.next_entry.Goals as goal
 
 pub returns-in-Some : goal.returns-in-Some
@@ -23,6 +25,14 @@ none_left old (Some entry) new steps is = cc
 none_taken : (old new : Levels) (taken : Option (Option (Bor (ArrayOf word_order)))) → taken ≡ None → old ≡ new ++ option_to_list taken → (0 < length old → is_some taken ≡ true) → (old ≡ []) × (new ≡ [])
 none_taken [] new taken is are some = (refl, sym (append-nil new) ∙ ap (λ (t : Option (Option (Bor (ArrayOf word_order)))). new ++ option_to_list t) (sym is) ∙ sym are)
 none_taken (first ∷ old) new taken is are some = absurd (true≢false (sym (some (omega arith)) ∙ ap (λ (t : Option (Option (Bor (ArrayOf word_order)))). is_some t) is))
+
+-- Where one was, its own piece leads from it to where the key stands.
+risen : {world : World} {key : List ℕ} {old new : Levels} {run : Run} {passed : Option (Bor (ArrayOf word_order))} {held : Bor (ArrayOf word_order)} {item : Option (ℕ × ℕ)} (others : List (ℕ × ℕ)) → IsText key → old ≡ new ++ passed ∷ [] → passed ≡ Some held → Stands world key old run → MatchOption item ((run.entries.0 ≡ []) × (others ≡ [])) (λ x. run.entries.0 ≡ x ∷ others) → item ≡ None → Risen world key new held run.entries.1
+risen {world} {key} {old} {new} {run} {passed} {held} {item} others text are is stands steps ended =
+    rise world key text old new run held (are ∙ ap (λ (last : Option (Bor (ArrayOf word_order))). new ++ last ∷ []) is) stands (none_left run.entries.0 item others steps ended).0
+
+own_piece : (key : List ℕ) {long count piece : ℕ} → piece ≡ piece_of (take (length key - 8 * long) (drop (8 * long) key)) → long ≡ count → piece ≡ piece_of (drop (8 * count) key)
+own_piece key {long} {count} {piece} is same = is ∙ ap piece_of (take_rest key (8 * long)) ∙ ap (λ n. piece_of (drop (8 * n) key)) same
 
 pub returns-in_err-pop : goal.returns-in_err-pop
 returns-in_err-pop c =
@@ -41,34 +51,26 @@ returns-in_err-run c =
 
 pub slice_bounds-first_piece-count : goal.slice_bounds-first_piece-count
 slice_bounds-first_piece-count c =
-    let left = none_left c.levels.run.entries.0 c.next.result c.next.new.self.0 c.next.ensures.steps c.in_default.is in
-    let are = c.in_ok-pop.ensures.items ∙ ap (λ (item : Option (Bor (ArrayOf word_order))). c.pop.new.self.items ++ item ∷ []) c.in_ok-run.was in
-    omega (arith, (rise (world_of c.args.self.now) c.args.key.now c.requires.is_text c.levels.above.items c.pop.new.self.items c.levels.run c.in_ok-run.field-0 are c.levels.invariant left.0).within, c.len.ensures.value)
+    let up = risen c.next.new.self.0 c.requires.is_text c.in_ok-pop.ensures.items c.in_ok-run.was c.levels.invariant c.next.ensures.steps c.in_default.is in
+    omega (arith, up.within, c.len.ensures.value)
 
 pub slice_bounds-first_piece-start : goal.slice_bounds-first_piece-start
 slice_bounds-first_piece-start c =
-    let left = none_left c.levels.run.entries.0 c.next.result c.next.new.self.0 c.next.ensures.steps c.in_default.is in
-    let are = c.in_ok-pop.ensures.items ∙ ap (λ (item : Option (Bor (ArrayOf word_order))). c.pop.new.self.items ++ item ∷ []) c.in_ok-run.was in
-    omega (arith, (rise (world_of c.args.self.now) c.args.key.now c.requires.is_text c.levels.above.items c.pop.new.self.items c.levels.run c.in_ok-run.field-0 are c.levels.invariant left.0).within, c.len.ensures.value)
+    let up = risen c.next.new.self.0 c.requires.is_text c.in_ok-pop.ensures.items c.in_ok-run.was c.levels.invariant c.next.ensures.steps c.in_default.is in
+    omega (arith, up.within, c.len.ensures.value)
 
 pub go_up_beyond-requires-clause-own : goal.go_up_beyond-requires-clause-own
 go_up_beyond-requires-clause-own c =
-    let left = none_left c.levels.run.entries.0 c.next.result c.next.new.self.0 c.next.ensures.steps c.in_default.is in
-    let are = c.in_ok-pop.ensures.items ∙ ap (λ (item : Option (Bor (ArrayOf word_order))). c.pop.new.self.items ++ item ∷ []) c.in_ok-run.was in
-    let piece = c.first_piece-piece.ensures ∙ ap piece_of (take_rest c.args.key.now (8 * c.len.result)) ∙ ap (λ n. piece_of (drop (8 * n) c.args.key.now)) c.len.ensures.value in
-    ap (contains_key c.in_ok-run.field-0.now.map) piece ∙ (rise (world_of c.args.self.now) c.args.key.now c.requires.is_text c.levels.above.items c.pop.new.self.items c.levels.run c.in_ok-run.field-0 are c.levels.invariant left.0).there
+    let up = risen c.next.new.self.0 c.requires.is_text c.in_ok-pop.ensures.items c.in_ok-run.was c.levels.invariant c.next.ensures.steps c.in_default.is in
+    ap (contains_key c.in_ok-run.field-0.now.map) (own_piece c.args.key.now c.first_piece-piece.ensures c.len.ensures.value) ∙ up.there
 
 pub go_up_beyond-requires-clause-above : goal.go_up_beyond-requires-clause-above
 go_up_beyond-requires-clause-above c =
-    let left = none_left c.levels.run.entries.0 c.next.result c.next.new.self.0 c.next.ensures.steps c.in_default.is in
-    let are = c.in_ok-pop.ensures.items ∙ ap (λ (item : Option (Bor (ArrayOf word_order))). c.pop.new.self.items ++ item ∷ []) c.in_ok-run.was in
-    let piece = c.first_piece-piece.ensures ∙ ap piece_of (take_rest c.args.key.now (8 * c.len.result)) ∙ ap (λ n. piece_of (drop (8 * n) c.args.key.now)) c.len.ensures.value in
-    let risen = rise (world_of c.args.self.now) c.args.key.now c.requires.is_text c.levels.above.items c.pop.new.self.items c.levels.run c.in_ok-run.field-0 are c.levels.invariant left.0 in
-    subst (λ (kept : Option (List (ℕ × ℕ))). IfSome kept (AreBeyond c.in_ok-run.field-0.now.map c.first_piece-piece.result)) (sym c.next.ensures.above) (subst (λ p. IfSome c.levels.run.entries.1 (AreBeyond c.in_ok-run.field-0.now.map p)) (sym piece) risen.are_kept)
+    let up = risen c.next.new.self.0 c.requires.is_text c.in_ok-pop.ensures.items c.in_ok-run.was c.levels.invariant c.next.ensures.steps c.in_default.is in
+    subst (λ (kept : Option (List (ℕ × ℕ))). IfSome kept (AreBeyond c.in_ok-run.field-0.now.map c.first_piece-piece.result)) (sym c.next.ensures.above)
+    (subst (λ p. IfSome c.levels.run.entries.1 (AreBeyond c.in_ok-run.field-0.now.map p)) (sym (own_piece c.args.key.now c.first_piece-piece.ensures c.len.ensures.value)) up.are_kept)
 
 pub levels-preserved : goal.levels-preserved
 levels-preserved c =
-    let left = none_left c.levels.run.entries.0 c.next.result c.next.new.self.0 c.next.ensures.steps c.in_default.is in
-    let are = c.in_ok-pop.ensures.items ∙ ap (λ (item : Option (Bor (ArrayOf word_order))). c.pop.new.self.items ++ item ∷ []) c.in_ok-run.was in
-    let piece = c.first_piece-piece.ensures ∙ ap piece_of (take_rest c.args.key.now (8 * c.len.result)) ∙ ap (λ n. piece_of (drop (8 * n) c.args.key.now)) c.len.ensures.value in
-    (rise (world_of c.args.self.now) c.args.key.now c.requires.is_text c.levels.above.items c.pop.new.self.items c.levels.run c.in_ok-run.field-0 are c.levels.invariant left.0).stands c.go_up_beyond.new.following (subst (λ p. AreBeyond c.in_ok-run.field-0.now.map p c.go_up_beyond.new.following.0) piece c.go_up_beyond.ensures.beyond) c.go_up_beyond.ensures.above
+    let up = risen c.next.new.self.0 c.requires.is_text c.in_ok-pop.ensures.items c.in_ok-run.was c.levels.invariant c.next.ensures.steps c.in_default.is in
+    up.stands c.go_up_beyond.new.following (subst (λ p. AreBeyond c.in_ok-run.field-0.now.map p c.go_up_beyond.new.following.0) (own_piece c.args.key.now c.first_piece-piece.ensures c.len.ensures.value) c.go_up_beyond.ensures.beyond) c.go_up_beyond.ensures.above
