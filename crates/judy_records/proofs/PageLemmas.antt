@@ -49,24 +49,24 @@ write-long page new start stride within long =
 
 -- ---- the words of a place
 
-parts-of : (page rest stride : ℕ) → (page * 128 + rest) * stride ≡ page * (128 * stride) + rest * stride
+parts-of : (page rest stride : ℕ) → (page * 512 + rest) * stride ≡ page * (512 * stride) + rest * stride
 parts-of page rest stride = grind arith
 
-start-of : (place stride : ℕ) → place * stride ≡ place / 128 * (128 * stride) + place % 128 * stride
+start-of : (place stride : ℕ) → place * stride ≡ place / 512 * (512 * stride) + place % 512 * stride
 start-of place stride =
-    let whole : place ≡ place / 128 * 128 + place % 128 = omega arith in
-    ap (λ n. n * stride) whole ∙ parts-of (place / 128) (place % 128) stride
+    let whole : place ≡ place / 512 * 512 + place % 512 = omega arith in
+    ap (λ n. n * stride) whole ∙ parts-of (place / 512) (place % 512) stride
 
 module _ (pages : List (List ℕ)) (count stride : ℕ) (are : ArePages pages count stride) where
-  rest-long : length (joined (drop (count / 128) pages)) ≡ count % 128 * stride
-  rest-long = elim (cases_lt (count / 128) (length pages)) [
+  rest-long : length (joined (drop (count / 512) pages)) ≡ count % 512 * stride
+  rest-long = elim (cases_lt (count / 512) (length pages)) [
     | inl less ↦
-        ap (λ (rest : List (List ℕ)). length (joined rest)) (drop_more pages (count / 128) [] less ∙ ap (λ (rest : List (List ℕ)). get_or pages (count / 128) [] ∷ rest) (drop_all (count / 128 + 1) pages are.few))
-        ∙ ap length (append-nil (get_or pages (count / 128) []))
+        ap (λ (rest : List (List ℕ)). length (joined rest)) (drop_more pages (count / 512) [] less ∙ ap (λ (rest : List (List ℕ)). get_or pages (count / 512) [] ∷ rest) (drop_all (count / 512 + 1) pages are.few))
+        ∙ ap length (append-nil (get_or pages (count / 512) []))
         ∙ are.last
     | inr past ↦
-        ap (λ (rest : List (List ℕ)). length (joined rest)) (drop_all (count / 128) pages past)
-        ∙ sym (ap length (get_or_past pages (count / 128) [] past))
+        ap (λ (rest : List (List ℕ)). length (joined rest)) (drop_all (count / 512) pages past)
+        ∙ sym (ap length (get_or_past pages (count / 512) [] past))
         ∙ are.last
   ]
 
@@ -74,86 +74,86 @@ module _ (pages : List (List ℕ)) (count stride : ℕ) (are : ArePages pages co
   pub all-long : length (joined pages) ≡ count * stride
   all-long =
       let enough = are.enough in
-      let split = ap length (ap joined (sym (take-append-drop (count / 128) pages)) ∙ joined-append (take (count / 128) pages) (drop (count / 128) pages)) in
-      let both = length-append (joined (take (count / 128) pages)) (joined (drop (count / 128) pages)) in
-      let front = front-long pages (128 * stride) (count / 128) are.full (omega (arith, enough)) in
+      let split = ap length (ap joined (sym (take-append-drop (count / 512) pages)) ∙ joined-append (take (count / 512) pages) (drop (count / 512) pages)) in
+      let both = length-append (joined (take (count / 512) pages)) (joined (drop (count / 512) pages)) in
+      let front = front-long pages (512 * stride) (count / 512) are.full (omega (arith, enough)) in
       let rest = rest-long in
       let start = start-of count stride in
       omega (arith, split, both, front, rest, start)
 
   module _ (place : ℕ) (inside : place < count) where
     -- A record stands in one page,
-    pub page-inside : place / 128 < length pages
+    pub page-inside : place / 512 < length pages
     page-inside = (let enough = are.enough in omega (arith, inside, enough))
 
-    pub page-long : place % 128 * stride + stride ≤ length (get_or pages (place / 128) [])
-    page-long = elim (cases_lt (place / 128) (count / 128)) [
+    pub page-long : place % 512 * stride + stride ≤ length (get_or pages (place / 512) [])
+    page-long = elim (cases_lt (place / 512) (count / 512)) [
       | inl less ↦
-          let full = are.full (place / 128) less in
-          let within = place-within (place % 128) 128 stride (omega arith) in
+          let full = are.full (place / 512) less in
+          let within = place-within (place % 512) 512 stride (omega arith) in
           omega (arith, full, within)
       | inr most ↦
-          let same : place / 128 ≡ count / 128 = omega (arith, inside, most) in
+          let same : place / 512 ≡ count / 512 = omega (arith, inside, most) in
           let long = ap (λ n. length (get_or pages n [])) same ∙ are.last in
-          let within = place-within (place % 128) (count % 128) stride (omega (arith, inside, same)) in
+          let within = place-within (place % 512) (count % 512) stride (omega (arith, inside, same)) in
           omega (arith, long, within)
     ]
 
     abbrev page : List ℕ
-    page = get_or pages (place / 128) []
+    page = get_or pages (place / 512) []
 
     abbrev front : List ℕ
-    front = joined (take (place / 128) pages)
+    front = joined (take (place / 512) pages)
 
     abbrev behind : List ℕ
-    behind = joined (drop (suc (place / 128)) pages)
+    behind = joined (drop (suc (place / 512)) pages)
 
     whole : joined pages ≡ front ++ (page ++ behind)
-    whole = joined-split pages (place / 128) page-inside
+    whole = joined-split pages (place / 512) page-inside
 
-    front-is : length front ≡ place / 128 * (128 * stride)
-    front-is = (let within = page-inside in front-long pages (128 * stride) (place / 128) (λ k less. are.full k (omega (arith, less, inside))) (omega (arith, within)))
+    front-is : length front ≡ place / 512 * (512 * stride)
+    front-is = (let within = page-inside in front-long pages (512 * stride) (place / 512) (λ k less. are.full k (omega (arith, less, inside))) (omega (arith, within)))
 
-    from-start : drop (place * stride) (joined pages) ≡ drop (place % 128 * stride) page ++ behind
+    from-start : drop (place * stride) (joined pages) ≡ drop (place % 512 * stride) page ++ behind
     from-start =
         let long = page-long in
         ap (λ n. drop n (joined pages)) (start-of place stride)
-        ∙ sym (drop-drop (place % 128 * stride) (place / 128 * (128 * stride)) (joined pages))
-        ∙ ap (drop (place % 128 * stride)) (ap (drop (place / 128 * (128 * stride))) whole ∙ drop_at front (page ++ behind) (place / 128 * (128 * stride)) front-is)
-        ∙ drop-append-le (place % 128 * stride) page behind (omega (arith, long))
+        ∙ sym (drop-drop (place % 512 * stride) (place / 512 * (512 * stride)) (joined pages))
+        ∙ ap (drop (place % 512 * stride)) (ap (drop (place / 512 * (512 * stride))) whole ∙ drop_at front (page ++ behind) (place / 512 * (512 * stride)) front-is)
+        ∙ drop-append-le (place % 512 * stride) page behind (omega (arith, long))
 
     -- where its first word is found, and all of it,
-    pub page-read : 0 < stride → get_or (joined pages) (place * stride) 0 ≡ get_or page (place % 128 * stride) 0
+    pub page-read : 0 < stride → get_or (joined pages) (place * stride) 0 ≡ get_or page (place % 512 * stride) 0
     page-read some =
         let long = page-long in
-        ap (λ n. get_or (joined pages) n 0) (start-of place stride ∙ ap (λ n. n + place % 128 * stride) (sym front-is))
-        ∙ ap (λ words. get_or words (length front + place % 128 * stride) 0) whole
-        ∙ get_or-append-add front (page ++ behind) (place % 128 * stride) 0
-        ∙ get_or_append_left page behind 0 (place % 128 * stride) (omega (arith, long, some))
+        ap (λ n. get_or (joined pages) n 0) (start-of place stride ∙ ap (λ n. n + place % 512 * stride) (sym front-is))
+        ∙ ap (λ words. get_or words (length front + place % 512 * stride) 0) whole
+        ∙ get_or-append-add front (page ++ behind) (place % 512 * stride) 0
+        ∙ get_or_append_left page behind 0 (place % 512 * stride) (omega (arith, long, some))
 
-    pub page-spot : (size : ℕ) → size + 1 ≡ stride → first_spot size (drop (place * stride) (joined pages)) ≡ first_spot size (drop (place % 128 * stride) page)
+    pub page-spot : (size : ℕ) → size + 1 ≡ stride → first_spot size (drop (place * stride) (joined pages)) ≡ first_spot size (drop (place % 512 * stride) page)
     page-spot size is =
         let long = page-long in
-        let left = length-drop (place % 128 * stride) page in
-        ap (first_spot size) from-start ∙ first-append size (drop (place % 128 * stride) page) behind (omega (arith, long, left, is))
+        let left = length-drop (place % 512 * stride) page in
+        ap (first_spot size) from-start ∙ first-append size (drop (place % 512 * stride) page) behind (omega (arith, long, left, is))
 
     -- and where it is written.
-    pub page-set : 0 < stride → (value : ℕ) → joined (set pages (place / 128) (set page (place % 128 * stride) value)) ≡ set (joined pages) (place * stride) value
+    pub page-set : 0 < stride → (value : ℕ) → joined (set pages (place / 512) (set page (place % 512 * stride) value)) ≡ set (joined pages) (place * stride) value
     page-set some value =
         let long = page-long in
-        let at = place / 128 * (128 * stride) in
-        let start = place % 128 * stride in
+        let at = place / 512 * (512 * stride) in
+        let start = place % 512 * stride in
         let same : at + start - at ≡ start = omega arith in
-        joined-set pages (place / 128) (set page start value) page-inside
+        joined-set pages (place / 512) (set page start value) page-inside
         ∙ ap (λ rest. front ++ rest) (sym (set-append_left page behind start value (omega (arith, long, some))))
         ∙ sym (set-append_right front (page ++ behind) at (at + start) value front-is (omega arith) ∙ ap (λ n. front ++ set (page ++ behind) n value) same)
         ∙ ap (λ words. set words (at + start) value) (sym whole)
         ∙ ap (λ n. set (joined pages) n value) (sym (start-of place stride))
 
-    pub page-write : (new : List ℕ) → joined (set pages (place / 128) (take (place % 128 * stride) page ++ (new ++ drop stride (drop (place % 128 * stride) page)))) ≡ take (place * stride) (joined pages) ++ (new ++ drop stride (drop (place * stride) (joined pages)))
+    pub page-write : (new : List ℕ) → joined (set pages (place / 512) (take (place % 512 * stride) page ++ (new ++ drop stride (drop (place % 512 * stride) page)))) ≡ take (place * stride) (joined pages) ++ (new ++ drop stride (drop (place * stride) (joined pages)))
     page-write new =
         let long = page-long in
-        let start = place % 128 * stride in
+        let start = place % 512 * stride in
         let left = length-drop start page in
         let before = take start page in
         let after = drop stride (drop start page) in
@@ -164,65 +164,65 @@ module _ (pages : List (List ℕ)) (count stride : ℕ) (are : ArePages pages co
         ∙ ap (λ rest. front ++ rest) (take-append-le start page behind (omega (arith, long))) in
         let dropped : drop stride (drop (place * stride) (joined pages)) ≡ after ++ behind =
         ap (drop stride) from-start ∙ drop-append-le stride (drop start page) behind (omega (arith, long, left)) in
-        joined-set pages (place / 128) (before ++ (new ++ after)) page-inside
+        joined-set pages (place / 512) (before ++ (new ++ after)) page-inside
         ∙ ap (λ rest. front ++ rest) (append_assoc before (new ++ after) behind ∙ ap (λ rest. before ++ rest) (append_assoc new after behind))
         ∙ sym (append_assoc front before (new ++ (after ++ behind)))
         ∙ sym (λ i. taken i ++ (new ++ dropped i))
 
     -- A page that is as long may stand there.
     module _ (new : List ℕ) (long : length new ≡ length page) where
-      pub set-lengths : (at : ℕ) → length (get_or (set pages (place / 128) new) at []) ≡ length (get_or pages at [])
-      set-lengths at = elim (cases_eq at (place / 128)) [
+      pub set-lengths : (at : ℕ) → length (get_or (set pages (place / 512) new) at []) ≡ length (get_or pages at [])
+      set-lengths at = elim (cases_eq at (place / 512)) [
         | inl here ↦
-            ap (λ n. length (get_or (set pages (place / 128) new) n [])) here
-            ∙ ap length (get_or-set_same pages (place / 128) new [] page-inside)
+            ap (λ n. length (get_or (set pages (place / 512) new) n [])) here
+            ∙ ap length (get_or-set_same pages (place / 512) new [] page-inside)
             ∙ long
             ∙ ap (λ n. length (get_or pages n [])) (sym here)
-        | inr apart ↦ ap length (get_or-set_other pages (place / 128) at new [] apart)
+        | inr apart ↦ ap length (get_or-set_other pages (place / 512) at new [] apart)
       ]
 
-      pub set-are : ArePages (set pages (place / 128) new) count stride
+      pub set-are : ArePages (set pages (place / 512) new) count stride
       set-are =
-          let count-is = length-set pages (place / 128) new in
+          let count-is = length-set pages (place / 512) new in
           let few = are.few in
           let enough = are.enough in
           record {
             few = omega (arith, count-is, few);
             enough = omega (arith, count-is, enough);
             full = λ at less. set-lengths at ∙ are.full at less;
-            last = set-lengths (count / 128) ∙ are.last;
+            last = set-lengths (count / 512) ∙ are.last;
           }
 
   -- One more record comes to the page that isn't full.
-  module _ (there : count / 128 < length pages) (new : List ℕ) (long : length new ≡ stride) where
+  module _ (there : count / 512 < length pages) (new : List ℕ) (long : length new ≡ stride) where
     abbrev last-page : List ℕ
-    last-page = get_or pages (count / 128) []
+    last-page = get_or pages (count / 512) []
 
     abbrev full-pages : List ℕ
-    full-pages = joined (take (count / 128) pages)
+    full-pages = joined (take (count / 512) pages)
 
-    none-behind : drop (suc (count / 128)) pages ≡ []
-    none-behind = (let few = are.few in drop_all (suc (count / 128)) pages (omega (arith, few)))
+    none-behind : drop (suc (count / 512)) pages ≡ []
+    none-behind = (let few = are.few in drop_all (suc (count / 512)) pages (omega (arith, few)))
 
-    pub pushed-joined : joined (set pages (count / 128) (last-page ++ new)) ≡ joined pages ++ new
+    pub pushed-joined : joined (set pages (count / 512) (last-page ++ new)) ≡ joined pages ++ new
     pushed-joined =
-        joined-set pages (count / 128) (last-page ++ new) there
+        joined-set pages (count / 512) (last-page ++ new) there
         ∙ ap (λ (rest : List (List ℕ)). full-pages ++ ((last-page ++ new) ++ joined rest)) none-behind
         ∙ ap (λ rest. full-pages ++ rest) (append-nil (last-page ++ new))
         ∙ sym (append_assoc full-pages last-page new)
         ∙ ap (λ words. words ++ new)
-        (sym (joined-split pages (count / 128) there ∙ ap (λ (rest : List (List ℕ)). full-pages ++ (last-page ++ joined rest)) none-behind ∙ ap (λ rest. full-pages ++ rest) (append-nil last-page)))
+        (sym (joined-split pages (count / 512) there ∙ ap (λ (rest : List (List ℕ)). full-pages ++ (last-page ++ joined rest)) none-behind ∙ ap (λ rest. full-pages ++ rest) (append-nil last-page)))
 
-    pushed-long : length (last-page ++ new) ≡ (count % 128 + 1) * stride
+    pushed-long : length (last-page ++ new) ≡ (count % 512 + 1) * stride
     pushed-long =
         let both = length-append last-page new in
         let last = are.last in
-        let parts : (count % 128 + 1) * stride ≡ count % 128 * stride + stride = grind arith in
+        let parts : (count % 512 + 1) * stride ≡ count % 512 * stride + stride = grind arith in
         omega (arith, both, last, long, parts)
 
-    pub pushed-pages : ArePages (set pages (count / 128) (last-page ++ new)) (count + 1) stride
+    pub pushed-pages : ArePages (set pages (count / 512) (last-page ++ new)) (count + 1) stride
     pushed-pages =
-        let count-is = length-set pages (count / 128) (last-page ++ new) in
+        let count-is = length-set pages (count / 512) (last-page ++ new) in
         let few = are.few in
         record {
           few = omega (arith, count-is, few);
@@ -231,39 +231,39 @@ module _ (pages : List (List ℕ)) (count stride : ℕ) (are : ArePages pages co
           last = last-is;
         }
       where
-        full-at : (at : ℕ) → at < (count + 1) / 128 → length (get_or (set pages (count / 128) (last-page ++ new)) at []) ≡ 128 * stride
-        full-at at less = elim (cases_lt at (count / 128)) [
-          | inl before ↦ ap length (get_or-set_other pages (count / 128) at (last-page ++ new) [] (λ same. absurd (omega (arith, before, same)))) ∙ are.full at before
+        full-at : (at : ℕ) → at < (count + 1) / 512 → length (get_or (set pages (count / 512) (last-page ++ new)) at []) ≡ 512 * stride
+        full-at at less = elim (cases_lt at (count / 512)) [
+          | inl before ↦ ap length (get_or-set_other pages (count / 512) at (last-page ++ new) [] (λ same. absurd (omega (arith, before, same)))) ∙ are.full at before
           | inr most ↦
-              let here : at ≡ count / 128 = omega (arith, less, most) in
-              let whole : count % 128 + 1 ≡ 128 = omega (arith, less, here) in
-              ap (λ n. length (get_or (set pages (count / 128) (last-page ++ new)) n [])) here
-              ∙ ap length (get_or-set_same pages (count / 128) (last-page ++ new) [] there)
+              let here : at ≡ count / 512 = omega (arith, less, most) in
+              let whole : count % 512 + 1 ≡ 512 = omega (arith, less, here) in
+              ap (λ n. length (get_or (set pages (count / 512) (last-page ++ new)) n [])) here
+              ∙ ap length (get_or-set_same pages (count / 512) (last-page ++ new) [] there)
               ∙ pushed-long
               ∙ ap (λ n. n * stride) whole
         ]
 
-        last-is : length (get_or (set pages (count / 128) (last-page ++ new)) ((count + 1) / 128) []) ≡ (count + 1) % 128 * stride
-        last-is = elim (cases_lt (count / 128) ((count + 1) / 128)) [
+        last-is : length (get_or (set pages (count / 512) (last-page ++ new)) ((count + 1) / 512) []) ≡ (count + 1) % 512 * stride
+        last-is = elim (cases_lt (count / 512) ((count + 1) / 512)) [
           | inl less ↦
-              let count-is = length-set pages (count / 128) (last-page ++ new) in
+              let count-is = length-set pages (count / 512) (last-page ++ new) in
               let few = are.few in
-              let none : (count + 1) % 128 ≡ 0 = omega (arith, less) in
+              let none : (count + 1) % 512 ≡ 0 = omega (arith, less) in
               let zero-words : 0 ≡ 0 * stride = omega arith in
-              ap length (get_or_past (set pages (count / 128) (last-page ++ new)) ((count + 1) / 128) [] (omega (arith, count-is, few, less)))
+              ap length (get_or_past (set pages (count / 512) (last-page ++ new)) ((count + 1) / 512) [] (omega (arith, count-is, few, less)))
               ∙ zero-words
               ∙ ap (λ n. n * stride) (sym none)
           | inr most ↦
-              let here : (count + 1) / 128 ≡ count / 128 = omega (arith, most) in
-              let one : count % 128 + 1 ≡ (count + 1) % 128 = omega (arith, here) in
-              ap (λ n. length (get_or (set pages (count / 128) (last-page ++ new)) n [])) here
-              ∙ ap length (get_or-set_same pages (count / 128) (last-page ++ new) [] there)
+              let here : (count + 1) / 512 ≡ count / 512 = omega (arith, most) in
+              let one : count % 512 + 1 ≡ (count + 1) % 512 = omega (arith, here) in
+              ap (λ n. length (get_or (set pages (count / 512) (last-page ++ new)) n [])) here
+              ∙ ap length (get_or-set_same pages (count / 512) (last-page ++ new) [] there)
               ∙ pushed-long
               ∙ ap (λ n. n * stride) one
         ]
 
   -- A page is begun where all are full.
-  module _ (end : count / 128 ≡ length pages) where
+  module _ (end : count / 512 ≡ length pages) where
     pub begun-joined : joined (pages ++ [] ∷ []) ≡ joined pages
     begun-joined = joined-append pages ([] ∷ []) ∙ append-nil (joined pages)
 
@@ -275,7 +275,7 @@ module _ (pages : List (List ℕ)) (count stride : ℕ) (are : ArePages pages co
           few = omega (arith, more, end);
           enough = omega (arith, more, enough);
           full = λ at less. ap length (get_or_append_left pages ([] ∷ []) [] at (omega (arith, less, end))) ∙ are.full at less;
-          last = ap length (get_or_push pages [] [] (count / 128) (sym end)) ∙ sym (ap length (get_or_past pages (count / 128) [] (omega (arith, end)))) ∙ are.last;
+          last = ap length (get_or_push pages [] [] (count / 512) (sym end)) ∙ sym (ap length (get_or_past pages (count / 512) [] (omega (arith, end)))) ∙ are.last;
         }
 
 -- No page is there yet.

@@ -92,66 +92,66 @@ module _ (list : Inside) (are : AreRecords list) (none : list.spare ≡ 0) (room
       let one : (1 - list.spare) * (list.size + 1) ≡ 1 * (list.size + 1) = ap (λ n. (1 - n) * (list.size + 1)) none in
       omega (arith, has, one)
 
-  pub room-there : list.count / 128 < length list.pages.items
-  room-there = elim (cases_lt (list.count / 128) (length list.pages.items)) [
+  pub room-there : list.count / 512 < length list.pages.items
+  room-there = elim (cases_lt (list.count / 512) (length list.pages.items)) [
     | inl less ↦ less
     | inr past ↦
         let long = length-map list.pages.items page_room in
-        let nothing = get_or_past (rooms_of list) (list.count / 128) 0 (omega (arith, past, long)) in
+        let nothing = get_or_past (rooms_of list) (list.count / 512) 0 (omega (arith, past, long)) in
         let left = room-left in
         absurd (omega (arith, nothing, left))
   ]
 
 -- ---- the page of the next record
 
-module _ (list : Inside) (are : AreRecords list) (there : list.count / 128 < length list.pages.items) (page : Vec ℕ Global) (read : page ≡ get_or list.pages.items (list.count / 128) page) where
-  last-there : list.count / 128 < length (pages_of list)
+module _ (list : Inside) (are : AreRecords list) (there : list.count / 512 < length list.pages.items) (page : Vec ℕ Global) (read : page ≡ get_or list.pages.items (list.count / 512) page) where
+  last-there : list.count / 512 < length (pages_of list)
   last-there = (let long = length-map list.pages.items page_words in omega (arith, there, long))
 
-  last-words : page_words page ≡ get_or (pages_of list) (list.count / 128) []
-  last-words = ap page_words read ∙ sym (get_or-map page_words list.pages.items (list.count / 128) page [] there)
+  last-words : page_words page ≡ get_or (pages_of list) (list.count / 512) []
+  last-words = ap page_words read ∙ sym (get_or-map page_words list.pages.items (list.count / 512) page [] there)
 
-  last-room : page_room page ≡ get_or (rooms_of list) (list.count / 128) 0
-  last-room = ap page_room read ∙ sym (get_or-map page_room list.pages.items (list.count / 128) page 0 there)
+  last-room : page_room page ≡ get_or (rooms_of list) (list.count / 512) 0
+  last-room = ap page_room read ∙ sym (get_or-map page_room list.pages.items (list.count / 512) page 0 there)
 
-  pub last-long : length (page_words page) ≡ list.count % 128 * (list.size + 1)
+  pub last-long : length (page_words page) ≡ list.count % 512 * (list.size + 1)
   last-long = ap length last-words ∙ are.pages.last
 
-  pub last-within : page_room page ≤ 128 * (list.size + 1)
-  last-within = subst (λ room. room ≤ 128 * (list.size + 1)) (sym last-room) (are.within (list.count / 128))
+  pub last-within : page_room page ≤ 512 * (list.size + 1)
+  last-within = subst (λ room. room ≤ 512 * (list.size + 1)) (sym last-room) (are.within (list.count / 512))
 
   -- It isn't full.
-  pub last-part : length (page_words page) + (list.size + 1) ≤ 128 * (list.size + 1)
+  pub last-part : length (page_words page) + (list.size + 1) ≤ 512 * (list.size + 1)
   last-part =
       let long = last-long in
-      let within = place-within (list.count % 128) 128 (list.size + 1) (omega arith) in
+      let within = place-within (list.count % 512) 512 (list.size + 1) (omega arith) in
       omega (arith, long, within)
 
   pub last-left : left_at list list.count ≡ page_room page - length (page_words page)
   last-left = λ i. sym last-room i - length (sym last-words i)
 
   -- It gets more memory.
-  module _ (new : Vec ℕ Global) (same : page_words new ≡ page_words page) (within : page_room new ≤ 128 * (list.size + 1)) where
+  module _ (new : Vec ℕ Global) (same : page_words new ≡ page_words page) (within : page_room new ≤ 512 * (list.size + 1)) where
     abbrev pub widened : Inside
-    widened = record list { pages = with_item list.pages (list.count / 128) new }
+    widened = record list { pages = with_item list.pages (list.count / 512) new }
 
     pages-same : pages_of widened ≡ pages_of list
     pages-same =
-        map-set page_words list.pages.items (list.count / 128) new
-        ∙ ap (set (pages_of list) (list.count / 128)) (same ∙ last-words)
-        ∙ set-get_or (pages_of list) (list.count / 128) []
+        map-set page_words list.pages.items (list.count / 512) new
+        ∙ ap (set (pages_of list) (list.count / 512)) (same ∙ last-words)
+        ∙ set-get_or (pages_of list) (list.count / 512) []
 
-    rooms-new : rooms_of widened ≡ set (rooms_of list) (list.count / 128) (page_room new)
-    rooms-new = map-set page_room list.pages.items (list.count / 128) new
+    rooms-new : rooms_of widened ≡ set (rooms_of list) (list.count / 512) (page_room new)
+    rooms-new = map-set page_room list.pages.items (list.count / 512) new
 
-    rooms-within : (at : ℕ) → get_or (set (rooms_of list) (list.count / 128) (page_room new)) at 0 ≤ 128 * (list.size + 1)
-    rooms-within at = elim (cases_eq at (list.count / 128)) [
+    rooms-within : (at : ℕ) → get_or (set (rooms_of list) (list.count / 512) (page_room new)) at 0 ≤ 512 * (list.size + 1)
+    rooms-within at = elim (cases_eq at (list.count / 512)) [
       | inl here ↦
           let long = length-map list.pages.items page_room in
-          let is = ap (λ n. get_or (set (rooms_of list) (list.count / 128) (page_room new)) n 0) here ∙ get_or-set_same (rooms_of list) (list.count / 128) (page_room new) 0 (omega (arith, there, long)) in
+          let is = ap (λ n. get_or (set (rooms_of list) (list.count / 512) (page_room new)) n 0) here ∙ get_or-set_same (rooms_of list) (list.count / 512) (page_room new) 0 (omega (arith, there, long)) in
           omega (arith, is, within)
       | inr apart ↦
-          let is = get_or-set_other (rooms_of list) (list.count / 128) at (page_room new) 0 apart in
+          let is = get_or-set_other (rooms_of list) (list.count / 512) at (page_room new) 0 apart in
           let was = are.within at in
           omega (arith, is, was)
     ]
@@ -159,8 +159,8 @@ module _ (list : Inside) (are : AreRecords list) (there : list.count / 128 < len
     pub widened-are : AreRecords widened
     widened-are = record {
       pages = subst (λ pages. ArePages pages list.count (list.size + 1)) (sym pages-same) are.pages;
-      within = subst (λ (rooms : List ℕ). (at : ℕ) → get_or rooms at 0 ≤ 128 * (list.size + 1)) (sym rooms-new) rooms-within;
-      most = (let long = length-set list.pages.items (list.count / 128) new in let most = are.most in omega (arith, long, most));
+      within = subst (λ (rooms : List ℕ). (at : ℕ) → get_or rooms at 0 ≤ 512 * (list.size + 1)) (sym rooms-new) rooms-within;
+      most = (let long = length-set list.pages.items (list.count / 512) new in let most = are.most in omega (arith, long, most));
       chained = subst (λ pages. AreChained list.spare list.free (spots_in list.count list.size (joined pages))) (sym pages-same) are.chained;
       size_within = are.size_within;
     }
@@ -168,8 +168,8 @@ module _ (list : Inside) (are : AreRecords list) (there : list.count / 128 < len
     pub widened-left : left_at widened list.count ≡ page_room new - length (page_words page)
     widened-left =
         let long = length-map list.pages.items page_room in
-        let room = ap (λ rooms. get_or rooms (list.count / 128) 0) rooms-new ∙ get_or-set_same (rooms_of list) (list.count / 128) (page_room new) 0 (omega (arith, there, long)) in
-        λ i. room i - length ((ap (λ pages. get_or pages (list.count / 128) []) pages-same ∙ sym last-words) i)
+        let room = ap (λ rooms. get_or rooms (list.count / 512) 0) rooms-new ∙ get_or-set_same (rooms_of list) (list.count / 512) (page_room new) 0 (omega (arith, there, long)) in
+        λ i. room i - length ((ap (λ pages. get_or pages (list.count / 512) []) pages-same ∙ sym last-words) i)
 
     pub widened-list : list_of widened ≡ with_capacity (list_of list) (list_of widened).capacity
     widened-list = ap (λ pages. record (with_capacity (list_of list) (list_of widened).capacity) { spots = freed list.spare list.free (spots_in list.count list.size (joined pages)) }) pages-same
@@ -177,18 +177,18 @@ module _ (list : Inside) (are : AreRecords list) (there : list.count / 128 < len
   -- A record comes to it.
   module _ (new : Vec ℕ Global) (words : List ℕ) (long : length words ≡ list.size + 1) (is : page_words new ≡ page_words page ++ words) (room : page_room new ≡ page_room page) where
     abbrev pub pushed : Inside
-    pushed = record list { pages = with_item list.pages (list.count / 128) new; count = list.count + 1 }
+    pushed = record list { pages = with_item list.pages (list.count / 512) new; count = list.count + 1 }
 
-    pages-pushed : pages_of pushed ≡ set (pages_of list) (list.count / 128) (get_or (pages_of list) (list.count / 128) [] ++ words)
+    pages-pushed : pages_of pushed ≡ set (pages_of list) (list.count / 512) (get_or (pages_of list) (list.count / 512) [] ++ words)
     pages-pushed =
-        map-set page_words list.pages.items (list.count / 128) new
-        ∙ ap (set (pages_of list) (list.count / 128)) (is ∙ ap (λ front. front ++ words) last-words)
+        map-set page_words list.pages.items (list.count / 512) new
+        ∙ ap (set (pages_of list) (list.count / 512)) (is ∙ ap (λ front. front ++ words) last-words)
 
     rooms-same : rooms_of pushed ≡ rooms_of list
     rooms-same =
-        map-set page_room list.pages.items (list.count / 128) new
-        ∙ ap (set (rooms_of list) (list.count / 128)) (room ∙ last-room)
-        ∙ set-get_or (rooms_of list) (list.count / 128) 0
+        map-set page_room list.pages.items (list.count / 512) new
+        ∙ ap (set (rooms_of list) (list.count / 512)) (room ∙ last-room)
+        ∙ set-get_or (rooms_of list) (list.count / 512) 0
 
     pub pushed-all : items_of pushed ≡ items_of list ++ words
     pushed-all = ap joined pages-pushed ∙ pushed-joined (pages_of list) list.count (list.size + 1) are.pages last-there words long
@@ -196,35 +196,35 @@ module _ (list : Inside) (are : AreRecords list) (there : list.count / 128 < len
     pub pushed-are : AreChained list.spare list.free (spots_in (list.count + 1) list.size (items_of pushed)) → AreRecords pushed
     pushed-are chained = record {
       pages = subst (λ pages. ArePages pages (list.count + 1) (list.size + 1)) (sym pages-pushed) (pushed-pages (pages_of list) list.count (list.size + 1) are.pages last-there words long);
-      within = subst (λ (rooms : List ℕ). (at : ℕ) → get_or rooms at 0 ≤ 128 * (list.size + 1)) (sym rooms-same) are.within;
-      most = (let same = length-set list.pages.items (list.count / 128) new in let most = are.most in omega (arith, same, most));
+      within = subst (λ (rooms : List ℕ). (at : ℕ) → get_or rooms at 0 ≤ 512 * (list.size + 1)) (sym rooms-same) are.within;
+      most = (let same = length-set list.pages.items (list.count / 512) new in let most = are.most in omega (arith, same, most));
       chained = chained;
       size_within = are.size_within;
     }
 
     -- There is memory for as many words in all as before.
     pub pushed-capacity : list.size + 1 ≤ left_at list list.count → (list_of pushed).capacity ≡ (list_of list).capacity
-    pushed-capacity fits = elim (cases_lt (list.count / 128) ((list.count + 1) / 128)) [
+    pushed-capacity fits = elim (cases_lt (list.count / 512) ((list.count + 1) / 512)) [
       | inl less ↦
           let parts : (list.count + 1) * (list.size + 1) ≡ list.count * (list.size + 1) + (list.size + 1) = grind arith in
           let few = are.pages.few in
           let pages-long = length-map list.pages.items page_words in
           let rooms-long = length-map list.pages.items page_room in
-          let nothing = ap (λ rooms. get_or rooms ((list.count + 1) / 128) 0) rooms-same ∙ get_or_past (rooms_of list) ((list.count + 1) / 128) 0 (omega (arith, less, few, pages-long, rooms-long)) in
+          let nothing = ap (λ rooms. get_or rooms ((list.count + 1) / 512) 0) rooms-same ∙ get_or_past (rooms_of list) ((list.count + 1) / 512) 0 (omega (arith, less, few, pages-long, rooms-long)) in
           let left = last-left in
-          let whole : list.count % 128 ≡ 127 = omega (arith, less) in
+          let whole : list.count % 512 ≡ 511 = omega (arith, less) in
           let before = last-long ∙ ap (λ n. n * (list.size + 1)) whole in
           let most = last-within in
           omega (arith, parts, nothing, left, before, most, fits)
       | inr most ↦
           let parts : (list.count + 1) * (list.size + 1) ≡ list.count * (list.size + 1) + (list.size + 1) = grind arith in
-          let here : (list.count + 1) / 128 ≡ list.count / 128 = omega (arith, most) in
-          let now = ap (λ rooms. get_or rooms ((list.count + 1) / 128) 0) rooms-same ∙ ap (λ n. get_or (rooms_of list) n 0) here ∙ sym last-room in
+          let here : (list.count + 1) / 512 ≡ list.count / 512 = omega (arith, most) in
+          let now = ap (λ rooms. get_or rooms ((list.count + 1) / 512) 0) rooms-same ∙ ap (λ n. get_or (rooms_of list) n 0) here ∙ sym last-room in
           let words-now =
-          ap (λ pages. length (get_or pages ((list.count + 1) / 128) [])) pages-pushed
-          ∙ ap (λ n. length (get_or (set (pages_of list) (list.count / 128) (get_or (pages_of list) (list.count / 128) [] ++ words)) n [])) here
-          ∙ ap length (get_or-set_same (pages_of list) (list.count / 128) (get_or (pages_of list) (list.count / 128) [] ++ words) [] last-there)
-          ∙ length-append (get_or (pages_of list) (list.count / 128) []) words
+          ap (λ pages. length (get_or pages ((list.count + 1) / 512) [])) pages-pushed
+          ∙ ap (λ n. length (get_or (set (pages_of list) (list.count / 512) (get_or (pages_of list) (list.count / 512) [] ++ words)) n [])) here
+          ∙ ap length (get_or-set_same (pages_of list) (list.count / 512) (get_or (pages_of list) (list.count / 512) [] ++ words) [] last-there)
+          ∙ length-append (get_or (pages_of list) (list.count / 512) []) words
           ∙ ap (λ n. n + length words) (ap length (sym last-words)) in
           let left = last-left in
           omega (arith, parts, now, words-now, left, long, fits)
@@ -235,7 +235,7 @@ module _ (list : Inside) (none : list.pages.items ≡ []) (no_records : list.cou
   pub empty-are : list.size ≤ 2305843009213693952 → AreRecords list
   empty-are size = record {
     pages = subst (λ (items : List (Vec ℕ Global)). ArePages (map page_words items) list.count (list.size + 1)) (sym none) (subst (λ n. ArePages [] n (list.size + 1)) (sym no_records) (none-are (list.size + 1)));
-    within = subst (λ (items : List (Vec ℕ Global)). (at : ℕ) → get_or (map page_room items) at 0 ≤ 128 * (list.size + 1)) (sym none) (λ at. omega arith);
+    within = subst (λ (items : List (Vec ℕ Global)). (at : ℕ) → get_or (map page_room items) at 0 ≤ 512 * (list.size + 1)) (sym none) (λ at. omega arith);
     most = (let long = ap length none in omega (arith, long));
     chained = subst (λ n. AreChained n list.free (spots_in list.count list.size (items_of list))) (sym no_spare) tt;
     size_within = size;
@@ -244,7 +244,7 @@ module _ (list : Inside) (none : list.pages.items ≡ []) (no_records : list.cou
   pub empty-capacity : (list_of list).capacity ≡ 0
   empty-capacity =
       let count = ap (λ n. n * (list.size + 1)) no_records in
-      let room = ap (λ (items : List (Vec ℕ Global)). get_or (map page_room items) (list.count / 128) 0) none in
+      let room = ap (λ (items : List (Vec ℕ Global)). get_or (map page_room items) (list.count / 512) 0) none in
       omega (arith, count, room)
 
 -- There is a page for the next record now.
@@ -263,7 +263,7 @@ module _ (list : Inside) (are : AreRecords list) (pages : Vec (Vec ℕ Global) G
     pub same-are : AreRecords extended
     same-are = record {
       pages = subst (λ (items : List (Vec ℕ Global)). ArePages (map page_words items) list.count (list.size + 1)) (sym same) are.pages;
-      within = subst (λ (items : List (Vec ℕ Global)). (at : ℕ) → get_or (map page_room items) at 0 ≤ 128 * (list.size + 1)) (sym same) are.within;
+      within = subst (λ (items : List (Vec ℕ Global)). (at : ℕ) → get_or (map page_room items) at 0 ≤ 512 * (list.size + 1)) (sym same) are.within;
       most = (let long = ap length same in let most = are.most in omega (arith, long, most));
       chained = subst (λ (items : List (Vec ℕ Global)). AreChained list.spare list.free (spots_in list.count list.size (joined (map page_words items)))) (sym same) are.chained;
       size_within = are.size_within;
@@ -274,16 +274,16 @@ module _ (list : Inside) (are : AreRecords list) (pages : Vec (Vec ℕ Global) G
       size = list.size;
       spots = freed list.spare list.free (spots_in list.count list.size (joined (map page_words (same i))));
       first = list.free;
-      capacity = list.count * (list.size + 1) + (get_or (map page_room (same i)) (list.count / 128) 0 - length (get_or (map page_words (same i)) (list.count / 128) []));
+      capacity = list.count * (list.size + 1) + (get_or (map page_room (same i)) (list.count / 512) 0 - length (get_or (map page_words (same i)) (list.count / 512) []));
     }
 
   -- What it keeps, and that its words are the same.
   pub record IsExtended : Type 0 where
     pub is_are : AreRecords extended
-    pub there : list.count / 128 < length pages.items
+    pub there : list.count / 512 < length pages.items
     pub items : items_of extended ≡ items_of list
 
-  pub extends : IsReached list.pages.items pages.items (list.count / 128) → IsExtended
+  pub extends : IsReached list.pages.items pages.items (list.count / 512) → IsExtended
   extends (inl was) = record {
     is_are = same-are was.1;
     there = (let long = ap length was.1 in omega (arith, long, was.0));
@@ -299,13 +299,13 @@ module _ (list : Inside) (are : AreRecords list) (pages : Vec (Vec ℕ Global) G
       let pages-now : map page_words pages.items ≡ pages_of list ++ [] ∷ [] = ap (map page_words) is ∙ map_push page_words list.pages.items page ∙ ap (λ words. pages_of list ++ words ∷ []) none in
       let rooms-now : map page_room pages.items ≡ rooms_of list ++ 0 ∷ [] = ap (map page_room) is ∙ map_push page_room list.pages.items page ∙ ap (λ room. rooms_of list ++ room ∷ []) no_room in
       let long = length-map list.pages.items page_words in
-      let at-end : list.count / 128 ≡ length (pages_of list) = omega (arith, end, long) in
+      let at-end : list.count / 512 ≡ length (pages_of list) = omega (arith, end, long) in
       let items : joined (map page_words pages.items) ≡ items_of list = ap joined pages-now ∙ begun-joined (pages_of list) list.count (list.size + 1) are.pages at-end in
       let longer = ap length is ∙ length_push list.pages.items page in
       record {
         is_are = record {
           pages = subst (λ pages. ArePages pages list.count (list.size + 1)) (sym pages-now) (begun-are (pages_of list) list.count (list.size + 1) are.pages at-end);
-          within = subst (λ (rooms : List ℕ). (at : ℕ) → get_or rooms at 0 ≤ 128 * (list.size + 1)) (sym rooms-now) (λ at. subst (λ room. room ≤ 128 * (list.size + 1)) (sym (none-more (rooms_of list) at)) (are.within at));
+          within = subst (λ (rooms : List ℕ). (at : ℕ) → get_or rooms at 0 ≤ 512 * (list.size + 1)) (sym rooms-now) (λ at. subst (λ room. room ≤ 512 * (list.size + 1)) (sym (none-more (rooms_of list) at)) (are.within at));
           most = omega (arith, longer, end, few);
           chained = subst (λ items. AreChained list.spare list.free (spots_in list.count list.size items)) (sym items) are.chained;
           size_within = are.size_within;
@@ -358,7 +358,7 @@ module _ (list : Inside) (are : AreRecords list) (value : ℕ) (bytes : List ℕ
     placed-spots = spots-place list.count list.size (items_of list) (items-long list are) place within words words-long ∙ ap (set (all list are) place) words-spot
 
   -- A record stands in a page that was written, whatever is free then.
-  pub written-are : {place : ℕ} (inside : place < list.count) (page : Vec ℕ Global) (read : page ≡ get_or list.pages.items (place / 128) page) (new : Vec ℕ Global) (long : length (page_words new) ≡ length (page_words page)) (room : page_room new ≡ page_room page) (spare first : ℕ)
+  pub written-are : {place : ℕ} (inside : place < list.count) (page : Vec ℕ Global) (read : page ≡ get_or list.pages.items (place / 512) page) (new : Vec ℕ Global) (long : length (page_words new) ≡ length (page_words page)) (room : page_room new ≡ page_room page) (spare first : ℕ)
       → AreChained spare first (spots_in list.count list.size (items_of (after list are place inside page read new long room)))
       → AreRecords (record (after list are place inside page read new long room) { spare = spare; free = first })
   written-are {place} inside page read new long room spare first chained =

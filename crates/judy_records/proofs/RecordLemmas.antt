@@ -65,64 +65,64 @@ module _ (list : Inside) (are : AreRecords list) where
 -- ---- a page, as it is read
 
 module _ (list : Inside) (are : AreRecords list) (place : ℕ) (inside : place < list.count) where
-  pub page-there : place / 128 < length list.pages.items
+  pub page-there : place / 512 < length list.pages.items
   page-there =
       let within = page-inside (pages_of list) list.count (list.size + 1) are.pages place inside in
       let long = length-map list.pages.items page_words in
       omega (arith, within, long)
 
-  module _ (page : Vec ℕ Global) (read : page ≡ get_or list.pages.items (place / 128) page) where
-    pub words-read : page_words page ≡ get_or (pages_of list) (place / 128) []
-    words-read = ap page_words read ∙ sym (get_or-map page_words list.pages.items (place / 128) page [] page-there)
+  module _ (page : Vec ℕ Global) (read : page ≡ get_or list.pages.items (place / 512) page) where
+    pub words-read : page_words page ≡ get_or (pages_of list) (place / 512) []
+    words-read = ap page_words read ∙ sym (get_or-map page_words list.pages.items (place / 512) page [] page-there)
 
-    room-read : page_room page ≡ get_or (rooms_of list) (place / 128) 0
-    room-read = ap page_room read ∙ sym (get_or-map page_room list.pages.items (place / 128) page 0 page-there)
+    room-read : page_room page ≡ get_or (rooms_of list) (place / 512) 0
+    room-read = ap page_room read ∙ sym (get_or-map page_room list.pages.items (place / 512) page 0 page-there)
 
-    pub long-read : place % 128 * (list.size + 1) + (list.size + 1) ≤ length (page_words page)
+    pub long-read : place % 512 * (list.size + 1) + (list.size + 1) ≤ length (page_words page)
     long-read =
         let long = page-long (pages_of list) list.count (list.size + 1) are.pages place inside in
         let same = ap length words-read in
         omega (arith, long, same)
 
-    pub first-read : get_or (items_of list) (place * (list.size + 1)) 0 ≡ get_or (page_words page) (place % 128 * (list.size + 1)) 0
+    pub first-read : get_or (items_of list) (place * (list.size + 1)) 0 ≡ get_or (page_words page) (place % 512 * (list.size + 1)) 0
     first-read =
         page-read (pages_of list) list.count (list.size + 1) are.pages place inside (omega arith)
-        ∙ ap (λ words. get_or words (place % 128 * (list.size + 1)) 0) (sym words-read)
+        ∙ ap (λ words. get_or words (place % 512 * (list.size + 1)) 0) (sym words-read)
 
-    pub spot-read : first_spot list.size (drop (place * (list.size + 1)) (items_of list)) ≡ first_spot list.size (drop (place % 128 * (list.size + 1)) (page_words page))
+    pub spot-read : first_spot list.size (drop (place * (list.size + 1)) (items_of list)) ≡ first_spot list.size (drop (place % 512 * (list.size + 1)) (page_words page))
     spot-read =
         page-spot (pages_of list) list.count (list.size + 1) are.pages place inside list.size (omega arith)
-        ∙ ap (λ words. first_spot list.size (drop (place % 128 * (list.size + 1)) words)) (sym words-read)
+        ∙ ap (λ words. first_spot list.size (drop (place % 512 * (list.size + 1)) words)) (sym words-read)
 
     -- Another page that is as long, with as much memory, in its stead.
     module _ (new : Vec ℕ Global) (long : length (page_words new) ≡ length (page_words page)) (room : page_room new ≡ page_room page) where
       abbrev pub after : Inside
-      after = record list { pages = with_item list.pages (place / 128) new }
+      after = record list { pages = with_item list.pages (place / 512) new }
 
-      pages-after : pages_of after ≡ set (pages_of list) (place / 128) (page_words new)
-      pages-after = map-set page_words list.pages.items (place / 128) new
+      pages-after : pages_of after ≡ set (pages_of list) (place / 512) (page_words new)
+      pages-after = map-set page_words list.pages.items (place / 512) new
 
       rooms-after : rooms_of after ≡ rooms_of list
       rooms-after =
-          map-set page_room list.pages.items (place / 128) new
-          ∙ ap (set (rooms_of list) (place / 128)) (room ∙ room-read)
-          ∙ set-get_or (rooms_of list) (place / 128) 0
+          map-set page_room list.pages.items (place / 512) new
+          ∙ ap (set (rooms_of list) (place / 512)) (room ∙ room-read)
+          ∙ set-get_or (rooms_of list) (place / 512) 0
 
-      long-as : length (page_words new) ≡ length (get_or (pages_of list) (place / 128) [])
+      long-as : length (page_words new) ≡ length (get_or (pages_of list) (place / 512) [])
       long-as = long ∙ ap length words-read
 
       pub left-after : (at : ℕ) → left_at after at ≡ left_at list at
       left-after at =
           let lengths =
-          ap (λ pages. length (get_or pages (at / 128) [])) pages-after
-          ∙ set-lengths (pages_of list) list.count (list.size + 1) are.pages place inside (page_words new) long-as (at / 128) in
-          λ i. get_or (rooms-after i) (at / 128) 0 - lengths i
+          ap (λ pages. length (get_or pages (at / 512) [])) pages-after
+          ∙ set-lengths (pages_of list) list.count (list.size + 1) are.pages place inside (page_words new) long-as (at / 512) in
+          λ i. get_or (rooms-after i) (at / 512) 0 - lengths i
 
-      pub after-kept : ArePages (pages_of after) list.count (list.size + 1) × ((at : ℕ) → get_or (rooms_of after) at 0 ≤ 128 * (list.size + 1)) × (length after.pages.items ≤ 2 ^ 48)
+      pub after-kept : ArePages (pages_of after) list.count (list.size + 1) × ((at : ℕ) → get_or (rooms_of after) at 0 ≤ 512 * (list.size + 1)) × (length after.pages.items ≤ 2 ^ 48)
       after-kept = (
         subst (λ pages. ArePages pages list.count (list.size + 1)) (sym pages-after) (set-are (pages_of list) list.count (list.size + 1) are.pages place inside (page_words new) long-as),
-        subst (λ (rooms : List ℕ). (at : ℕ) → get_or rooms at 0 ≤ 128 * (list.size + 1)) (sym rooms-after) are.within,
-        let same = length-set list.pages.items (place / 128) new in let most = are.most in omega (arith, same, most),
+        subst (λ (rooms : List ℕ). (at : ℕ) → get_or rooms at 0 ≤ 512 * (list.size + 1)) (sym rooms-after) are.within,
+        let same = length-set list.pages.items (place / 512) new in let most = are.most in omega (arith, same, most),
       )
 
       pub after-are : AreChained list.spare list.free (spots_in list.count list.size (items_of after)) → AreRecords after
@@ -140,26 +140,26 @@ module _ (list : Inside) (are : AreRecords list) (place : ℕ) (inside : place <
     -- A word is written.
     module _ (value : ℕ) where
       abbrev pub with_word : Vec ℕ Global
-      with_word = with_item page (place % 128 * (list.size + 1)) value
+      with_word = with_item page (place % 512 * (list.size + 1)) value
 
       pub word-long : length (page_words with_word) ≡ length (page_words page)
-      word-long = length-set (page_words page) (place % 128 * (list.size + 1)) value
+      word-long = length-set (page_words page) (place % 512 * (list.size + 1)) value
 
-      pub word-items : items_of (record list { pages = with_item list.pages (place / 128) with_word }) ≡ set (items_of list) (place * (list.size + 1)) value
+      pub word-items : items_of (record list { pages = with_item list.pages (place / 512) with_word }) ≡ set (items_of list) (place * (list.size + 1)) value
       word-items =
-          ap joined (map-set page_words list.pages.items (place / 128) with_word)
-          ∙ ap (λ words. joined (set (pages_of list) (place / 128) (set words (place % 128 * (list.size + 1)) value))) words-read
+          ap joined (map-set page_words list.pages.items (place / 512) with_word)
+          ∙ ap (λ words. joined (set (pages_of list) (place / 512) (set words (place % 512 * (list.size + 1)) value))) words-read
           ∙ page-set (pages_of list) list.count (list.size + 1) are.pages place inside (omega arith) value
 
     -- A record is written.
-    pub record-long : (new : Vec ℕ Global) (words : List ℕ) → length words ≡ list.size + 1 → page_words new ≡ take (place % 128 * (list.size + 1)) (page_words page) ++ (words ++ drop (list.size + 1) (drop (place % 128 * (list.size + 1)) (page_words page))) → length (page_words new) ≡ length (page_words page)
-    record-long new words long is = ap length is ∙ write-long (page_words page) words (place % 128 * (list.size + 1)) (list.size + 1) long-read long
+    pub record-long : (new : Vec ℕ Global) (words : List ℕ) → length words ≡ list.size + 1 → page_words new ≡ take (place % 512 * (list.size + 1)) (page_words page) ++ (words ++ drop (list.size + 1) (drop (place % 512 * (list.size + 1)) (page_words page))) → length (page_words new) ≡ length (page_words page)
+    record-long new words long is = ap length is ∙ write-long (page_words page) words (place % 512 * (list.size + 1)) (list.size + 1) long-read long
 
-    pub record-items : (new : Vec ℕ Global) (words : List ℕ) → page_words new ≡ take (place % 128 * (list.size + 1)) (page_words page) ++ (words ++ drop (list.size + 1) (drop (place % 128 * (list.size + 1)) (page_words page)))
-        → items_of (record list { pages = with_item list.pages (place / 128) new }) ≡ take (place * (list.size + 1)) (items_of list) ++ (words ++ drop (list.size + 1) (drop (place * (list.size + 1)) (items_of list)))
+    pub record-items : (new : Vec ℕ Global) (words : List ℕ) → page_words new ≡ take (place % 512 * (list.size + 1)) (page_words page) ++ (words ++ drop (list.size + 1) (drop (place % 512 * (list.size + 1)) (page_words page)))
+        → items_of (record list { pages = with_item list.pages (place / 512) new }) ≡ take (place * (list.size + 1)) (items_of list) ++ (words ++ drop (list.size + 1) (drop (place * (list.size + 1)) (items_of list)))
     record-items new words is =
-        ap joined (map-set page_words list.pages.items (place / 128) new ∙ ap (set (pages_of list) (place / 128)) is)
-        ∙ ap (λ page. joined (set (pages_of list) (place / 128) (take (place % 128 * (list.size + 1)) page ++ (words ++ drop (list.size + 1) (drop (place % 128 * (list.size + 1)) page))))) words-read
+        ap joined (map-set page_words list.pages.items (place / 512) new ∙ ap (set (pages_of list) (place / 512)) is)
+        ∙ ap (λ page. joined (set (pages_of list) (place / 512) (take (place % 512 * (list.size + 1)) page ++ (words ++ drop (list.size + 1) (drop (place % 512 * (list.size + 1)) page))))) words-read
         ∙ page-write (pages_of list) list.count (list.size + 1) are.pages place inside words
 
 -- ---- a record that stands
@@ -187,7 +187,7 @@ module _ (list : Inside) (are : AreRecords list) (place : ℕ) (is : IsHeld (spo
   pub word-text : text_of (spot_at (list_of list) place) ≡ take list.size (drop (place * (list.size + 1) + 1) (items_of list))
   word-text = ap text_of spot-is ∙ ap (take list.size) (drop-drop 1 (place * (list.size + 1)) (items_of list))
 
-  pub value-there : get_or (get_or (pages_of list) (place / 128) []) (place % 128 * (list.size + 1)) 0 ≡ value_of (spot_at (list_of list) place)
+  pub value-there : get_or (get_or (pages_of list) (place / 512) []) (place % 512 * (list.size + 1)) 0 ≡ value_of (spot_at (list_of list) place)
   value-there = sym (page-read (pages_of list) list.count (list.size + 1) are.pages place held-within (omega arith)) ∙ sym word-value
 
   -- Another value there.
@@ -196,9 +196,9 @@ module _ (list : Inside) (are : AreRecords list) (place : ℕ) (is : IsHeld (spo
       spots-value list.count list.size (items_of list) (items-long list are) place held-within value
       ∙ ap (λ text. set (all list are) place (held value text)) (sym word-text)
 
-  module _ (page : Vec ℕ Global) (read : page ≡ get_or list.pages.items (place / 128) page) (value : ℕ) where
+  module _ (page : Vec ℕ Global) (read : page ≡ get_or list.pages.items (place / 512) page) (value : ℕ) where
     abbrev pub written : Inside
-    written = record list { pages = with_item list.pages (place / 128) (with_word list are place held-within page read value) }
+    written = record list { pages = with_item list.pages (place / 512) (with_word list are place held-within page read value) }
 
     items-is : items_of written ≡ set (items_of list) (place * (list.size + 1)) value
     items-is = word-items list are place held-within page read value
@@ -217,9 +217,9 @@ module _ (list : Inside) (are : AreRecords list) (place : ℕ) (is : IsHeld (spo
         (subst (λ spots. AreChained list.spare list.free spots) (sym (ap (spots_in list.count list.size) items-is ∙ value-spots value)) (chained-set place (held value (text_of (spot_at (list_of list) place))) list.spare list.free (all list are) is are.chained))
 
   -- None there: the place is free.
-  module _ (page : Vec ℕ Global) (read : page ≡ get_or list.pages.items (place / 128) page) where
+  module _ (page : Vec ℕ Global) (read : page ≡ get_or list.pages.items (place / 512) page) where
     abbrev pub without : Inside
-    without = record list { pages = with_item list.pages (place / 128) (with_word list are place held-within page read list.free); free = place; spare = list.spare + 1 }
+    without = record list { pages = with_item list.pages (place / 512) (with_word list are place held-within page read list.free); free = place; spare = list.spare + 1 }
 
     pub removed-list : list_of without ≡ taken_out (list_of list) place
     removed-list =
@@ -262,25 +262,25 @@ module _ (list : Inside) (are : AreRecords list) {seen : RecordList} (view_is : 
   pub seen-within : place < list.count
   seen-within = held-within list are place seen-held
 
-  pub seen-there : place / 128 < length list.pages.items
+  pub seen-there : place / 512 < length list.pages.items
   seen-there = page-there list are place seen-within
 
-  module _ (page : Vec ℕ Global) (read : page ≡ get_or list.pages.items (place / 128) page) where
-    pub seen-long : place % 128 * (list.size + 1) + (list.size + 1) ≤ length (page_words page)
+  module _ (page : Vec ℕ Global) (read : page ≡ get_or list.pages.items (place / 512) page) where
+    pub seen-long : place % 512 * (list.size + 1) + (list.size + 1) ≤ length (page_words page)
     seen-long = long-read list are place seen-within page read
 
-    pub seen-value : get_or (page_words page) (place % 128 * (list.size + 1)) 0 ≡ value_of (spot_at seen place)
+    pub seen-value : get_or (page_words page) (place % 512 * (list.size + 1)) 0 ≡ value_of (spot_at seen place)
     seen-value =
         sym (first-read list are place seen-within page read)
         ∙ sym (word-value list are place seen-held)
         ∙ ap (λ list. value_of (spot_at list place)) view_is
 
-    pub seen-read : {value : ℕ} → value ≡ get_or (page_words page) (place % 128 * (list.size + 1)) value → value ≡ value_of (spot_at seen place)
+    pub seen-read : {value : ℕ} → value ≡ get_or (page_words page) (place % 512 * (list.size + 1)) value → value ≡ value_of (spot_at seen place)
     seen-read is =
         let long = seen-long in
-        get_or_read (page_words page) (place % 128 * (list.size + 1)) _ (omega (arith, long)) is 0 ∙ seen-value
+        get_or_read (page_words page) (place % 512 * (list.size + 1)) _ (omega (arith, long)) is 0 ∙ seen-value
 
-    pub seen-spot : first_spot list.size (drop (place % 128 * (list.size + 1)) (page_words page)) ≡ spot_at seen place
+    pub seen-spot : first_spot list.size (drop (place % 512 * (list.size + 1)) (page_words page)) ≡ spot_at seen place
     seen-spot =
         sym (spot-read list are place seen-within page read)
         ∙ sym (spot-is list are place seen-held)

@@ -19,9 +19,9 @@ module _ {Z : Type 0} where
   abbrev pub IsReached : List (Vec ℕ Z) → List (Vec ℕ Z) → ℕ → Type 0
   IsReached before after at = ((at < length before) × (after ≡ before)) ⊎ ((at ≡ length before) × (at < 2 ^ 48) × (page : Vec ℕ Z) × (page_words page ≡ []) × (page_room page ≡ 0) × (after ≡ before ++ page ∷ []))
 
--- Each page has the records that it is to have where there are so many, of so many words each: 128, and the last one those that are left.
+-- Each page has the records that it is to have where there are so many, of so many words each: 512, and the last one those that are left.
 pub record ArePages (pages : List (List ℕ)) (count stride : ℕ) : Type 0 where
-  pub few : length pages ≤ count / 128 + 1
-  pub enough : count ≤ length pages * 128
-  pub full : (at : ℕ) → at < count / 128 → length (get_or pages at []) ≡ 128 * stride
-  pub last : length (get_or pages (count / 128) []) ≡ count % 128 * stride
+  pub few : length pages ≤ count / 512 + 1
+  pub enough : count ≤ length pages * 512
+  pub full : (at : ℕ) → at < count / 512 → length (get_or pages at []) ≡ 512 * stride
+  pub last : length (get_or pages (count / 512) []) ≡ count % 512 * stride

@@ -6,13 +6,13 @@ ghost use Rattle.judy_records.specs.Pages.{IsReached};
 use std::alloc::AllocError;
 
 // How many records a page has at most.
-pub const PAGE: usize = 128;
+pub const PAGE: usize = 512;
 
 // How many pages a list has at most, so that a place is a word.
 const MOST_PAGES: usize = 281_474_976_710_656;
 
 // A page grows by half of so many words at most.
-const SHORT: usize = 1024;
+const SHORT: usize = 384;
 
 // Sees to it that there is a page of a number, the next one at most. The error is want of memory, or too many pages.
 pub fn reach(pages: &mut Vec<Vec<u64>>, at: usize) -> Result<(), AllocError>
@@ -37,10 +37,10 @@ pub fn reach(pages: &mut Vec<Vec<u64>>, at: usize) -> Result<(), AllocError>
 // records, or by an eighth of all records, which is mostly the whole page where these are many. The error is want of memory.
 pub fn widen(page: &mut Vec<u64>, count: usize, size: usize) -> Result<(), AllocError>
     requires size { size ≤ 2305843009213693952 }
-    requires part { vec_len page.old + (size + 1) ≤ 128 * (size + 1) }
-    requires within { vec_capacity page.old ≤ 128 * (size + 1) }
+    requires part { vec_len page.old + (size + 1) ≤ 512 * (size + 1) }
+    requires within { vec_capacity page.old ≤ 512 * (size + 1) }
     ensures items { page.new.items ≡ page.old.items }
-    ensures within { vec_capacity page.new ≤ 128 * (size + 1) }
+    ensures within { vec_capacity page.new ≤ 512 * (size + 1) }
     ensures room { OnOk result (vec_len page.new + (size + 1) ≤ vec_capacity page.new) }
     ensures unasked { vec_len page.old + (size + 1) ≤ vec_capacity page.old
         → (page.new ≡ page.old) × IsOk result }

@@ -21,7 +21,7 @@ slice_bounds-new-end c = omega (arith, seen-long c.self.inside c.self.invariant 
 
 pub returns : goal.returns
 returns c =
-    let start = c.args.place % 128 * (c.self.inside.size + 1) in
+    let start = c.args.place % 512 * (c.self.inside.size + 1) in
     let e : start + (c.self.inside.size + 1) - start ≡ c.self.inside.size + 1 = omega arith in
     c.new.ensures
     ∙ ap (λ words. held (get_or words 0 0) (drop 1 words)) (ap (λ n. take n (drop start c.deref.result.now)) e ∙ ap (λ words. take (c.self.inside.size + 1) (drop start words)) c.deref.ensures.value)

@@ -122,7 +122,7 @@ invariant_of-self-2 c =
     let long = record-long list are list.free inside page read new record_words (words-long list are c.args.value c.args.bytes.now size) c.write_record.ensures.words in
     let items = record-items list are list.free inside page read new record_words c.write_record.ensures.words in
     let within = long-read list are list.free inside page read in
-    let next = get_or_read (page_words page) (list.free % 128 * (list.size + 1)) _ (omega (arith, within)) c.index.ensures 0 ∙ sym (first-read list are list.free inside page read) ∙ free-next list are c.args.value c.args.bytes.now size some in
+    let next = get_or_read (page_words page) (list.free % 512 * (list.size + 1)) _ (omega (arith, within)) c.index.ensures 0 ∙ sym (first-read list are list.free inside page read) ∙ free-next list are c.args.value c.args.bytes.now size some in
     written-are list are c.args.value c.args.bytes.now size inside page read new long c.write_record.ensures.capacity (list.spare - 1) _
     (subst (λ n. AreChained (list.spare - 1) n (spots_in list.count list.size (items_of (after list are list.free inside page read new long c.write_record.ensures.capacity)))) (sym next)
     (subst (λ words. AreChained (list.spare - 1) (next_of (all list are) list.free) (spots_in list.count list.size words)) (sym items) (written-chained list are c.args.value c.args.bytes.now size some)))
@@ -144,7 +144,7 @@ returns-clause-put c =
     let long = record-long list are list.free inside page read new record_words (words-long list are c.args.value c.args.bytes.now size) c.write_record.ensures.words in
     let items = record-items list are list.free inside page read new record_words c.write_record.ensures.words in
     let within = long-read list are list.free inside page read in
-    let next = get_or_read (page_words page) (list.free % 128 * (list.size + 1)) _ (omega (arith, within)) c.index.ensures 0 ∙ sym (first-read list are list.free inside page read) ∙ free-next list are c.args.value c.args.bytes.now size some in
+    let next = get_or_read (page_words page) (list.free % 512 * (list.size + 1)) _ (omega (arith, within)) c.index.ensures 0 ∙ sym (first-read list are list.free inside page read) ∙ free-next list are c.args.value c.args.bytes.now size some in
     let left = left-after list are list.free inside page read new long c.write_record.ensures.capacity list.count in
     (λ i. record {
       size = list.size;

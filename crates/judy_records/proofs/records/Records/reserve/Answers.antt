@@ -63,9 +63,9 @@ returns-clause-same c =
       size = list.size;
       spots = freed list.spare list.free (spots_in list.count list.size items);
       first = list.free;
-      capacity = (list_of (record list { pages = with_item c.reach.new.pages (list.count / 128) c.widen.new.page })).capacity;
+      capacity = (list_of (record list { pages = with_item c.reach.new.pages (list.count / 512) c.widen.new.page })).capacity;
     }) after.items
-    ∙ ap (λ seen. with_capacity seen (list_of (record list { pages = with_item c.reach.new.pages (list.count / 128) c.widen.new.page })).capacity) c.self.view_is
+    ∙ ap (λ seen. with_capacity seen (list_of (record list { pages = with_item c.reach.new.pages (list.count / 512) c.widen.new.page })).capacity) c.self.view_is
 
 pub returns-clause-room : goal.returns-clause-room
 returns-clause-room c =
@@ -95,6 +95,6 @@ returns-clause-unasked c = λ room.
     let fits = room-left grown after.is_are none (subst (λ list. HasRoom list 1) (sym is_same) has) in
     let left = last-left grown after.is_are after.there page read in
     let unasked = c.widen.ensures.unasked (omega (arith, fits, left, page.ok)) in
-    let items : set c.reach.new.pages.items (list.count / 128) c.widen.new.page ≡ c.reach.new.pages.items =
-    ap (set c.reach.new.pages.items (list.count / 128)) (unasked.0 ∙ read) ∙ set-get_or c.reach.new.pages.items (list.count / 128) page in
-    (same-list grown after.is_are (with_item c.reach.new.pages (list.count / 128) c.widen.new.page) items ∙ is_same ∙ c.self.view_is, unasked.1)
+    let items : set c.reach.new.pages.items (list.count / 512) c.widen.new.page ≡ c.reach.new.pages.items =
+    ap (set c.reach.new.pages.items (list.count / 512)) (unasked.0 ∙ read) ∙ set-get_or c.reach.new.pages.items (list.count / 512) page in
+    (same-list grown after.is_are (with_item c.reach.new.pages (list.count / 512) c.widen.new.page) items ∙ is_same ∙ c.self.view_is, unasked.1)

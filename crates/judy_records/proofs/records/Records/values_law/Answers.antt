@@ -23,5 +23,5 @@ returns c = λ place is.
     let inside = seen-within c.self.inside c.self.invariant c.self.view_is place is in
     let there = page-there c.self.inside c.self.invariant place inside in
     subst IsWord (value-there c.self.inside c.self.invariant place held ∙ ap (λ list. value_of (spot_at list place)) c.self.view_is)
-    (subst (λ items. IsWord (get_or (get_or (map page_words items) (place / 128) []) (place % 128 * (c.self.inside.size + 1)) 0)) c.deref-page-items.ensures.value
-    (c.loop-page.invariant (place / 128) (place % 128 * (c.self.inside.size + 1)) (omega (arith, there, c.loop-page-test.false, ap length c.deref-page-items.ensures.value))))
+    (subst (λ items. IsWord (get_or (get_or (map page_words items) (place / 512) []) (place % 512 * (c.self.inside.size + 1)) 0)) c.deref-page-items.ensures.value
+    (c.loop-page.invariant (place / 512) (place % 512 * (c.self.inside.size + 1)) (omega (arith, there, c.loop-page-test.false, ap length c.deref-page-items.ensures.value))))
