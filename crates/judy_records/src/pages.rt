@@ -11,8 +11,13 @@ pub const PAGE: usize = 512;
 // How many pages a list has at most, so that a place is a word.
 const MOST_PAGES: usize = 281_474_976_710_656;
 
-// A page grows by half of so many words at most.
-const SHORT: usize = 384;
+// A page grows by half of its own records, by so many and so many words at most.
+const MOST_OF_OWN: usize = 32;
+
+const MOST_WORDS: usize = 512;
+
+// By an eighth of all records it grows by so many at most.
+const MOST_OF_ALL: usize = 128;
 
 // Sees to it that there is a page of a number, the next one at most. The error is want of memory, or too many pages.
 pub fn reach(pages: &mut Vec<Vec<u64>>, at: usize) -> Result<(), AllocError>
@@ -33,8 +38,9 @@ pub fn reach(pages: &mut Vec<Vec<u64>>, at: usize) -> Result<(), AllocError>
     Ok(())
 }
 
-// Sees to it that a page that isn't full has memory for one more record, of a list of so many. It grows by a half, so that it isn't moved at every few
-// records, or by an eighth of all records, which is mostly the whole page where these are many. The error is want of memory.
+// Sees to it that a page that isn't full has memory for one more record, of a list of so many. It grows by a half of its own records, or by an eighth of
+// all, so that it isn't moved at every few, though not by so many that much is spare; and by a 64th of all, which is the whole page where these are many.
+// The error is want of memory.
 pub fn widen(page: &mut Vec<u64>, count: usize, size: usize) -> Result<(), AllocError>
     requires size { size ≤ 2305843009213693952 }
     requires part { vec_len page.old + (size + 1) ≤ 512 * (size + 1) }
@@ -50,7 +56,13 @@ pub fn widen(page: &mut Vec<u64>, count: usize, size: usize) -> Result<(), Alloc
         return Ok(());
     }
     let left = record.saturating_mul(PAGE) - page.len();
-    let half = page.len().min(SHORT) / 2;
-    let part = half.max(count.saturating_mul(record) / 8);
-    page.reserve_exact(record.saturating_add(part).min(left))
+    let own = (count % PAGE / 2)
+        .min(MOST_OF_OWN)
+        .saturating_mul(record)
+        .min(MOST_WORDS);
+    let all = (count / 8)
+        .min(MOST_OF_ALL)
+        .max(count / 64)
+        .saturating_mul(record);
+    page.reserve_exact(record.saturating_add(own.max(all)).min(left))
 }
