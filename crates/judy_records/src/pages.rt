@@ -11,9 +11,10 @@ pub const PAGE: usize = 512;
 // How many pages a list has at most, so that a place is a word.
 const MOST_PAGES: usize = 281_474_976_710_656;
 
-// A page grows by half of its own records, by so many and so many words at most.
+// By half of its own records a page grows by so many at most.
 const MOST_OF_OWN: usize = 32;
 
+// And by so many words, so that a few long records have no room for many to spare.
 const MOST_WORDS: usize = 512;
 
 // By an eighth of all records it grows by so many at most.

@@ -128,8 +128,8 @@ impl Records {
         words::bytes_in(alloc, self.at(place).text(), count)
     }
 
-    /// Makes room for one more record. Where a place is free it needs none, so nothing is asked for. Else the last page grows by an eighth of all
-    /// records at least, and by a half where these are few, or a page is begun. The error is want of memory, or 2^57 records, and leaves the list as it was.
+    /// Makes room for one more record. Where a place is free it needs none, so nothing is asked for. Else the last page grows by a part of its records
+    /// or of all, or a page is begun. The error is want of memory, or 2^57 records, and leaves the list as it was.
     pub fn reserve(&mut self) -> Result<(), AllocError>
         ensures same { self.new ≡ with_capacity self.old self.new.capacity }
         ensures room { OnOk result (HasRoom self.new 1) }
