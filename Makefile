@@ -139,7 +139,7 @@ bindings-test: lib-test python $(REFUSER)
 	@cd bindings/python/tests && export PYTHONPATH=$(abspath out/python) SELLUMAQ_LIBRARY=$(abspath $(LIB))/libsellumaq.so && \
 		for binding in '' ctypes; do LD_PRELOAD=$(abspath $(REFUSER)) SELLUMAQ_BINDING=$$binding python3 -m unittest discover || exit 1; done
 
-# A million keys take long, a quarter of an hour or more where other work runs beside; `make bench KEYS=10000` takes half a minute.
+# A million keys take long, forty minutes or more where other work runs beside; 10,000 take five, and the program seven.
 bench: lib judystore
 	@tools/bench $(LIB) --svg docs/bench.svg $(KEYS)
 	@tools/bench_program ./judystore

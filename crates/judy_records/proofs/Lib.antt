@@ -1,6 +1,7 @@
 pub mod Spelling
 pub mod TextLemmas
 pub mod SpotLemmas
+pub mod PageOf
 pub mod PageLemmas
 pub mod FreeLemmas
 pub mod RecordLemmas

@@ -1,5 +1,5 @@
 -- A list of records that gets room, and one record more.
-use Rattle.std.proofs.Common.{◌≡◌, ℕ, zero, suc, ◌+◌, ◌-◌, ◌*◌, ◌/◌, ◌%◌, ◌<◌, ◌≤◌, List, [], ◌∷◌, ◌++◌, length, get_or, set, map, inl, inr, refl, sym, ap, subst, ◌∙◌, arith}
+use Rattle.std.proofs.Common.{◌≡◌, ℕ, zero, suc, ◌+◌, ◌-◌, ◌*◌, ◌<◌, ◌≤◌, List, [], ◌∷◌, ◌++◌, length, get_or, set, map, inl, inr, refl, sym, ap, subst, ◌∙◌, arith}
 use Rattle.std.specs.Global.{Global}
 use Rattle.std.specs.declared.vec.Vec.{Vec}
 use Rattle.std.specs.Vec.{with_item}
@@ -8,14 +8,15 @@ use Rattle.std.proofs.lemmas.Nat.{mul-le}
 use Rattle.std.proofs.lemmas.List.{get_or-map, get_or-drop, get_or_past, get_or-set_same, get_or-set_other, map_push, length_push, map-set, set-get_or, length-set, length-map, length-append, take_all}
 use Rattle.judy_records.specs.declared.records.Records.TheInside.{Inside}
 use Rattle.judy_records.specs.Texts.{words_for, words_in, words_of}
-use Rattle.judy_records.specs.Pages.{joined, page_words, page_room, ArePages, IsReached}
+use Rattle.judy_records.specs.Pages.{joined, page_words, page_room, size_of, page_of, IsAt, ArePages, IsReached}
 use Rattle.judy_records.specs.Spots.{Spot, free, held, spot_at, IsHeld, value_of, with_spot, HasRoom, put_by, put_in, with_capacity}
 use Rattle.judy_records.specs.Inside.{first_spot, spots_in, freed, pages_of, rooms_of, items_of, left_at, list_of, AreRecords, AreChained}
 use Rattle.judy_records.proofs.SpotLemmas.{length-spots, place-within, get-spots, spots-push, spots-place, before, behind}
-use Rattle.judy_records.proofs.PageLemmas.{pushed-joined, pushed-pages, begun-joined, begun-are, none-are}
+use Rattle.judy_records.proofs.PageOf.{place-next}
+use Rattle.judy_records.proofs.PageLemmas.{at-less, pushed-joined, pushed-pages, begun-joined, begun-are, none-are}
 use Rattle.judy_records.proofs.TextLemmas.{length-words}
 use Rattle.judy_records.proofs.FreeLemmas.{freed-set, chained-set, spots-taken, none-linked, none-freed, some-linked, some-freed, some-inside, next_of}
-use Rattle.judy_records.proofs.RecordLemmas.{after, after-kept, all, held-within, items-long, links-counted, spots-long, without, written}
+use Rattle.judy_records.proofs.RecordLemmas.{after, after-kept, all, held-within, items-long, links-counted, spots-long}
 
 -- ---- room
 
@@ -92,75 +93,80 @@ module _ (list : Inside) (are : AreRecords list) (none : list.spare ≡ 0) (room
       let one : (1 - list.spare) * (list.size + 1) ≡ 1 * (list.size + 1) = ap (λ n. (1 - n) * (list.size + 1)) none in
       omega (arith, has, one)
 
-  pub room-there : list.count / 512 < length list.pages.items
-  room-there = elim (cases_lt (list.count / 512) (length list.pages.items)) [
+  room-page : page_of list.count < length list.pages.items
+  room-page = elim (cases_lt (page_of list.count) (length list.pages.items)) [
     | inl less ↦ less
     | inr past ↦
         let long = length-map list.pages.items page_room in
-        let nothing = get_or_past (rooms_of list) (list.count / 512) 0 (omega (arith, past, long)) in
+        let nothing = get_or_past (rooms_of list) (page_of list.count) 0 (omega (arith, past, long)) in
         let left = room-left in
         absurd (omega (arith, nothing, left))
   ]
 
+  pub room-there : {at rest : ℕ} → IsAt list.count at rest → at < length list.pages.items
+  room-there sits = (let there = room-page in let same = sits.page_is in omega (arith, there, same))
+
 -- ---- the page of the next record
 
-module _ (list : Inside) (are : AreRecords list) (there : list.count / 512 < length list.pages.items) (page : Vec ℕ Global) (read : page ≡ get_or list.pages.items (list.count / 512) page) where
-  last-there : list.count / 512 < length (pages_of list)
+module _ (list : Inside) (are : AreRecords list) {at rest : ℕ} (sits : IsAt list.count at rest) (there : at < length list.pages.items) (page : Vec ℕ Global) (read : page ≡ get_or list.pages.items at page) where
+  last-there : at < length (pages_of list)
   last-there = (let long = length-map list.pages.items page_words in omega (arith, there, long))
 
-  last-words : page_words page ≡ get_or (pages_of list) (list.count / 512) []
-  last-words = ap page_words read ∙ sym (get_or-map page_words list.pages.items (list.count / 512) page [] there)
+  last-words : page_words page ≡ get_or (pages_of list) at []
+  last-words = ap page_words read ∙ sym (get_or-map page_words list.pages.items at page [] there)
 
-  last-room : page_room page ≡ get_or (rooms_of list) (list.count / 512) 0
-  last-room = ap page_room read ∙ sym (get_or-map page_room list.pages.items (list.count / 512) page 0 there)
+  last-room : page_room page ≡ get_or (rooms_of list) at 0
+  last-room = ap page_room read ∙ sym (get_or-map page_room list.pages.items at page 0 there)
 
-  pub last-long : length (page_words page) ≡ list.count % 512 * (list.size + 1)
-  last-long = ap length last-words ∙ are.pages.last
+  pub last-long : length (page_words page) ≡ rest * (list.size + 1)
+  last-long = ap length last-words ∙ ap (λ n. length (get_or (pages_of list) n [])) sits.page_is ∙ are.pages.last ∙ ap (λ n. n * (list.size + 1)) (sym sits.rest_is)
 
-  pub last-within : page_room page ≤ 512 * (list.size + 1)
-  last-within = subst (λ room. room ≤ 512 * (list.size + 1)) (sym last-room) (are.within (list.count / 512))
+  pub last-within : page_room page ≤ size_of at * (list.size + 1)
+  last-within = subst (λ room. room ≤ size_of at * (list.size + 1)) (sym last-room) (are.within at)
 
   -- It isn't full.
-  pub last-part : length (page_words page) + (list.size + 1) ≤ 512 * (list.size + 1)
+  pub last-part : length (page_words page) + (list.size + 1) ≤ size_of (page_of list.count) * (list.size + 1)
   last-part =
       let long = last-long in
-      let within = place-within (list.count % 512) 512 (list.size + 1) (omega arith) in
-      omega (arith, long, within)
+      let within = place-within rest (size_of at) (list.size + 1) (at-less sits) in
+      let same = ap (λ n. size_of n * (list.size + 1)) sits.page_is in
+      omega (arith, long, within, same)
 
   pub last-left : left_at list list.count ≡ page_room page - length (page_words page)
-  last-left = λ i. sym last-room i - length (sym last-words i)
+  last-left = ap (λ n. get_or (rooms_of list) n 0 - length (get_or (pages_of list) n [])) (sym sits.page_is) ∙ (λ i. sym last-room i - length (sym last-words i))
 
   -- It gets more memory.
-  module _ (new : Vec ℕ Global) (same : page_words new ≡ page_words page) (within : page_room new ≤ 512 * (list.size + 1)) where
+  module _ (new : Vec ℕ Global) (same : page_words new ≡ page_words page) (within : page_room new ≤ size_of (page_of list.count) * (list.size + 1)) where
     abbrev pub widened : Inside
-    widened = record list { pages = with_item list.pages (list.count / 512) new }
+    widened = record list { pages = with_item list.pages at new }
 
     pages-same : pages_of widened ≡ pages_of list
     pages-same =
-        map-set page_words list.pages.items (list.count / 512) new
-        ∙ ap (set (pages_of list) (list.count / 512)) (same ∙ last-words)
-        ∙ set-get_or (pages_of list) (list.count / 512) []
+        map-set page_words list.pages.items at new
+        ∙ ap (set (pages_of list) at) (same ∙ last-words)
+        ∙ set-get_or (pages_of list) at []
 
-    rooms-new : rooms_of widened ≡ set (rooms_of list) (list.count / 512) (page_room new)
-    rooms-new = map-set page_room list.pages.items (list.count / 512) new
+    rooms-new : rooms_of widened ≡ set (rooms_of list) at (page_room new)
+    rooms-new = map-set page_room list.pages.items at new
 
-    rooms-within : (at : ℕ) → get_or (set (rooms_of list) (list.count / 512) (page_room new)) at 0 ≤ 512 * (list.size + 1)
-    rooms-within at = elim (cases_eq at (list.count / 512)) [
+    rooms-within : (number : ℕ) → get_or (set (rooms_of list) at (page_room new)) number 0 ≤ size_of number * (list.size + 1)
+    rooms-within number = elim (cases_eq number at) [
       | inl here ↦
           let long = length-map list.pages.items page_room in
-          let is = ap (λ n. get_or (set (rooms_of list) (list.count / 512) (page_room new)) n 0) here ∙ get_or-set_same (rooms_of list) (list.count / 512) (page_room new) 0 (omega (arith, there, long)) in
-          omega (arith, is, within)
+          let is = ap (λ n. get_or (set (rooms_of list) at (page_room new)) n 0) here ∙ get_or-set_same (rooms_of list) at (page_room new) 0 (omega (arith, there, long)) in
+          let most = ap (λ n. size_of n * (list.size + 1)) (here ∙ sits.page_is) in
+          omega (arith, is, within, most)
       | inr apart ↦
-          let is = get_or-set_other (rooms_of list) (list.count / 512) at (page_room new) 0 apart in
-          let was = are.within at in
+          let is = get_or-set_other (rooms_of list) at number (page_room new) 0 apart in
+          let was = are.within number in
           omega (arith, is, was)
     ]
 
     pub widened-are : AreRecords widened
     widened-are = record {
       pages = subst (λ pages. ArePages pages list.count (list.size + 1)) (sym pages-same) are.pages;
-      within = subst (λ (rooms : List ℕ). (at : ℕ) → get_or rooms at 0 ≤ 512 * (list.size + 1)) (sym rooms-new) rooms-within;
-      most = (let long = length-set list.pages.items (list.count / 512) new in let most = are.most in omega (arith, long, most));
+      within = subst (λ (rooms : List ℕ). (number : ℕ) → get_or rooms number 0 ≤ size_of number * (list.size + 1)) (sym rooms-new) rooms-within;
+      most = (let long = length-set list.pages.items at new in let most = are.most in omega (arith, long, most));
       chained = subst (λ pages. AreChained list.spare list.free (spots_in list.count list.size (joined pages))) (sym pages-same) are.chained;
       size_within = are.size_within;
     }
@@ -168,8 +174,9 @@ module _ (list : Inside) (are : AreRecords list) (there : list.count / 512 < len
     pub widened-left : left_at widened list.count ≡ page_room new - length (page_words page)
     widened-left =
         let long = length-map list.pages.items page_room in
-        let room = ap (λ rooms. get_or rooms (list.count / 512) 0) rooms-new ∙ get_or-set_same (rooms_of list) (list.count / 512) (page_room new) 0 (omega (arith, there, long)) in
-        λ i. room i - length ((ap (λ pages. get_or pages (list.count / 512) []) pages-same ∙ sym last-words) i)
+        let room = ap (λ rooms. get_or rooms at 0) rooms-new ∙ get_or-set_same (rooms_of list) at (page_room new) 0 (omega (arith, there, long)) in
+        ap (λ n. get_or (rooms_of widened) n 0 - length (get_or (pages_of widened) n [])) (sym sits.page_is)
+        ∙ (λ i. room i - length ((ap (λ pages. get_or pages at []) pages-same ∙ sym last-words) i))
 
     pub widened-list : list_of widened ≡ with_capacity (list_of list) (list_of widened).capacity
     widened-list = ap (λ pages. record (with_capacity (list_of list) (list_of widened).capacity) { spots = freed list.spare list.free (spots_in list.count list.size (joined pages)) }) pages-same
@@ -177,57 +184,60 @@ module _ (list : Inside) (are : AreRecords list) (there : list.count / 512 < len
   -- A record comes to it.
   module _ (new : Vec ℕ Global) (words : List ℕ) (long : length words ≡ list.size + 1) (is : page_words new ≡ page_words page ++ words) (room : page_room new ≡ page_room page) where
     abbrev pub pushed : Inside
-    pushed = record list { pages = with_item list.pages (list.count / 512) new; count = list.count + 1 }
+    pushed = record list { pages = with_item list.pages at new; count = list.count + 1 }
 
-    pages-pushed : pages_of pushed ≡ set (pages_of list) (list.count / 512) (get_or (pages_of list) (list.count / 512) [] ++ words)
+    pages-pushed : pages_of pushed ≡ set (pages_of list) at (get_or (pages_of list) at [] ++ words)
     pages-pushed =
-        map-set page_words list.pages.items (list.count / 512) new
-        ∙ ap (set (pages_of list) (list.count / 512)) (is ∙ ap (λ front. front ++ words) last-words)
+        map-set page_words list.pages.items at new
+        ∙ ap (set (pages_of list) at) (is ∙ ap (λ front. front ++ words) last-words)
 
     rooms-same : rooms_of pushed ≡ rooms_of list
     rooms-same =
-        map-set page_room list.pages.items (list.count / 512) new
-        ∙ ap (set (rooms_of list) (list.count / 512)) (room ∙ last-room)
-        ∙ set-get_or (rooms_of list) (list.count / 512) 0
+        map-set page_room list.pages.items at new
+        ∙ ap (set (rooms_of list) at) (room ∙ last-room)
+        ∙ set-get_or (rooms_of list) at 0
 
     pub pushed-all : items_of pushed ≡ items_of list ++ words
-    pushed-all = ap joined pages-pushed ∙ pushed-joined (pages_of list) list.count (list.size + 1) are.pages last-there words long
+    pushed-all = ap joined pages-pushed ∙ pushed-joined (pages_of list) list.count (list.size + 1) are.pages sits last-there words long
 
     pub pushed-are : AreChained list.spare list.free (spots_in (list.count + 1) list.size (items_of pushed)) → AreRecords pushed
     pushed-are chained = record {
-      pages = subst (λ pages. ArePages pages (list.count + 1) (list.size + 1)) (sym pages-pushed) (pushed-pages (pages_of list) list.count (list.size + 1) are.pages last-there words long);
-      within = subst (λ (rooms : List ℕ). (at : ℕ) → get_or rooms at 0 ≤ 512 * (list.size + 1)) (sym rooms-same) are.within;
-      most = (let same = length-set list.pages.items (list.count / 512) new in let most = are.most in omega (arith, same, most));
+      pages = subst (λ pages. ArePages pages (list.count + 1) (list.size + 1)) (sym pages-pushed) (pushed-pages (pages_of list) list.count (list.size + 1) are.pages sits last-there words long);
+      within = subst (λ (rooms : List ℕ). (number : ℕ) → get_or rooms number 0 ≤ size_of number * (list.size + 1)) (sym rooms-same) are.within;
+      most = (let same = length-set list.pages.items at new in let most = are.most in omega (arith, same, most));
       chained = chained;
       size_within = are.size_within;
     }
 
     -- There is memory for as many words in all as before.
     pub pushed-capacity : list.size + 1 ≤ left_at list list.count → (list_of pushed).capacity ≡ (list_of list).capacity
-    pushed-capacity fits = elim (cases_lt (list.count / 512) ((list.count + 1) / 512)) [
-      | inl less ↦
+    pushed-capacity fits = elim (place-next list.count) [
+      | inl stays ↦
           let parts : (list.count + 1) * (list.size + 1) ≡ list.count * (list.size + 1) + (list.size + 1) = grind arith in
-          let few = are.pages.few in
-          let pages-long = length-map list.pages.items page_words in
-          let rooms-long = length-map list.pages.items page_room in
-          let nothing = ap (λ rooms. get_or rooms ((list.count + 1) / 512) 0) rooms-same ∙ get_or_past (rooms_of list) ((list.count + 1) / 512) 0 (omega (arith, less, few, pages-long, rooms-long)) in
-          let left = last-left in
-          let whole : list.count % 512 ≡ 511 = omega (arith, less) in
-          let before = last-long ∙ ap (λ n. n * (list.size + 1)) whole in
-          let most = last-within in
-          omega (arith, parts, nothing, left, before, most, fits)
-      | inr most ↦
-          let parts : (list.count + 1) * (list.size + 1) ≡ list.count * (list.size + 1) + (list.size + 1) = grind arith in
-          let here : (list.count + 1) / 512 ≡ list.count / 512 = omega (arith, most) in
-          let now = ap (λ rooms. get_or rooms ((list.count + 1) / 512) 0) rooms-same ∙ ap (λ n. get_or (rooms_of list) n 0) here ∙ sym last-room in
+          let here : page_of (list.count + 1) ≡ at = sym (sits.page_is ∙ stays.0.page_is) in
+          let now = ap (λ rooms. get_or rooms (page_of (list.count + 1)) 0) rooms-same ∙ ap (λ n. get_or (rooms_of list) n 0) here ∙ sym last-room in
           let words-now =
-          ap (λ pages. length (get_or pages ((list.count + 1) / 512) [])) pages-pushed
-          ∙ ap (λ n. length (get_or (set (pages_of list) (list.count / 512) (get_or (pages_of list) (list.count / 512) [] ++ words)) n [])) here
-          ∙ ap length (get_or-set_same (pages_of list) (list.count / 512) (get_or (pages_of list) (list.count / 512) [] ++ words) [] last-there)
-          ∙ length-append (get_or (pages_of list) (list.count / 512) []) words
+          ap (λ pages. length (get_or pages (page_of (list.count + 1)) [])) pages-pushed
+          ∙ ap (λ n. length (get_or (set (pages_of list) at (get_or (pages_of list) at [] ++ words)) n [])) here
+          ∙ ap length (get_or-set_same (pages_of list) at (get_or (pages_of list) at [] ++ words) [] last-there)
+          ∙ length-append (get_or (pages_of list) at []) words
           ∙ ap (λ n. n + length words) (ap length (sym last-words)) in
           let left = last-left in
           omega (arith, parts, now, words-now, left, long, fits)
+      | inr next ↦
+          let parts : (list.count + 1) * (list.size + 1) ≡ list.count * (list.size + 1) + (list.size + 1) = grind arith in
+          let few = are.pages.few in
+          let page = next.0.page_is in
+          let pages-long = length-map list.pages.items page_words in
+          let rooms-long = length-map list.pages.items page_room in
+          let nothing = ap (λ rooms. get_or rooms (page_of (list.count + 1)) 0) rooms-same ∙ get_or_past (rooms_of list) (page_of (list.count + 1)) 0 (omega (arith, page, few, pages-long, rooms-long)) in
+          let left = last-left in
+          let whole : rest + 1 ≡ size_of at = ap (λ n. n + 1) sits.rest_is ∙ next.1 ∙ ap size_of (sym sits.page_is) in
+          let full = ap (λ n. n * (list.size + 1)) whole in
+          let one : (rest + 1) * (list.size + 1) ≡ rest * (list.size + 1) + (list.size + 1) = grind arith in
+          let before = last-long in
+          let most = last-within in
+          omega (arith, parts, nothing, left, before, full, one, most, fits)
     ]
 
 -- A list without a record and without a page.
@@ -235,7 +245,7 @@ module _ (list : Inside) (none : list.pages.items ≡ []) (no_records : list.cou
   pub empty-are : list.size ≤ 2305843009213693952 → AreRecords list
   empty-are size = record {
     pages = subst (λ (items : List (Vec ℕ Global)). ArePages (map page_words items) list.count (list.size + 1)) (sym none) (subst (λ n. ArePages [] n (list.size + 1)) (sym no_records) (none-are (list.size + 1)));
-    within = subst (λ (items : List (Vec ℕ Global)). (at : ℕ) → get_or (map page_room items) at 0 ≤ 512 * (list.size + 1)) (sym none) (λ at. omega arith);
+    within = subst (λ (items : List (Vec ℕ Global)). (at : ℕ) → get_or (map page_room items) at 0 ≤ size_of at * (list.size + 1)) (sym none) (λ at. omega arith);
     most = (let long = ap length none in omega (arith, long));
     chained = subst (λ n. AreChained n list.free (spots_in list.count list.size (items_of list))) (sym no_spare) tt;
     size_within = size;
@@ -244,7 +254,7 @@ module _ (list : Inside) (none : list.pages.items ≡ []) (no_records : list.cou
   pub empty-capacity : (list_of list).capacity ≡ 0
   empty-capacity =
       let count = ap (λ n. n * (list.size + 1)) no_records in
-      let room = ap (λ (items : List (Vec ℕ Global)). get_or (map page_room items) (list.count / 512) 0) none in
+      let room = ap (λ (items : List (Vec ℕ Global)). get_or (map page_room items) (page_of list.count) 0) none in
       omega (arith, count, room)
 
 -- There is a page for the next record now.
@@ -263,7 +273,7 @@ module _ (list : Inside) (are : AreRecords list) (pages : Vec (Vec ℕ Global) G
     pub same-are : AreRecords extended
     same-are = record {
       pages = subst (λ (items : List (Vec ℕ Global)). ArePages (map page_words items) list.count (list.size + 1)) (sym same) are.pages;
-      within = subst (λ (items : List (Vec ℕ Global)). (at : ℕ) → get_or (map page_room items) at 0 ≤ 512 * (list.size + 1)) (sym same) are.within;
+      within = subst (λ (items : List (Vec ℕ Global)). (at : ℕ) → get_or (map page_room items) at 0 ≤ size_of at * (list.size + 1)) (sym same) are.within;
       most = (let long = ap length same in let most = are.most in omega (arith, long, most));
       chained = subst (λ (items : List (Vec ℕ Global)). AreChained list.spare list.free (spots_in list.count list.size (joined (map page_words items)))) (sym same) are.chained;
       size_within = are.size_within;
@@ -274,22 +284,22 @@ module _ (list : Inside) (are : AreRecords list) (pages : Vec (Vec ℕ Global) G
       size = list.size;
       spots = freed list.spare list.free (spots_in list.count list.size (joined (map page_words (same i))));
       first = list.free;
-      capacity = list.count * (list.size + 1) + (get_or (map page_room (same i)) (list.count / 512) 0 - length (get_or (map page_words (same i)) (list.count / 512) []));
+      capacity = list.count * (list.size + 1) + (get_or (map page_room (same i)) (page_of list.count) 0 - length (get_or (map page_words (same i)) (page_of list.count) []));
     }
 
   -- What it keeps, and that its words are the same.
-  pub record IsExtended : Type 0 where
+  pub record IsExtended (at : ℕ) : Type 0 where
     pub is_are : AreRecords extended
-    pub there : list.count / 512 < length pages.items
+    pub there : at < length pages.items
     pub items : items_of extended ≡ items_of list
 
-  pub extends : IsReached list.pages.items pages.items (list.count / 512) → IsExtended
-  extends (inl was) = record {
+  pub extends : {at rest : ℕ} → IsAt list.count at rest → IsReached list.pages.items pages.items at → IsExtended at
+  extends sits (inl was) = record {
     is_are = same-are was.1;
     there = (let long = ap length was.1 in omega (arith, long, was.0));
     items = ap (λ (items : List (Vec ℕ Global)). joined (map page_words items)) was.1;
   }
-  extends (inr begun) =
+  extends {at} sits (inr begun) =
       let end = begun.0 in
       let few = begun.1 in
       let page = begun.2 in
@@ -299,13 +309,14 @@ module _ (list : Inside) (are : AreRecords list) (pages : Vec (Vec ℕ Global) G
       let pages-now : map page_words pages.items ≡ pages_of list ++ [] ∷ [] = ap (map page_words) is ∙ map_push page_words list.pages.items page ∙ ap (λ words. pages_of list ++ words ∷ []) none in
       let rooms-now : map page_room pages.items ≡ rooms_of list ++ 0 ∷ [] = ap (map page_room) is ∙ map_push page_room list.pages.items page ∙ ap (λ room. rooms_of list ++ room ∷ []) no_room in
       let long = length-map list.pages.items page_words in
-      let at-end : list.count / 512 ≡ length (pages_of list) = omega (arith, end, long) in
+      let same = sits.page_is in
+      let at-end : page_of list.count ≡ length (pages_of list) = omega (arith, end, long, same) in
       let items : joined (map page_words pages.items) ≡ items_of list = ap joined pages-now ∙ begun-joined (pages_of list) list.count (list.size + 1) are.pages at-end in
       let longer = ap length is ∙ length_push list.pages.items page in
       record {
         is_are = record {
           pages = subst (λ pages. ArePages pages list.count (list.size + 1)) (sym pages-now) (begun-are (pages_of list) list.count (list.size + 1) are.pages at-end);
-          within = subst (λ (rooms : List ℕ). (at : ℕ) → get_or rooms at 0 ≤ 512 * (list.size + 1)) (sym rooms-now) (λ at. subst (λ room. room ≤ 512 * (list.size + 1)) (sym (none-more (rooms_of list) at)) (are.within at));
+          within = subst (λ (rooms : List ℕ). (number : ℕ) → get_or rooms number 0 ≤ size_of number * (list.size + 1)) (sym rooms-now) (λ number. subst (λ room. room ≤ size_of number * (list.size + 1)) (sym (none-more (rooms_of list) number)) (are.within number));
           most = omega (arith, longer, end, few);
           chained = subst (λ items. AreChained list.spare list.free (spots_in list.count list.size items)) (sym items) are.chained;
           size_within = are.size_within;
@@ -358,11 +369,11 @@ module _ (list : Inside) (are : AreRecords list) (value : ℕ) (bytes : List ℕ
     placed-spots = spots-place list.count list.size (items_of list) (items-long list are) place within words words-long ∙ ap (set (all list are) place) words-spot
 
   -- A record stands in a page that was written, whatever is free then.
-  pub written-are : {place : ℕ} (inside : place < list.count) (page : Vec ℕ Global) (read : page ≡ get_or list.pages.items (place / 512) page) (new : Vec ℕ Global) (long : length (page_words new) ≡ length (page_words page)) (room : page_room new ≡ page_room page) (spare first : ℕ)
-      → AreChained spare first (spots_in list.count list.size (items_of (after list are place inside page read new long room)))
-      → AreRecords (record (after list are place inside page read new long room) { spare = spare; free = first })
-  written-are {place} inside page read new long room spare first chained =
-      let kept = after-kept list are place inside page read new long room in
+  pub written-are : {place : ℕ} (inside : place < list.count) {at rest : ℕ} (sits : IsAt place at rest) (page : Vec ℕ Global) (read : page ≡ get_or list.pages.items at page) (new : Vec ℕ Global) (long : length (page_words new) ≡ length (page_words page)) (room : page_room new ≡ page_room page) (spare first : ℕ)
+      → AreChained spare first (spots_in list.count list.size (items_of (after list are place inside sits page read new long room)))
+      → AreRecords (record (after list are place inside sits page read new long room) { spare = spare; free = first })
+  written-are {place} inside sits page read new long room spare first chained =
+      let kept = after-kept list are place inside sits page read new long room in
       record { pages = kept.0; within = kept.1; most = kept.2; chained = chained; size_within = are.size_within }
 
   -- In the place of a record that stands.

@@ -1,8 +1,8 @@
 -- How a list of records stands in words: record after record, each its value and then its text. The value of a free record is the place that
--- was free first before it, and the list knows the first free one and how many are free. The words stand in pages: each but the last has 512 records.
-use Rattle.std.specs.Prelude.{◌≤◌, ◌+◌, ◌-◌, ◌*◌, ◌/◌, ◌^◌, ℕ, zero, suc, List, [], ◌∷◌, length, get_or, set, take, drop, map}
+-- was free first before it, and the list knows the first free one and how many are free. The words stand in pages.
+use Rattle.std.specs.Prelude.{◌≤◌, ◌+◌, ◌-◌, ◌*◌, ◌^◌, ℕ, zero, suc, List, [], ◌∷◌, length, get_or, set, take, drop, map}
 use Rattle.judy_records.specs.declared.records.Records.TheInside.{Inside}
-use Rattle.judy_records.specs.Pages.{joined, page_words, page_room, ArePages}
+use Rattle.judy_records.specs.Pages.{joined, page_words, page_room, size_of, page_of, ArePages}
 use Rattle.judy_records.specs.Spots.{Spot, free, held, RecordList, IsHeld, value_of}
 
 -- The record with which words begin.
@@ -37,7 +37,7 @@ items_of list = joined (pages_of list)
 
 -- For how many more words the page of a place has memory.
 abbrev pub left_at : Inside → ℕ → ℕ
-left_at list place = get_or (rooms_of list) (place / 512) 0 - length (get_or (pages_of list) (place / 512) [])
+left_at list place = get_or (rooms_of list) (page_of place) 0 - length (get_or (pages_of list) (page_of place) [])
 
 -- The list that fields stand for.
 abbrev pub list_of : Inside → RecordList
@@ -51,7 +51,7 @@ list_of list = record {
 -- What always holds of the fields.
 pub record AreRecords (list : Inside) : Type 0 where
   pub pages : ArePages (pages_of list) list.count (list.size + 1)
-  pub within : (at : ℕ) → get_or (rooms_of list) at 0 ≤ 512 * (list.size + 1)
+  pub within : (at : ℕ) → get_or (rooms_of list) at 0 ≤ size_of at * (list.size + 1)
   pub most : length list.pages.items ≤ 2 ^ 48
   pub chained : AreChained list.spare list.free (spots_in list.count list.size (items_of list))
   pub size_within : list.size ≤ 2305843009213693952

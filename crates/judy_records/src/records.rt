@@ -7,7 +7,6 @@ ghost use Rattle.judy_places.specs.Places.{NoneLost};
 ghost use Rattle.judy_records.specs.Texts.{words_of, words_for, bytes_in};
 ghost use Rattle.judy_records.specs.Spots.{held, spot_at, IsHeld, value_of, text_of, links_of, empty_list, HasRoom, next_place, with_capacity, with_spot, put_in, taken_out, removed};
 
-use crate::pages::PAGE;
 use crate::record::Record;
 use crate::{pages, text, words};
 use std::alloc::{AllocError, Global};
@@ -84,8 +83,9 @@ impl Records {
         requires { IsHeld (spot_at self.now place) }
         ensures { result ≡ value_of (spot_at self.now place) }
     {
-        let page = &self.pages[place / PAGE];
-        page[place % PAGE * (self.size + 1)]
+        let (at, rest) = pages::locate(place);
+        let page = &self.pages[at];
+        page[rest * (self.size + 1)]
     }
 
     /// Lends the value of the record at a place; all else stays.
@@ -94,8 +94,9 @@ impl Records {
         ensures* writes_back { sem 𝓛 (LendsValue self.entry place result) }
         ensures value { result.now ≡ value_of (spot_at self.old place) }
     {
-        let page = &mut self.pages[place / PAGE];
-        &mut page[place % PAGE * (self.size + 1)]
+        let (at, rest) = pages::locate(place);
+        let page = &mut self.pages[at];
+        &mut page[rest * (self.size + 1)]
     }
 
     /// The record at a place.
@@ -103,8 +104,9 @@ impl Records {
         requires { IsHeld (spot_at self.now place) }
         ensures { result ≡ spot_at self.now place }
     {
-        let page = &self.pages[place / PAGE];
-        let start = place % PAGE * (self.size + 1);
+        let (at, rest) = pages::locate(place);
+        let page = &self.pages[at];
+        let start = rest * (self.size + 1);
         Record::new(&page[start..start + (self.size + 1)])
     }
 
@@ -129,7 +131,7 @@ impl Records {
     }
 
     /// Makes room for one more record. Where a place is free it needs none, so nothing is asked for. Else the last page grows by a part of its records
-    /// or of all, or a page is begun. The error is want of memory, or 2^57 records, and leaves the list as it was.
+    /// or of all, or a page is begun. The error is want of memory, or some 2^58 records, and leaves the list as it was.
     pub fn reserve(&mut self) -> Result<(), AllocError>
         ensures same { self.new ≡ with_capacity self.old self.new.capacity }
         ensures room { OnOk result (HasRoom self.new 1) }
@@ -138,7 +140,7 @@ impl Records {
         if self.spare != 0 {
             return Ok(());
         }
-        let at = self.count / PAGE;
+        let (at, _) = pages::locate(self.count);
         pages::reach(&mut self.pages, at)?;
         pages::widen(&mut self.pages[at], self.count, self.size)
     }
@@ -165,13 +167,15 @@ impl Records {
     {
         if self.spare == 0 {
             let place = self.count;
-            text::push_record(&mut self.pages[place / PAGE], value, self.size, bytes);
+            let (at, _) = pages::locate(place);
+            text::push_record(&mut self.pages[at], value, self.size, bytes);
             self.count += 1;
             return place;
         }
         let place = self.free;
-        let page = &mut self.pages[place / PAGE];
-        let start = place % PAGE * (self.size + 1);
+        let (at, rest) = pages::locate(place);
+        let page = &mut self.pages[at];
+        let start = rest * (self.size + 1);
         self.free = page[start] as usize;
         self.spare -= 1;
         text::write_record(page, start, self.size, value, bytes);
@@ -184,8 +188,9 @@ impl Records {
         requires fits { words_for (length bytes.now) ≡ self.old.size }
         ensures { self.new ≡ with_spot self.old place (held value (words_of bytes.now)) }
     {
-        let page = &mut self.pages[place / PAGE];
-        let start = place % PAGE * (self.size + 1);
+        let (at, rest) = pages::locate(place);
+        let page = &mut self.pages[at];
+        let start = rest * (self.size + 1);
         text::write_record(page, start, self.size, value, bytes);
     }
 
@@ -211,8 +216,9 @@ impl Records {
         requires { IsHeld (spot_at self.old place) }
         ensures { self.new ≡ taken_out self.old place }
     {
-        let page = &mut self.pages[place / PAGE];
-        page[place % PAGE * (self.size + 1)] = self.free as u64;
+        let (at, rest) = pages::locate(place);
+        let page = &mut self.pages[at];
+        page[rest * (self.size + 1)] = self.free as u64;
         self.free = place;
         self.spare += 1;
     }

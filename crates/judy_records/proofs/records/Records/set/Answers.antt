@@ -7,13 +7,13 @@ use Rattle.judy_records.proofs.RecordGrowth.{set-list, set-chained, words, words
 use Rattle.judy_records.proofs.records.Records.set.Goals as goal
 
 pub index_mut-page-requires : goal.index_mut-page-requires
-index_mut-page-requires c = omega (arith, seen-there c.self.inside c.self.invariant c.self.view_is c.args.place c.requires.is_held, c.self.inside.pages.ok)
+index_mut-page-requires c = omega (arith, seen-there c.self.inside c.self.invariant c.self.view_is c.args.place c.requires.is_held c.locate-at.ensures, c.self.inside.pages.ok)
 
 pub overflow_mul-start : goal.overflow_mul-start
-overflow_mul-start c = omega (arith, seen-long c.self.inside c.self.invariant c.self.view_is c.args.place c.requires.is_held c.index_mut-page.result.now c.index_mut-page.ensures.value, c.index_mut-page.result.now.ok, c.index_mut-page.result.now.small)
+overflow_mul-start c = omega (arith, seen-long c.self.inside c.self.invariant c.self.view_is c.args.place c.requires.is_held c.locate-at.ensures c.index_mut-page.result.now c.index_mut-page.ensures.value, c.index_mut-page.result.now.ok, c.index_mut-page.result.now.small)
 
 pub write_record-requires-clause-within : goal.write_record-requires-clause-within
-write_record-requires-clause-within c = omega (arith, seen-long c.self.inside c.self.invariant c.self.view_is c.args.place c.requires.is_held c.index_mut-page.result.now c.index_mut-page.ensures.value, c.index_mut-page.result.now.ok)
+write_record-requires-clause-within c = omega (arith, seen-long c.self.inside c.self.invariant c.self.view_is c.args.place c.requires.is_held c.locate-at.ensures c.index_mut-page.result.now c.index_mut-page.ensures.value, c.index_mut-page.result.now.ok)
 
 pub write_record-requires-clause-fits : goal.write_record-requires-clause-fits
 write_record-requires-clause-fits c = c.requires.fits ∙ ap (λ list. list.size) (sym c.self.view_is)
@@ -29,9 +29,9 @@ invariant_of-self c =
     let read = c.index_mut-page.ensures.value in
     let new = c.write_record.new.words in
     let record_words = words list are c.args.value c.args.bytes.now size in
-    let long = record-long list are c.args.place inside page read new record_words (words-long list are c.args.value c.args.bytes.now size) c.write_record.ensures.words in
-    after-are list are c.args.place inside page read new long c.write_record.ensures.capacity
-    (subst (λ items. AreChained list.spare list.free (spots_in list.count list.size items)) (sym (record-items list are c.args.place inside page read new record_words c.write_record.ensures.words))
+    let long = record-long list are c.args.place inside c.locate-at.ensures page read new record_words (words-long list are c.args.value c.args.bytes.now size) c.write_record.ensures.words in
+    after-are list are c.args.place inside c.locate-at.ensures page read new long c.write_record.ensures.capacity
+    (subst (λ items. AreChained list.spare list.free (spots_in list.count list.size items)) (sym (record-items list are c.args.place inside c.locate-at.ensures page read new record_words c.write_record.ensures.words))
     (set-chained list are c.args.value c.args.bytes.now size c.args.place is))
 
 pub returns : goal.returns
@@ -45,7 +45,7 @@ returns c =
     let read = c.index_mut-page.ensures.value in
     let new = c.write_record.new.words in
     let record_words = words list are c.args.value c.args.bytes.now size in
-    let long = record-long list are c.args.place inside page read new record_words (words-long list are c.args.value c.args.bytes.now size) c.write_record.ensures.words in
-    after-list list are c.args.place inside page read new long c.write_record.ensures.capacity _ (record-items list are c.args.place inside page read new record_words c.write_record.ensures.words)
+    let long = record-long list are c.args.place inside c.locate-at.ensures page read new record_words (words-long list are c.args.value c.args.bytes.now size) c.write_record.ensures.words in
+    after-list list are c.args.place inside c.locate-at.ensures page read new long c.write_record.ensures.capacity _ (record-items list are c.args.place inside c.locate-at.ensures page read new record_words c.write_record.ensures.words)
     ∙ set-list list are c.args.value c.args.bytes.now size c.args.place is
     ∙ ap (λ list. with_spot list c.args.place (held c.args.value (words_of c.args.bytes.now))) c.self.view_is

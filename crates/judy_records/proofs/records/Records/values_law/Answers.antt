@@ -1,10 +1,11 @@
-use Rattle.std.proofs.Common.{◌≡◌, ◌/◌, ◌%◌, ◌*◌, ◌+◌, [], length, get_or, map, ⊎_elim, ap, sym, ◌∙◌, arith, subst}
+use Rattle.std.proofs.Common.{◌≡◌, ◌*◌, ◌+◌, [], length, get_or, map, ⊎_elim, ap, sym, ◌∙◌, arith, subst}
 use Rattle.std.proofs.lemmas.Bool.{cases_lt}
 use Rattle.std.proofs.lemmas.List.{get_or-map}
 use Rattle.judy_model.specs.Keys.{IsWord}
-use Rattle.judy_records.specs.Pages.{page_words}
+use Rattle.judy_records.specs.Pages.{page_words, page_of, rest_of}
 use Rattle.judy_records.specs.Spots.{spot_at, value_of}
 use Rattle.judy_records.proofs.RecordLemmas.{seen-held, seen-within, value-there, page-there}
+use Rattle.judy_records.proofs.PageLemmas.{own-at}
 use Rattle.judy_records.proofs.records.Records.values_law.Goals as goal
 
 pub loop-page-preserved : goal.loop-page-preserved
@@ -21,7 +22,7 @@ pub returns : goal.returns
 returns c = λ place is.
     let held = seen-held c.self.inside c.self.invariant c.self.view_is place is in
     let inside = seen-within c.self.inside c.self.invariant c.self.view_is place is in
-    let there = page-there c.self.inside c.self.invariant place inside in
+    let there = page-there c.self.inside c.self.invariant place inside (own-at place) in
     subst IsWord (value-there c.self.inside c.self.invariant place held ∙ ap (λ list. value_of (spot_at list place)) c.self.view_is)
-    (subst (λ items. IsWord (get_or (get_or (map page_words items) (place / 512) []) (place % 512 * (c.self.inside.size + 1)) 0)) c.deref-page-items.ensures.value
-    (c.loop-page.invariant (place / 512) (place % 512 * (c.self.inside.size + 1)) (omega (arith, there, c.loop-page-test.false, ap length c.deref-page-items.ensures.value))))
+    (subst (λ items. IsWord (get_or (get_or (map page_words items) (page_of place) []) (rest_of place * (c.self.inside.size + 1)) 0)) c.deref-page-items.ensures.value
+    (c.loop-page.invariant (page_of place) (rest_of place * (c.self.inside.size + 1)) (omega (arith, there, c.loop-page-test.false, ap length c.deref-page-items.ensures.value))))
