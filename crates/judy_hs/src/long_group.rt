@@ -17,7 +17,7 @@ use crate::chain::{Chain, word_law};
 use crate::entry::{HsEntry, HsKey, sort_from};
 use crate::shared::{join, leave, take_first};
 use crate::trial::Trial;
-use judy_records::{Records, words_for};
+use judy_records::{Record, Records, words_for};
 use judy_word::WordMap;
 use std::alloc::{AllocError, Global};
 use std::collections::BTreeMap;
@@ -55,13 +55,14 @@ impl Model for LongGroup {
         AreLongRecords group.hashes.map group.key_length group.chains group.records };
 }
 
-// Whether the record at a place, which spells a key of so many bytes, spells this one. Their bytes decide, zero bytes at the end too.
-fn is_key(records: &Records, key_length: usize, place: usize, key: &[u8]) -> bool
-    requires held { IsHeld (spot_at records.now place) }
-    requires spelled { IsSpelled key_length (spot_at records.now place) }
-    ensures { IsTrue result ↔ bytes_in key_length (text_of (spot_at records.now place)) ≡ key.now }
+// Whether a record, which spells a key of so many bytes, spells this one. Their bytes decide, zero bytes at the end too.
+#[inline(always)]
+fn is_key(stored: &Record<'_>, key_length: usize, key: &[u8]) -> bool
+    requires held { IsHeld stored.now }
+    requires spelled { IsSpelled key_length stored.now }
+    ensures { IsTrue result ↔ bytes_in key_length (text_of stored.now) ≡ key.now }
 {
-    key.len() == key_length && records.is_of(place, key)
+    key.len() == key_length && stored.is_of(key)
 }
 
 // The same for a key that stands at the place, in its record or among the others. Where no two keys share a hash no byte is looked at.
@@ -82,7 +83,7 @@ fn is_own(
     if chains.is_empty() {
         return true;
     }
-    is_key(records, key_length, place, key)
+    is_key(&records.at(place), key_length, key)
 }
 
 impl LongGroup {
@@ -123,8 +124,9 @@ impl LongGroup {
         requires { chain_at self.now place ≢ [] }
         ensures { result ≡ value_of_place self.now place key.now }
     {
-        if is_key(&self.records, self.key_length, place, key) {
-            return Some(self.records.value(place));
+        let record = self.records.at(place);
+        if is_key(&record, self.key_length, key) {
+            return Some(record.value());
         }
         match self.chains.get(&place) {
             Some(chain) => chain.get(key),

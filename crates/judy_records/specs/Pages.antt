@@ -30,7 +30,7 @@ page_of place = if nat_lt place 8192 then place / 128 else 64 + (place - 8192) /
 unfoldable pub rest_of : ℕ → ℕ
 rest_of place = if nat_lt place 8192 then place % 128 else (place - 8192) % 1024
 
--- Both.
+-- A place is in that page, as that record of it.
 pub record IsAt (place page rest : ℕ) : Type 0 where
   pub page_is : page ≡ page_of place
   pub rest_is : rest ≡ rest_of place

@@ -33,14 +33,24 @@ fn size_of(page: usize) -> usize
     if page < SHORT_PAGES { SHORT } else { LONG }
 }
 
-// The page of a place, and which of its records stands there.
+// The page of a place, and which of its records stands there. Each is chosen by itself, since the compiler makes that without a branch: among records of
+// both kinds of page it would be foreseen wrongly.
 #[inline(always)]
 pub fn locate(place: usize) -> (usize, usize)
     ensures { IsAt place result.0 result.1 }
 {
-    let short = (place / SHORT, place % SHORT);
-    let long = (place / LONG + MORE_PAGES, place % LONG);
-    if place < IN_SHORT_PAGES { short } else { long }
+    let is_short = place < IN_SHORT_PAGES;
+    let page = if is_short {
+        place / SHORT
+    } else {
+        place / LONG + MORE_PAGES
+    };
+    let rest = if is_short {
+        place % SHORT
+    } else {
+        place % LONG
+    };
+    (page, rest)
 }
 
 // Sees to it that there is a page of a number, the next one at most. The error is want of memory, or too many pages.

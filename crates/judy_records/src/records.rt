@@ -1,6 +1,6 @@
 //! Records of one length, in pages.
 
-ghost use Rattle.std.specs.Prelude.{◌≡◌, ◌≤◌, ◌+◌, ◌*◌, ◌↔◌, ℕ, IsTrue, IsOk, IfOk, OnOk, length};
+ghost use Rattle.std.specs.Prelude.{◌≡◌, ◌≤◌, ◌+◌, ◌*◌, ℕ, IsOk, IfOk, OnOk, length};
 ghost use Rattle.std.specs.Borrow.{sem};
 ghost use Rattle.judy_model.specs.Keys.{IsWord};
 ghost use Rattle.judy_places.specs.Places.{NoneLost};
@@ -108,16 +108,6 @@ impl Records {
         let page = &self.pages[at];
         let start = rest * (self.size + 1);
         Record::new(&page[start..start + (self.size + 1)])
-    }
-
-    /// Whether the text at a place is that of the bytes. A loop over words.
-    // Within its caller, which mostly asks for the record's value next: its page is looked up once for both.
-    #[inline(always)]
-    pub fn is_of(&self, place: usize, bytes: &[u8]) -> bool
-        requires { IsHeld (spot_at self.now place) }
-        ensures { IsTrue result ↔ text_of (spot_at self.now place) ≡ words_of bytes.now }
-    {
-        self.at(place).is_of(bytes)
     }
 
     /// A copy of the first so many bytes of the text at a place: where a byte string of that length was put in, it is that. A loop over
