@@ -14,6 +14,7 @@ ghost use Rattle.judy_c.specs.Maps.{set_of};
 ghost use Rattle.judy_c.specs.Puts.{IsPut};
 ghost use Rattle.judy_c.specs.Told.{IsTold};
 
+use crate::box_parts::BoxParts;
 use crate::handles::{Handle, asked};
 use crate::set::Set;
 use crate::told::tell;
@@ -26,12 +27,35 @@ use std::alloc::Global;
 pub extern "C" fn sellumaq_judy1_set(alloc: Global, handle: &mut Set, key: u64) -> u32
     ensures { IsPut (set_of handle.old) key result (set_of handle.new) }
 {
-    match handle.array_or_new(alloc) {
-        Ok(array) => match array.set(key) {
-            Ok(true) => 1,
-            Ok(false) => 0,
-            Err(_) => 2,
-        },
+    match handle.array() {
+        Some(array) => set_in(array, key),
+        None => set_first(alloc, handle, key),
+    }
+}
+
+// The same of the set that a handle holds. A function of its own: so a call on a null handle saves no registers for it.
+#[inline(never)]
+fn set_in(array: &mut Judy1, key: u64) -> u32
+    ensures { IsPut array.old.map key result array.new.map }
+{
+    match array.set(key) {
+        Ok(true) => 1,
+        Ok(false) => 0,
+        Err(_) => 2,
+    }
+}
+
+// The same where the handle is null: the set is made with its first key, without a look at what stands there.
+#[inline(never)]
+fn set_first(alloc: Global, handle: &mut Set, key: u64) -> u32
+    requires { handle.old.array ≡ None }
+    ensures { IsPut (set_of handle.old) key result (set_of handle.new) }
+{
+    match Box::new(alloc, Judy1::of_one(alloc, key)) {
+        Ok(array) => {
+            handle.fill(BoxParts::of(array));
+            1
+        }
         Err(_) => 2,
     }
 }

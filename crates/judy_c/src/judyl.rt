@@ -17,6 +17,7 @@ ghost use Rattle.judy_c.specs.Told.{IsTold, lent_where};
 ghost use Rattle.std.specs.Borrow.{sem};
 ghost use Rattle.std.specs.Option.{option_copied_mut};
 
+use crate::box_parts::BoxParts;
 use crate::handles::{Handle, asked};
 use crate::map::Map;
 use crate::told::{hand_out, tell};
@@ -61,12 +62,35 @@ pub extern "C" fn sellumaq_judyl_ins<'a>(
 pub extern "C" fn sellumaq_judyl_put(alloc: Global, handle: &mut Map, key: u64, value: u64) -> u32
     ensures { IsStored (map_of handle.old) key value result (map_of handle.new) }
 {
-    match handle.array_or_new(alloc) {
-        Ok(array) => match array.put(key, value) {
-            Ok(true) => 1,
-            Ok(false) => 0,
-            Err(_) => 2,
-        },
+    match handle.array() {
+        Some(array) => put_in(array, key, value),
+        None => put_first(alloc, handle, key, value),
+    }
+}
+
+// The same of the map that a handle holds. A function of its own: so a call on a null handle saves no registers for it.
+#[inline(never)]
+fn put_in(array: &mut JudyL, key: u64, value: u64) -> u32
+    ensures { IsStored array.old.map key value result array.new.map }
+{
+    match array.put(key, value) {
+        Ok(true) => 1,
+        Ok(false) => 0,
+        Err(_) => 2,
+    }
+}
+
+// The same where the handle is null: the map is made with its first key, without a look at what stands there.
+#[inline(never)]
+fn put_first(alloc: Global, handle: &mut Map, key: u64, value: u64) -> u32
+    requires { handle.old.array ≡ None }
+    ensures { IsStored (map_of handle.old) key value result (map_of handle.new) }
+{
+    match Box::new(alloc, JudyL::of_one(alloc, key, value)) {
+        Ok(array) => {
+            handle.fill(BoxParts::of(array));
+            1
+        }
         Err(_) => 2,
     }
 }

@@ -7,6 +7,7 @@ ghost use Rattle.judy_node.specs.Branches.{IsWholeBranch, tree_below};
 ghost use Rattle.judy_node.specs.Populations.{AreSums};
 ghost use Rattle.judy_node.specs.Kinds.{tree_of, IsLevel};
 ghost use Rattle.judy_node.specs.Roots.{root_tree, one_tree, IsRoot};
+ghost use Rattle.judy_node.specs.declared.node.RootOf.TheVariants.{One};
 ghost use Rattle.judy_change.specs.Inserted.{has_key};
 ghost use Rattle.judy_change.specs.declared.present.Put.TheVariants.{Added};
 ghost use Rattle.judy_change.specs.Put.{IsPut};
@@ -40,31 +41,40 @@ pub(crate) fn put_in_root<V: Words + Drop, P: Present>(root: &mut RootOf<V>, pai
             Put::Added
         }
         RootOf::One(only, there) => {
-            let (new, answer) = beside_one::<V, P>(*only, *there, pair);
-            *root = new;
-            answer
+            let held = (*only, *there);
+            put_beside::<V, P>(root, held, pair)
         }
         RootOf::Many(child) => put_in_many::<V, P>(child, pair),
     }
 }
 
-// Beside the one pair of a root.
-fn beside_one<V: Words + Drop, P: Present>(only: u64, there: u64, pair: Pair) -> (RootOf<V>, Put)
+// Beside the one pair that a root holds.
+fn put_beside<V: Words + Drop, P: Present>(
+    root: &mut RootOf<V>,
+    held: (u64, u64),
+    pair: Pair,
+) -> Put
     requires one { V.WORDS ≤ 1 }
     requires words { P.REPLACES ≡ true → V.WORDS ≡ 1 }
-    requires no_value { V.WORDS ≡ 0 → (there ≡ 0) × (pair.value ≡ 0) }
-    ensures root { IsRoot V.WORDS result.0 }
-    ensures put { IsPut P.REPLACES pair.key pair.value (one_tree only there)
-        (root_tree result.0) result.1 }
+    requires held { root.old ≡ One held.0 held.1 }
+    requires no_value { V.WORDS ≡ 0 → (held.1 ≡ 0) × (pair.value ≡ 0) }
+    ensures root { IsRoot V.WORDS root.new }
+    ensures put { IsPut P.REPLACES pair.key pair.value (one_tree held.0 held.1)
+        (root_tree root.new) result }
 {
-    if only == pair.key {
-        let left = if P::REPLACES { pair.value } else { there };
-        return (RootOf::One(only, left), Put::There(there));
+    if held.0 == pair.key {
+        if P::REPLACES {
+            *root = RootOf::One(held.0, pair.value);
+        }
+        return Put::There(held.1);
     }
-    let (low, high) = in_order((only, there), (pair.key, pair.value));
+    let (low, high) = in_order(held, (pair.key, pair.value));
     match leaf_of_two(pair.alloc, 8, low, high) {
-        Ok(kind) => (RootOf::Many(ChildOf::close(kind)), Put::Added),
-        Err(_) => (RootOf::One(only, there), Put::Refused),
+        Ok(kind) => {
+            *root = RootOf::Many(ChildOf::close(kind));
+            Put::Added
+        }
+        Err(_) => Put::Refused,
     }
 }
 

@@ -7,6 +7,7 @@ ghost use Rattle.judy_bits.specs.ByteSets as set;
 ghost use Rattle.judy_leaf.specs.KeyLists.{keys_of, with_pair};
 ghost use Rattle.judy_leaf.specs.Leaves.{IsLeafParts, leaf_list};
 ghost use Rattle.judy_leaf.specs.BitLeaves.{IsBitParts, bit_list};
+ghost use Rattle.judy_leaf.specs.PairChanges.{HasRoom};
 
 use crate::bit_leaf::capacity_for;
 use crate::layout::{BIT_WORDS, bit_count};
@@ -49,11 +50,34 @@ pub fn put_in_leaf<V: Words + Drop>(
     let width = usize::from(width);
     let before = usize::from(*count);
     let needed = V::WORDS * (before + 1) + keys::words_of(width, before + 1);
-    let capacity = roomy_for::<V>(width, before + 1, needed);
-    pairs::give_room(block, alloc, needed, capacity)?;
+    give_roomy::<V>(block, alloc, width, before + 1, needed)?;
     pairs::put::<V>(block, width, before, at, key, value);
     *count += 1;
     Ok(())
+}
+
+// Sees to it that a block has room for so many keys, which need so many words. The larger capacity is told only where the block outgrew its own.
+#[inline(always)]
+fn give_roomy<V: Words + Drop>(
+    block: &mut Block,
+    alloc: Global,
+    width: usize,
+    count: usize,
+    needed: usize,
+) -> Result<(), AllocError>
+    requires words { V.WORDS ≤ 1 }
+    requires few { count ≤ 32 }
+    requires some { 1 ≤ needed }
+    requires needed { needed ≤ V.WORDS * count + count }
+    requires fits { length block.old.words ≤ needed }
+    ensures room { OnOk result (HasRoom needed block.old block.new) }
+    ensures unchanged { OnErr result (block.new ≡ block.old) }
+{
+    if block.capacity() >= needed {
+        return Ok(());
+    }
+    let capacity = roomy_for::<V>(width, count, needed);
+    pairs::give_room(block, alloc, needed, capacity)
 }
 
 // The capacity of a block that outgrew its own, for so many keys that need so many words. Keys of eight bytes stand in a root alone.

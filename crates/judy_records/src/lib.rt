@@ -14,4 +14,4 @@ mod words;
 
 pub use record::Record;
 pub use records::Records;
-pub use words::{first_word, words_for};
+pub use words::{first_word, fresh_word, words_for};

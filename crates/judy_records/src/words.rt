@@ -60,6 +60,20 @@ fn byte_word(bytes: &[u8]) -> u64
     u64::from(byte_or_zero(bytes, 0)) << 56
 }
 
+/// The same, of bytes that may just have been written: it reads them one by one. A load of eight that no single store covers, as none
+/// does where `memcpy` wrote them by two that overlap, waits until the stores have left the processor. It is a call of its
+/// own, since within a caller that knows of eight bytes these reads are joined into such a load again.
+#[inline(never)]
+pub fn fresh_word(bytes: &[u8]) -> u64
+    ensures { result ≡ first_word bytes.now }
+{
+    let mut word = 0;
+    for place in 0..8 {
+        word = word * 256 + u64::from(byte_or_zero(bytes, place));
+    }
+    word
+}
+
 // The byte at a place, zero past the end.
 fn byte_or_zero(bytes: &[u8], place: usize) -> u8
     ensures { result ≡ slice_index bytes.now place }

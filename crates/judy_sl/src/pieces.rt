@@ -6,7 +6,7 @@ ghost use Rattle.judy_tails.specs.Writers.{StaysBeyond};
 ghost use Rattle.judy_sl.specs.Pieces.{piece_of, piece_bytes, EndsWell};
 
 use crate::zeros::are_eight;
-use judy_records::first_word;
+use judy_records::{first_word, fresh_word};
 use judy_tails::KeyWriter;
 
 // The piece with which the bytes begin: the first eight, the first of them the highest, zeros where bytes are missing.
@@ -14,6 +14,13 @@ pub fn first_piece(bytes: &[u8]) -> u64
     ensures { result ≡ piece_of bytes.now }
 {
     first_word(bytes)
+}
+
+// The same of bytes that may just have been written.
+pub fn fresh_piece(bytes: &[u8]) -> u64
+    ensures { result ≡ piece_of bytes.now }
+{
+    fresh_word(bytes)
 }
 
 // Puts the bytes of a piece behind those of the key: the ones that aren't zero. Mostly none is, and then all eight are put there at once.

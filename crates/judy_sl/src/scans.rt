@@ -15,7 +15,7 @@ ghost use Rattle.judy_sl.specs.Scans.{look_to, upward, is_beyond, along_bytes, I
 use crate::arena::{Arena, Place, place_in};
 use crate::child::ChildRef;
 use crate::keys::KeyBuf;
-use crate::pieces::{first_piece, push_piece};
+use crate::pieces::{first_piece, fresh_piece, push_piece};
 use crate::strings::JudySl;
 use judy_tails::{KeyFront, KeyWriter, Tail};
 use judy_word::WordMap;
@@ -235,8 +235,8 @@ impl Arena {
         let mut level = &self.root;
         let mut child = None;
         let mut rest = key;
+        let mut piece = fresh_piece(rest);
         while rest.len() >= 8 {
-            let piece = first_piece(rest);
             let depth = key.len() - rest.len();
             let Some(entry) = look.side.from(level, piece) else {
                 return None;
@@ -250,6 +250,7 @@ impl Arena {
                 ChildRef::Level(next) => {
                     level = next;
                     child = Some(entry.1);
+                    piece = first_piece(rest);
                 }
                 ChildRef::Tail(tail) => {
                     let met = look.meets(&tail, rest);
@@ -263,7 +264,7 @@ impl Arena {
         }
         nearer(
             child,
-            look.last_entry(level, first_piece(rest)),
+            look.last_entry(level, piece),
             key.len() - rest.len(),
             None,
         )
@@ -280,9 +281,9 @@ impl Arena {
         let mut level = &self.root;
         let mut child = None;
         let mut rest = key;
+        let mut piece = fresh_piece(rest);
         let mut turn = None;
         while rest.len() >= 8 {
-            let piece = first_piece(rest);
             let depth = key.len() - rest.len();
             let (found, beyond) = look.side.around(level, piece);
             turn = nearer(child, beyond, depth, turn);
@@ -294,6 +295,7 @@ impl Arena {
                 ChildRef::Level(next) => {
                     level = next;
                     child = Some(at);
+                    piece = first_piece(rest);
                 }
                 ChildRef::Tail(tail) => {
                     let met = look.meets(&tail, rest);
@@ -312,7 +314,7 @@ impl Arena {
         }
         nearer(
             child,
-            look.last_entry(level, first_piece(rest)),
+            look.last_entry(level, piece),
             key.len() - rest.len(),
             turn,
         )

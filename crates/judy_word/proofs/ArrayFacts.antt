@@ -1,22 +1,35 @@
 -- Arrays over a tree as arrays of the model: the empty one, and one with a value written through a slot.
-use Rattle.std.proofs.Common.{◌≡◌, ℕ, ◌^◌, Bool, true, false, not, Option, Some, None, Result, Ok, Err, IfOk, is_some, unwrap_or, option_and_then, MutBor, refl, sym, ap, ◌∙◌}
+use Rattle.std.proofs.Common.{◌≡◌, ℕ, ◌<◌, ◌^◌, [], ◌∷◌, Bool, true, false, not, Option, Some, None, Result, Ok, Err, IfOk, is_some, unwrap_or, option_and_then, MutBor, refl, sym, ap, ◌∙◌, arith}
 use Rattle.std.specs.Cmp.{nat_cmp_total}
 use Rattle.std.specs.Option.{option_copied_mut, ghost_name_of}
-use Rattle.std.specs.FinMap.{FinMap, get, contains_key, nat_cmp-IsAntisymmetric}
+use Rattle.std.specs.FinMap.{FinMap, get, contains_key, empty, insert, get-empty, nat_cmp-IsAntisymmetric}
 use borrow.Follows.Closed.{read_of}
 use Rattle.judy_model.specs.Keys.{word_order}
-use Rattle.judy_model.specs.Arrays.{ArrayOf, with_map, ins}
+use Rattle.judy_model.specs.Arrays.{ArrayOf, with_map, ins, write}
 use Rattle.judy_model.proofs.lemmas.maps.SortedMaps.{from_sorted-nil}
 use Rattle.judy_model.proofs.lemmas.maps.ChangesLemmas.{write-ins, get-ins_same}
 use Rattle.judy_word.specs.Held.{Held, map_in, array_in, nothing_held, IsHeld}
 use Rattle.judy_word.specs.Held as held
 use Rattle.judy_word.specs.Writes as writes
 use Rattle.judy_word.specs.WordArrays.{array_of, seen_as, no_keys, with_value}
-use Rattle.judy_word.proofs.MapFacts.{get-value, map_of-written}
+use Rattle.judy_query.specs.Maps.{map_of}
+use Rattle.judy_word.proofs.InsertionFacts.{new_absent}
+use Rattle.judy_word.proofs.MapFacts.{get-value, map_of-with_pair, map_of-written}
 
 -- No tree is the array without keys.
 pub nothing-empty : (limit : ℕ) → seen_as (nothing_held limit) ≡ no_keys limit
 nothing-empty limit = ap (λ (map : FinMap word_order ℕ). record (no_keys limit) { map = map }) (from_sorted-nil word_order)
+
+-- One pair is the empty map with that pair.
+module _ (key value : ℕ) (fits : key < 256 ^ 8) where
+  pub one-written : map_of ((key, value) ∷ []) ≡ write empty key value
+  one-written =
+      map_of-with_pair 1 (256 ^ 8) key value [] tt fits refl (λ none. absurd (omega (arith, none)))
+      ∙ ap (λ (map : FinMap word_order ℕ). insert map key value) (from_sorted-nil word_order)
+
+  pub one-new : value ≡ 0 → map_of ((key, value) ∷ []) ≡ ins empty key
+  one-new zero =
+      one-written ∙ ap (insert empty key) zero ∙ sym (new_absent empty key 0 (ap is_some (get-empty word_order key)))
 
 module _ (array : Held) (is : IsHeld 1 array) (key : ℕ) (present : is_some (get (map_in array) key) ≡ true) where
   -- A value that is written in the tree is written in the array.

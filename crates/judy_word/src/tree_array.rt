@@ -5,10 +5,11 @@ ghost use Rattle.std.specs.FinMap as map;
 ghost use Rattle.judy_model.specs.Forms.{shape_in};
 ghost use Rattle.judy_model.specs.Shapes.{shape_of};
 ghost use Rattle.judy_node.specs.ShapeSums.{shape_as};
+ghost use Rattle.judy_node.specs.Roots.{one_tree};
 ghost use Rattle.judy_word.specs.Held.{map_in, nothing_held, IsHeld};
 
 use judy_leaf::Words;
-use judy_node::{NodeOf, Shape};
+use judy_node::{NodeOf, RootOf, Shape};
 use judy_unmetered::UNMETERED;
 use std::alloc::Global;
 use std::marker::Model;
@@ -66,6 +67,21 @@ impl<V: Words + Drop> TreeArray<V> {
         TreeArray {
             limit,
             root: NodeOf::empty(),
+            loose: false,
+            alloc,
+        }
+    }
+
+    /// The array of one key with its value, which is 0 where keys have no values. The limit is at least 1. It asks for no memory.
+    pub fn of_one(alloc: Global, limit: u64, key: u64, value: u64) -> TreeArray<V>
+        requires some { 1 ≤ limit }
+        requires one { V.WORDS ≤ 1 }
+        requires no_value { V.WORDS ≡ 0 → value ≡ 0 }
+        ensures { result ≡ record { limit = limit; tree = one_tree key value; loose = false } }
+    {
+        TreeArray {
+            limit,
+            root: NodeOf::close(RootOf::One(key, value)),
             loose: false,
             alloc,
         }

@@ -3,14 +3,15 @@ ghost use Rattle.std.specs.Prelude.{◌≡◌, not, true, false, IfOk, IsOk, OnO
 ghost use Rattle.std.specs.FinMap as map;
 ghost use Rattle.judy_model.specs.Arrays as array;
 ghost use Rattle.judy_change.specs.Removals.{Has33};
-ghost use Rattle.judy_word.specs.WordArrays.{array_of};
+ghost use Rattle.judy_word.specs.WordArrays.{array_of, no_keys};
 ghost use Rattle.judy_word.specs.Refusals.{IsRefusal};
 ghost use Rattle.judy_word.specs.Sets.{IsSet};
 
 use crate::error::InsertError;
+use crate::tree_array::TreeArray;
 use crate::word_array::WordArray;
 use judy_leaf::ValueWords;
-use std::alloc::AllocError;
+use std::alloc::{AllocError, Global};
 
 /// A set of words: each from 0 to 2^64 - 1 is a key or none. It holds at most as many keys as its limit
 /// (limit: this project's own).
@@ -20,6 +21,18 @@ use std::alloc::AllocError;
 pub type Judy1 = WordArray<ValueWords<0>>;
 
 impl Judy1 {
+    /// The set of one key, with the limit 2^64 - 1, which memory ends before. It asks for no memory. (This project's own: the first key of
+    /// a set that is made, without a search.)
+    pub fn of_one(alloc: Global, i: u64) -> Judy1
+        ensures set { array_of result
+            ≡ array.with_map (array_of (no_keys u64.MAX)) (array.ins map.empty i) }
+        ensures tight { result.loose ≡ false }
+    {
+        WordArray {
+            tree: TreeArray::of_one(alloc, u64::MAX, i, 0),
+        }
+    }
+
     /// Puts the key `i` in, and answers whether it was absent; a key that is there stays, and is never
     /// refused. (Manual: J1S, Judy1Set.)
     ///

@@ -8,16 +8,17 @@ ghost use Rattle.judy_model.specs.Counts as counts;
 ghost use Rattle.judy_model.specs.Neighbours as neighbours;
 ghost use Rattle.judy_change.specs.Removals.{Has33};
 ghost use Rattle.judy_word.specs.Held.{with_new};
-ghost use Rattle.judy_word.specs.WordArrays.{array_of, with_value};
+ghost use Rattle.judy_word.specs.WordArrays.{array_of, no_keys, with_value};
 ghost use Rattle.judy_word.specs.Refusals.{IsRefusal};
 ghost use Rattle.judy_word.specs.Slots.{LendsSlot, LendsSlotOf, LendsIns};
 
 mod nearest_slots;
 
 use crate::error::InsertError;
+use crate::tree_array::TreeArray;
 use crate::word_array::WordArray;
 use judy_leaf::ValueWords;
-use std::alloc::AllocError;
+use std::alloc::{AllocError, Global};
 
 /// An array that maps words to words: each key from 0 to 2^64 - 1 has at most one value, a word too.
 /// It holds at most as many keys as its limit (limit: this project's own).
@@ -26,6 +27,18 @@ use std::alloc::AllocError;
 pub type JudyL = WordArray<ValueWords<1>>;
 
 impl JudyL {
+    /// The map of one key with its value, with the limit 2^64 - 1, which memory ends before. It asks for no memory. (This project's own: the
+    /// first key of a map that is made, without a search.)
+    pub fn of_one(alloc: Global, i: u64, value: u64) -> JudyL
+        ensures put { array_of result
+            ≡ array.with_map (array_of (no_keys u64.MAX)) (array.write map.empty i value) }
+        ensures tight { result.loose ≡ false }
+    {
+        WordArray {
+            tree: TreeArray::of_one(alloc, u64::MAX, i, value),
+        }
+    }
+
     /// The slot of the key `i`, which is put in with the value 0 where it is absent; a key that is there
     /// keeps its value, and is never refused. What the caller leaves in the slot is then the key's value; of a key that was there
     /// nothing else changes, the nodes neither. (Manual: JLI, JudyLIns.)

@@ -13,15 +13,18 @@ use Rattle.judy_sl.proofs.lemmas.scans.ScanWays.{scan_start, scan_moved, scan_le
 use Rattle.judy_sl.proofs.arena.Arena.last_turn.Goals as goal
 
 pub loop-rest-init : goal.loop-rest-init
-loop-rest-init c = scan_start c.args.look (world_of c.args.self.now) c.args.key.now c.args.self.now.root.map refl (text_from_bytes c.args.key.now c.type_inv.key c.requires.without_zero)
+loop-rest-init c = record {
+  on = scan_start c.args.look (world_of c.args.self.now) c.args.key.now c.args.self.now.root.map refl (text_from_bytes c.args.key.now c.type_inv.key c.requires.without_zero);
+  piece = c.fresh_piece-piece.ensures;
+}
 
 pub returns-then-apart-clause-is_turn : goal.returns-then-apart-clause-is_turn
 returns-then-apart-clause-is_turn c =
     let words = c.loop-rest.level.now.map in
-    let on = c.loop-rest.invariant in
-    let from = subst (λ p. IsNearestEntry c.args.look.side true words p (piece_in c.from.result)) c.first_piece-piece.ensures c.from.ensures.nearest in
+    let on = c.loop-rest.invariant.on in
+    let from = subst (λ p. IsNearestEntry c.args.look.side true words p (piece_in c.from.result)) c.loop-rest.invariant.piece c.from.ensures.nearest in
     let nearest = subst (λ found. IsNearestEntry c.args.look.side true words (piece_of c.loop-rest.rest.now) (piece_in found)) c.in-Some.is from in
-    let apart : c.in-Some.entry.0 ≢ piece_of c.loop-rest.rest.now = (λ e. c.if-apart.true (e ∙ sym c.first_piece-piece.ensures)) in
+    let apart : c.in-Some.entry.0 ≢ piece_of c.loop-rest.rest.now = (λ e. c.if-apart.true (e ∙ sym c.loop-rest.invariant.piece)) in
     let beyond = apart-beyond words (piece_of c.loop-rest.rest.now) c.in-Some.entry.0 apart c.args.look.side nearest in
     let absent = apart-absent words (piece_of c.loop-rest.rest.now) c.in-Some.entry.0 apart c.args.look.side nearest in
     let none = none_absent c.args.look (world_of c.args.self.now) (seat_in c.loop-rest.child) words on.is_level (piece_of c.loop-rest.rest.now) (pieces (drop 8 c.loop-rest.rest.now)) absent in
@@ -30,40 +33,43 @@ returns-then-apart-clause-is_turn c =
 pub child-requires : goal.child-requires
 child-requires c =
     let words = c.loop-rest.level.now.map in
-    let on = c.loop-rest.invariant in
+    let on = c.loop-rest.invariant.on in
     let held = subst (IsEntryOf words) c.in-Some.is c.from.ensures.value in
-    let entry = ap (get words) (sym c.first_piece-piece.ensures ∙ sym c.if-apart.false) ∙ held in
+    let entry = ap (get words) (sym c.loop-rest.invariant.piece ∙ sym c.if-apart.false) ∙ held in
     taken_of c.args.self.now c.in-Some.entry.1 ((c.requires.is_arena.is_world.levels (seat_in c.loop-rest.child) words on.is_level).leads (piece_of c.loop-rest.rest.now) c.in-Some.entry.1 entry (piece-IsInner c.loop-rest.rest.now on.text c.loop-rest-test.true)).1
 
 pub meets-met-requires : goal.meets-met-requires
-meets-met-requires c = rw take_rest (text-drop 8 c.loop-rest.rest.now c.loop-rest.invariant.text)
+meets-met-requires c = rw take_rest (text-drop 8 c.loop-rest.rest.now c.loop-rest.invariant.on.text)
 
 pub loop-rest-preserved : goal.loop-rest-preserved
 loop-rest-preserved c =
     let words = c.loop-rest.level.now.map in
     let held = subst (IsEntryOf words) c.in-Some.is c.from.ensures.value in
-    let entry = ap (get words) (sym c.first_piece-piece.ensures ∙ sym c.if-apart.false) ∙ held in
+    let entry = ap (get words) (sym c.loop-rest.invariant.piece ∙ sym c.if-apart.false) ∙ held in
     let child = c.in-Level.ensures in
-    rw take_rest (scan_moved c.args.look (world_of c.args.self.now) c.args.key.now c.loop-rest.child words c.loop-rest.rest.now c.loop-rest.invariant c.loop-rest-test.true c.in-Some.entry.1 c.in-Level.next.now.map entry (ap node_of child))
+    record {
+      on = rw take_rest (scan_moved c.args.look (world_of c.args.self.now) c.args.key.now c.loop-rest.child words c.loop-rest.rest.now c.loop-rest.invariant.on c.loop-rest-test.true c.in-Some.entry.1 c.in-Level.next.now.map entry (ap node_of child));
+      piece = c.first_piece-piece.ensures;
+    }
 
 pub returns-then-met-clause-is_turn : goal.returns-then-met-clause-is_turn
 returns-then-met-clause-is_turn c =
-    let entry = ap (get c.loop-rest.level.now.map) (sym c.first_piece-piece.ensures ∙ sym c.if-apart.false) ∙ subst (IsEntryOf c.loop-rest.level.now.map) c.in-Some.is c.from.ensures.value in
-    let met = met_along c.args.look (world_of c.args.self.now) c.loop-rest.rest.now c.in-Tail.tail.0 c.loop-rest.invariant.text (subst HasText c.in-Tail.ensures (c.requires.is_arena.texts c.in-Some.entry.1)) c.meets-met.ensures in
-    rw (c.nearer-then-met.ensures, c.if-apart.false ∙ c.first_piece-piece.ensures) (scan_tail c.args.look (world_of c.args.self.now) c.args.key.now c.loop-rest.child c.loop-rest.level.now.map c.loop-rest.rest.now c.loop-rest.invariant c.loop-rest-test.true c.in-Some.entry.1 c.in-Tail.tail.1 (pieces c.in-Tail.tail.0) entry (ap node_of c.in-Tail.ensures) (met ∙ c.if-met.true))
+    let entry = ap (get c.loop-rest.level.now.map) (sym c.loop-rest.invariant.piece ∙ sym c.if-apart.false) ∙ subst (IsEntryOf c.loop-rest.level.now.map) c.in-Some.is c.from.ensures.value in
+    let met = met_along c.args.look (world_of c.args.self.now) c.loop-rest.rest.now c.in-Tail.tail.0 c.loop-rest.invariant.on.text (subst HasText c.in-Tail.ensures (c.requires.is_arena.texts c.in-Some.entry.1)) c.meets-met.ensures in
+    rw (c.nearer-then-met.ensures, c.if-apart.false ∙ c.loop-rest.invariant.piece) (scan_tail c.args.look (world_of c.args.self.now) c.args.key.now c.loop-rest.child c.loop-rest.level.now.map c.loop-rest.rest.now c.loop-rest.invariant.on c.loop-rest-test.true c.in-Some.entry.1 c.in-Tail.tail.1 (pieces c.in-Tail.tail.0) entry (ap node_of c.in-Tail.ensures) (met ∙ c.if-met.true))
 
 pub returns-else-met-clause-is_turn : goal.returns-else-met-clause-is_turn
 returns-else-met-clause-is_turn c =
     let words = c.loop-rest.level.now.map in
-    let on = c.loop-rest.invariant in
-    let entry = ap (get words) (sym c.first_piece-piece.ensures ∙ sym c.if-apart.false) ∙ subst (IsEntryOf words) c.in-Some.is c.from.ensures.value in
+    let on = c.loop-rest.invariant.on in
+    let entry = ap (get words) (sym c.loop-rest.invariant.piece ∙ sym c.if-apart.false) ∙ subst (IsEntryOf words) c.in-Some.is c.from.ensures.value in
     let met = met_along c.args.look (world_of c.args.self.now) c.loop-rest.rest.now c.in-Tail.tail.0 on.text (subst HasText c.in-Tail.ensures (c.requires.is_arena.texts c.in-Some.entry.1)) c.meets-met.ensures in
-    let nearest = subst (λ p. IsNearestEntry c.args.look.side false words p (piece_in c.beyond.result)) c.first_piece-piece.ensures c.beyond.ensures.nearest in
+    let nearest = subst (λ p. IsNearestEntry c.args.look.side false words p (piece_in c.beyond.result)) c.loop-rest.invariant.piece c.beyond.ensures.nearest in
     let none = none_child c.args.look (world_of c.args.self.now) (seat_in c.loop-rest.child) words on.is_level (piece_of c.loop-rest.rest.now) c.in-Some.entry.1 (pieces (drop 8 c.loop-rest.rest.now)) entry (piece-IsInner c.loop-rest.rest.now on.text c.loop-rest-test.true) (none_tail c.args.look (world_of c.args.self.now) (suc c.in-Some.entry.1) (pieces (drop 8 c.loop-rest.rest.now)) (pieces c.in-Tail.tail.0) c.in-Tail.tail.1 (ap node_of c.in-Tail.ensures) (met ∙ c.if-met.false)) in
     rw c.nearer-else-met.ensures (scan_left c.args.look (world_of c.args.self.now) c.args.key.now c.loop-rest.child words c.loop-rest.rest.now on c.loop-rest-test.true c.beyond.result nearest c.beyond.ensures.value none)
 
 pub returns-clause-is_turn : goal.returns-clause-is_turn
 returns-clause-is_turn c =
     let words = c.loop-rest.level.now.map in
-    let nearest = subst (λ p. IsNearestEntry c.args.look.side c.args.look.itself words p (piece_in c.last_entry.result)) c.first_piece.ensures c.last_entry.ensures.nearest in
-    rw c.nearer-2.ensures (scan_last c.args.look (world_of c.args.self.now) c.args.key.now c.loop-rest.child words c.loop-rest.rest.now c.loop-rest.invariant c.last_entry.result (omega arith) nearest c.last_entry.ensures.value)
+    let nearest = subst (λ p. IsNearestEntry c.args.look.side c.args.look.itself words p (piece_in c.last_entry.result)) c.loop-rest.invariant.piece c.last_entry.ensures.nearest in
+    rw c.nearer-2.ensures (scan_last c.args.look (world_of c.args.self.now) c.args.key.now c.loop-rest.child words c.loop-rest.rest.now c.loop-rest.invariant.on c.last_entry.result (omega arith) nearest c.last_entry.ensures.value)
