@@ -1,5 +1,5 @@
 -- What a handle of words that holds no array stands for.
-use Rattle.std.proofs.Common.{◌≡◌, ℕ, ◌-◌, ◌==◌, Bool, true, false, cond, [], slice_get, refl, sym, ap, ◌∙◌, Option, None}
+use Rattle.std.proofs.Common.{◌≡◌, ℕ, ◌-◌, ◌==◌, Bool, true, false, cond, [], slice_get, refl, sym, ap, ◌∙◌, Option, None, Some}
 use Rattle.std.specs.Prelude.{IsFalse, is_some}
 use Rattle.std.specs.FinMap as map
 use Rattle.std.specs.FinMap.{get-empty, len-empty, nat_cmp-IsAntisymmetric}
@@ -67,3 +67,8 @@ null_has_none o key is = ap (λ (n : Option WordArray). map.contains_key (array_
 -- nor a value
 pub null_has_no_value : (o : Option WordArray) (key : ℕ) → o ≡ None → map.get (array_of o).map key ≡ None
 null_has_no_value o key is = ap (λ (n : Option WordArray). map.get (array_of n).map key) is ∙ get-empty word_order key
+
+-- Where a handle held none and came to hold the empty array with a change, it stands for what it stood for with that change.
+pub changed_first : (change : map.FinMap word_order ℕ → map.FinMap word_order ℕ) (before after : Option WordArray) (made : WordArray) → before ≡ None → after ≡ Some made → made.map ≡ change map.empty → (array_of after).map ≡ change (array_of before).map
+changed_first change before after made none some is =
+    ap (λ (o : Option WordArray). (array_of o).map) some ∙ is ∙ ap (λ (o : Option WordArray). change (array_of o).map) (sym none)
