@@ -151,6 +151,12 @@ own-only key_length chains place (held value text) key none is some = own-alone 
 abbrev pub long_of : ArrayOf word_order → ℕ → BTreeMap ℕ Pairs → RecordList → Long
 long_of hashes key_length chains records = record { key_length = key_length; hashes = hashes; chains = all_pairs key_length chains records }
 
+-- Where keys stand in a group, as it is seen, a record does.
+pub seen-held : (key_length : ℕ) (chains : BTreeMap ℕ Pairs) (records : RecordList) (place : ℕ) {hashes : ArrayOf word_order} {long : Long}
+    → long_of hashes key_length chains records ≡ long → get_or long.chains place [] ≢ [] → IsHeld (spot_at records place)
+seen-held key_length chains records place seen used =
+    used-is key_length chains records place (subst (λ (long : Long). get_or long.chains place [] ≢ []) (sym seen) used)
+
 -- ---- a change at one place
 
 module _ (key_length : ℕ) (chains after : BTreeMap ℕ Pairs) (records : RecordList) (place : ℕ) (within : place < length records.spots) (spot : Spot) (same : (at : ℕ) → at ≢ place → others_at after at ≡ others_at chains at) where

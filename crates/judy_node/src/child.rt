@@ -116,6 +116,14 @@ impl<V: Words + Drop> ChildOf<V> {
         }
     }
 
+    // The same by a call.
+    #[inline(never)]
+    pub(crate) fn pop_called(&self) -> u64
+        ensures { result ≡ length self.now.pairs }
+    {
+        self.pop()
+    }
+
     /// Enters the node, whose keys have `width` bytes: one visit more on the meter, which stands below `u64::MAX`.
     #[inline(always)]
     pub fn enter(&self, width: u8, meter: &mut Meter) -> ViewOf<'_, V>

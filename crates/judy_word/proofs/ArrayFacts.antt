@@ -1,4 +1,4 @@
--- Arrays over a tree as arrays of the model: the empty one, and one with a value written through a slot.
+-- Arrays over a tree as arrays of the model: the empty one, one of one pair, and one with a value written through a slot.
 use Rattle.std.proofs.Common.{◌≡◌, ℕ, ◌<◌, ◌^◌, [], ◌∷◌, Bool, true, false, not, Option, Some, None, Result, Ok, Err, IfOk, is_some, unwrap_or, option_and_then, MutBor, refl, sym, ap, ◌∙◌, arith}
 use Rattle.std.specs.Cmp.{nat_cmp_total}
 use Rattle.std.specs.Option.{option_copied_mut, ghost_name_of}

@@ -1,12 +1,11 @@
-use Rattle.std.proofs.Common.{◌≡◌, ◌≢◌, ◌∷◌, ◌++◌, List, ℕ, [], Option, unwrap_or, Result, Ok, Err, OnOk, sym, ap, subst, ◌∙◌}
+use Rattle.std.proofs.Common.{◌≡◌, ◌∷◌, ◌++◌, List, ℕ, [], Option, unwrap_or, Result, Ok, Err, OnOk, sym, ap, ◌∙◌}
 use Rattle.std.proofs.lemmas.List.{append_assoc}
 use Rattle.judy_records.specs.Spots.{spot_at, value_of, text_of}
 use Rattle.judy_records.specs.Texts.{bytes_in}
 use Rattle.judy_hs.specs.Chains.{Pairs}
-use Rattle.judy_hs.specs.LongGroups.{Long, chain_at}
 use Rattle.judy_hs.specs.LongRecords.{others_at}
 use Rattle.judy_hs.specs.Listed.{entries_in}
-use Rattle.judy_hs.proofs.LongLemmas.{used-is, at-held}
+use Rattle.judy_hs.proofs.LongLemmas.{seen-held, at-held}
 use Rattle.judy_hs.proofs.WalkLemmas.{listed_more}
 use Rattle.judy_hs.proofs.long_group.LongGroup.list_place.Goals as goal
 
@@ -20,14 +19,14 @@ two-listed before now after key value others all one more is =
     more ∙ ap (λ (pairs : Pairs). pairs ++ others) one ∙ append_assoc before ((key, value) ∷ []) others ∙ ap (λ (pairs : Pairs). before ++ pairs) (sym is)
 
 pub bytes-requires : goal.bytes-requires
-bytes-requires c = used-is c.self.inside.key_length c.self.inside.chains c.self.inside.records c.args.place (subst (λ (long : Long). chain_at long c.args.place ≢ []) (sym c.self.view_is) c.requires)
+bytes-requires c = seen-held c.self.inside.key_length c.self.inside.chains c.self.inside.records c.args.place c.self.view_is c.requires
 
 pub value-requires : goal.value-requires
-value-requires c = used-is c.self.inside.key_length c.self.inside.chains c.self.inside.records c.args.place (subst (λ (long : Long). chain_at long c.args.place ≢ []) (sym c.self.view_is) c.requires)
+value-requires c = seen-held c.self.inside.key_length c.self.inside.chains c.self.inside.records c.args.place c.self.view_is c.requires
 
 pub returns-in-Some : goal.returns-in-Some
 returns-in-Some c =
-    let is = used-is c.self.inside.key_length c.self.inside.chains c.self.inside.records c.args.place (subst (λ (long : Long). chain_at long c.args.place ≢ []) (sym c.self.view_is) c.requires) in
+    let is = seen-held c.self.inside.key_length c.self.inside.chains c.self.inside.records c.args.place c.self.view_is c.requires in
     let spot = spot_at c.self.inside.records c.args.place in
     let others = ap (λ (found : Option Pairs). unwrap_or found []) c.in-Some.ensures.value in
     let own : ◌≡◌ {A = List ℕ × ℕ} (c.in_ok-key.key.items, c.value.result) (bytes_in c.self.inside.key_length (text_of spot), value_of spot) = (λ t. (c.in_ok-key.ensures t, c.value.ensures t)) in
@@ -39,7 +38,7 @@ returns-in-Some c =
 
 pub returns-in-None : goal.returns-in-None
 returns-in-None c =
-    let is = used-is c.self.inside.key_length c.self.inside.chains c.self.inside.records c.args.place (subst (λ (long : Long). chain_at long c.args.place ≢ []) (sym c.self.view_is) c.requires) in
+    let is = seen-held c.self.inside.key_length c.self.inside.chains c.self.inside.records c.args.place c.self.view_is c.requires in
     let spot = spot_at c.self.inside.records c.args.place in
     let others = ap (λ (found : Option Pairs). unwrap_or found []) c.in-None.ensures.value in
     let own : ◌≡◌ {A = List ℕ × ℕ} (c.in_ok-key.key.items, c.value.result) (bytes_in c.self.inside.key_length (text_of spot), value_of spot) = (λ t. (c.in_ok-key.ensures t, c.value.ensures t)) in
