@@ -10,6 +10,9 @@
 
 /* ---- measuring ---- */
 
+/* From so many keys on ranks and n-th keys are measured in the first turn alone: one of libJudy's takes microseconds. */
+enum { MANY = 100000 };
+
 /* One library's array: `A` is its variable, the other words are statements over it and a key `k`, or expressions. A library
  * without rank and select has 0 for `ORDERED`. `BULK_PUT` puts all keys in by ascending order. */
 #define MEASURE(NAME, A_TYPE, A_INIT, A_END, PUT, FIND, NEXT_KEY, ORDERED, COUNT_BELOW, NTH, TAKE, BULK_PUT) \
@@ -25,7 +28,7 @@
         for (word k = 0; NEXT_KEY;) found += k; \
         took(told, WALK, begin, keys->n); \
         EACH(NEXT, word k = keys->order[i] ^ i % 16; if (NEXT_KEY) found += k); \
-        if (ORDERED) { \
+        if (ORDERED && (keys->n < MANY || told[RANK] < 0)) { \
             EACH(RANK, word k = keys->order[i]; (void)k; found += COUNT_BELOW); \
             EACH(SELECT, word k = keys->order[i] % keys->n + 1; if (NTH) found += k); \
         } \

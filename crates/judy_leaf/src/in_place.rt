@@ -76,8 +76,7 @@ fn give_roomy<V: Words + Drop>(
     if block.capacity() >= needed {
         return Ok(());
     }
-    let capacity = roomy_for::<V>(width, count, needed);
-    pairs::give_room(block, alloc, needed, capacity)
+    pairs::grow(block, alloc, roomy_for::<V>(width, count, needed))
 }
 
 // The capacity of a block that outgrew its own, for so many keys that need so many words. Keys of eight bytes stand in a root alone.

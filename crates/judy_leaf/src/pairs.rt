@@ -32,7 +32,7 @@ pub(crate) fn give_room(
 }
 
 // Puts a block of a larger capacity in the place of a block, with its words and its tag. It stands apart, since most keys find room.
-fn grow(block: &mut Block, alloc: Global, capacity: usize) -> Result<(), AllocError>
+pub(crate) fn grow(block: &mut Block, alloc: Global, capacity: usize) -> Result<(), AllocError>
     requires fits { length block.old.words ≤ capacity }
     requires within { (1 ≤ capacity) × (capacity ≤ 65535) }
     ensures room { OnOk result (HasRoom capacity block.old block.new) }

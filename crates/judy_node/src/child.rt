@@ -116,9 +116,24 @@ impl<V: Words + Drop> ChildOf<V> {
         }
     }
 
+    // The same, asked whether it is a leaf, then whether it is a branch. A match over the kinds is a jump through a table, one more to
+    // foresee for each key that comes in.
+    #[inline(always)]
+    pub(crate) fn pop_in_turn(&self) -> u64
+        ensures { result ≡ length self.now.pairs }
+    {
+        if let KindOf::Leaf(_, _) = self.kind() {
+            return self.pop();
+        }
+        if let KindOf::Branch(branch) = self.kind() {
+            return branch.population;
+        }
+        self.pop_called()
+    }
+
     // The same by a call.
     #[inline(never)]
-    pub(crate) fn pop_called(&self) -> u64
+    fn pop_called(&self) -> u64
         ensures { result ≡ length self.now.pairs }
     {
         self.pop()

@@ -8,7 +8,7 @@ ghost use Rattle.judy_node.specs.ShapeSums.{shape_as};
 ghost use Rattle.judy_model.specs.Forms.{shape_in};
 
 use crate::build::kind_of_sorted;
-use crate::child::{ChildOf, KindOf};
+use crate::child::ChildOf;
 use crate::shape::Shape;
 use crate::view::ViewOf;
 use judy_bits::Meter;
@@ -73,7 +73,6 @@ impl<V: Words + Drop> NodeOf<V> {
     }
 
     /// How many keys there are. No node is entered.
-    // A leaf is asked at once: a jump by the kind would be one more to foresee for each key that comes into a small array.
     #[inline(always)]
     pub fn pop(&self) -> u64
         ensures { result ≡ length self.now.pairs }
@@ -81,10 +80,7 @@ impl<V: Words + Drop> NodeOf<V> {
         match &self.place.kind {
             RootOf::Empty => 0,
             RootOf::One(_, _) => 1,
-            RootOf::Many(child) => match child.kind() {
-                KindOf::Leaf(_, _) => child.pop(),
-                _ => child.pop_called(),
-            },
+            RootOf::Many(child) => child.pop_in_turn(),
         }
     }
 

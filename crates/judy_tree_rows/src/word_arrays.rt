@@ -192,6 +192,27 @@ fn unbounded_takes_more(rt: HostRuntime) -> Result<(), Fail> {
     Ok(())
 }
 
+// The largest word and the largest value, and 0: an array that is made with its first key takes others as any does.
+#[test]
+fn made_with_the_first_key(rt: HostRuntime) -> Result<(), Fail> {
+    let mut pairs = JudyL::of_one(rt.alloc(), u64::MAX, u64::MAX);
+    same(&rt, pairs.len(), 1, 0);
+    same(&rt, pairs.limit(), u64::MAX, 0);
+    check_value(&rt, &pairs, u64::MAX, Some(u64::MAX));
+    check_value(&rt, &pairs, 0, None);
+    put_in(&rt, pairs.put(u64::MAX, 5), false);
+    put_in(&rt, pairs.put(0, 7), true);
+    check_value(&rt, &pairs, u64::MAX, Some(5));
+    let mut set = Judy1::of_one(rt.alloc(), 0);
+    same_number(&rt, set.first(0), Some(0), 0);
+    same(&rt, set.limit(), u64::MAX, 0);
+    set_key(&rt, &mut set, u64::MAX);
+    same(&rt, set.count(0, u64::MAX), 2, 0);
+    yes(&rt, set.unset(0));
+    same_number(&rt, set.first(0), Some(u64::MAX), 0);
+    Ok(())
+}
+
 #[test]
 fn edge_word(rt: HostRuntime) -> Result<(), Fail> {
     let mut set = Judy1::new(rt.alloc(), 1000);

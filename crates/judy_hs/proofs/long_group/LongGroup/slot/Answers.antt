@@ -7,13 +7,13 @@ use Rattle.judy_records.specs.Texts.{bytes_in}
 use Rattle.judy_hs.specs.Chains.{Pairs, value_in, with_value}
 use Rattle.judy_hs.specs.LongGroups.{Long, chain_at}
 use Rattle.judy_hs.proofs.ChainLemmas.{some_used}
-use Rattle.judy_hs.proofs.LongLemmas.{pairs-at, used-is, long_of}
+use Rattle.judy_hs.proofs.LongLemmas.{pairs-at, seen-held, long_of}
 use Rattle.judy_hs.proofs.LongChanges.{own-value, other-value, value-kept, value-written, other-kept, other-written, beside-same}
 use Rattle.judy_hs.proofs.SharedLemmas.{through-here, through-there, same-each}
 use Rattle.judy_hs.proofs.long_group.LongGroup.slot.Goals as goal
 
 pub is_own-requires-clause-held : goal.is_own-requires-clause-held
-is_own-requires-clause-held c = used-is c.self.inside.key_length c.self.inside.chains c.self.inside.records c.args.place (some_used _ c.args.key.now (subst (λ (long : Long). IsSome (value_in (chain_at long c.args.place) c.args.key.now)) (sym c.self.view_is) c.requires.is_there))
+is_own-requires-clause-held c = seen-held c.self.inside.key_length c.self.inside.chains c.self.inside.records c.args.place c.self.view_is (some_used _ c.args.key.now c.requires.is_there)
 
 pub is_own-requires-clause-there : goal.is_own-requires-clause-there
 is_own-requires-clause-there c =
@@ -21,16 +21,16 @@ is_own-requires-clause-there c =
     (subst (λ (long : Long). IsSome (value_in (chain_at long c.args.place) c.args.key.now)) (sym c.self.view_is) c.requires.is_there)
 
 pub slot-requires : goal.slot-requires
-slot-requires c = used-is c.self.inside.key_length c.self.inside.chains c.self.inside.records c.args.place (some_used _ c.args.key.now (subst (λ (long : Long). IsSome (value_in (chain_at long c.args.place) c.args.key.now)) (sym c.self.view_is) c.requires.is_there))
+slot-requires c = seen-held c.self.inside.key_length c.self.inside.chains c.self.inside.records c.args.place c.self.view_is (some_used _ c.args.key.now c.requires.is_there)
 
 pub invariant_of-self-lent : goal.invariant_of-self-lent
 invariant_of-self-lent c =
-    let is = used-is c.self.inside.key_length c.self.inside.chains c.self.inside.records c.args.place (some_used _ c.args.key.now (subst (λ (long : Long). IsSome (value_in (chain_at long c.args.place) c.args.key.now)) (sym c.self.view_is) c.requires.is_there)) in
+    let is = seen-held c.self.inside.key_length c.self.inside.chains c.self.inside.records c.args.place c.self.view_is (some_used _ c.args.key.now c.requires.is_there) in
     λ w. value-kept c.self.inside.hashes c.self.inside.key_length c.self.inside.chains c.self.inside.records c.self.invariant c.args.place is c.args.key.now (c.if-is_own.ensures.0 refl) w
 
 pub returns-then-is_own : goal.returns-then-is_own
 returns-then-is_own c =
-    let is = used-is c.self.inside.key_length c.self.inside.chains c.self.inside.records c.args.place (some_used _ c.args.key.now (subst (λ (long : Long). IsSome (value_in (chain_at long c.args.place) c.args.key.now)) (sym c.self.view_is) c.requires.is_there)) in
+    let is = seen-held c.self.inside.key_length c.self.inside.chains c.self.inside.records c.args.place c.self.view_is (some_used _ c.args.key.now c.requires.is_there) in
     let own = c.if-is_own.ensures.0 refl in
     rw (← c.self.view_is) (
       λ t. inl (c.slot.result.ghost_name, λ w. value-written c.self.inside.hashes c.self.inside.key_length c.self.inside.chains c.self.inside.records c.self.invariant c.args.place is c.args.key.now own w t),
@@ -42,7 +42,7 @@ returns-then-is_own c =
 
 pub invariant_of-self-lent-in-Some : goal.invariant_of-self-lent-in-Some
 invariant_of-self-lent-in-Some c _ =
-    let is = used-is c.self.inside.key_length c.self.inside.chains c.self.inside.records c.args.place (some_used _ c.args.key.now (subst (λ (long : Long). IsSome (value_in (chain_at long c.args.place) c.args.key.now)) (sym c.self.view_is) c.requires.is_there)) in
+    let is = seen-held c.self.inside.key_length c.self.inside.chains c.self.inside.records c.args.place c.self.view_is (some_used _ c.args.key.now c.requires.is_there) in
     let apart : bytes_in c.self.inside.key_length (text_of (spot_at c.self.inside.records c.args.place)) ≢ c.args.key.now = (λ same. false≢true (c.if-is_own.ensures.1 same)) in
     let led = c.in-Some.ensures.value in
     let others = ap (λ (found : Option Pairs). unwrap_or found []) led in (
@@ -57,7 +57,7 @@ invariant_of-self-lent-in-Some c _ =
 
 pub returns-in-Some : goal.returns-in-Some
 returns-in-Some c =
-    let is = used-is c.self.inside.key_length c.self.inside.chains c.self.inside.records c.args.place (some_used _ c.args.key.now (subst (λ (long : Long). IsSome (value_in (chain_at long c.args.place) c.args.key.now)) (sym c.self.view_is) c.requires.is_there)) in
+    let is = seen-held c.self.inside.key_length c.self.inside.chains c.self.inside.records c.args.place c.self.view_is (some_used _ c.args.key.now c.requires.is_there) in
     let apart : bytes_in c.self.inside.key_length (text_of (spot_at c.self.inside.records c.args.place)) ≢ c.args.key.now = (λ same. false≢true (c.if-is_own.ensures.1 same)) in
     let led = c.in-Some.ensures.value in
     let others = ap (λ (found : Option Pairs). unwrap_or found []) led in
@@ -77,7 +77,7 @@ returns-in-Some c =
 
 pub returns-in-None : goal.returns-in-None
 returns-in-None c =
-    let is = used-is c.self.inside.key_length c.self.inside.chains c.self.inside.records c.args.place (some_used _ c.args.key.now (subst (λ (long : Long). IsSome (value_in (chain_at long c.args.place) c.args.key.now)) (sym c.self.view_is) c.requires.is_there)) in
+    let is = seen-held c.self.inside.key_length c.self.inside.chains c.self.inside.records c.args.place c.self.view_is (some_used _ c.args.key.now c.requires.is_there) in
     let apart : bytes_in c.self.inside.key_length (text_of (spot_at c.self.inside.records c.args.place)) ≢ c.args.key.now = (λ same. false≢true (c.if-is_own.ensures.1 same)) in
     let others = ap (λ (found : Option Pairs). unwrap_or found []) c.in-None.ensures.value in
     rw (← c.self.view_is) (
