@@ -12,8 +12,8 @@ use crate::handles::Handle;
 use crate::map::Map;
 use crate::set::Set;
 use crate::walks::Pair;
-use judy_word::{Judy1, JudyL, Keyed, SortedError, check_sorted};
-use std::alloc::{AllocError, Global};
+use judy_word::{Judy1, JudyL, Keyed, SortedError};
+use std::alloc::Global;
 
 // How many keys an array of C may hold: more than any list has.
 const MOST_KEYS: u64 = u64::MAX;
@@ -24,8 +24,14 @@ pub(crate) const MADE: u32 = 1;
 impl Keyed for Pair {
     ghost key_of = { λ pair. pair.key };
 
+    ghost value_of = { λ pair. pair.value };
+
     fn key(&self) -> u64 {
         self.key
+    }
+
+    fn value(&self) -> u64 {
+        self.value
     }
 }
 
@@ -105,28 +111,9 @@ fn map_of_sorted(alloc: Global, pairs: &[Pair]) -> Result<BoxParts<JudyL, Global
     ensures made { IfOk result (λ boxed. finmap.entries boxed.value.map ≡ entries_of pairs.now) }
     ensures refused { IfErr result (IsFault most_keys (keys_in pairs.now)) }
 {
-    check_sorted(MOST_KEYS, pairs)?;
-    let Ok(entries) = entries_of(alloc, pairs) else {
-        return Err(SortedError::NoMemory);
-    };
-    let Ok(array) = JudyL::from_sorted(alloc, MOST_KEYS, &entries) else {
-        return Err(SortedError::NoMemory);
-    };
+    let array = JudyL::from_items(alloc, MOST_KEYS, pairs)?;
     let Ok(boxed) = Box::new(alloc, array) else {
         return Err(SortedError::NoMemory);
     };
     Ok(BoxParts::of(boxed))
-}
-
-// The keys with their values, as an array takes them.
-fn entries_of(alloc: Global, pairs: &[Pair]) -> Result<Vec<(u64, u64)>, AllocError>
-    ensures { IfOk result (λ entries. entries.items ≡ entries_of pairs.now) }
-{
-    let mut entries = Vec::with_capacity(alloc, pairs.len())?;
-    'pairs: for pair in pairs {
-        entries
-            .push((pair.key, pair.value))
-            .map_err(|_| AllocError)?;
-    }
-    Ok(entries)
 }

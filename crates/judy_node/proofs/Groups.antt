@@ -121,7 +121,7 @@ map-after words low unit byte (pair ∷ []) rest some any all apart map =
     map-next words (pair.0 % (unit * 256) + 1) unit byte rest some (omega arith) apart map.3
 map-after words low unit byte (pair ∷ other ∷ one) rest some any all apart map = map-after words (pair.0 % (unit * 256) + 1) unit byte (other ∷ one) rest some (omega arith) all.1 apart map.3
 
--- ---- sorted pairs of which the first and the last have one byte
+-- ---- sorted pairs of which the first and a later one have one byte
 
 -- A key of a map is no lower than the map's bound.
 map-at : (words low wide : ℕ) (pairs : Pairs) (at : ℕ) (d : ℕ × ℕ) → IsMap words low wide (low_pairs wide pairs) → at < length pairs → low ≤ (get_or pairs at d).0 % wide
@@ -155,39 +155,40 @@ byte_between unit byte key last some from within same =
     (cases_lt byte (middle unit 256 key)))
     (cases_lt (middle unit 256 key) byte)
 
-all_between : (words low unit byte : ℕ) (pairs : Pairs) (at : ℕ) (d : ℕ × ℕ) → 0 < unit → IsMap words low (256 * unit) (low_pairs (256 * unit) pairs) → at + 1 ≡ length pairs → byte * unit ≤ low
-    → middle unit 256 (get_or pairs at d).0 ≡ byte → AllMiddle unit 256 byte pairs
-all_between words low unit byte [] at d some map is from same = let never : ⊥ = omega arith in absurd never
-all_between words low unit byte (pair ∷ []) zero d some map is from same = (same, tt)
-all_between words low unit byte (pair ∷ []) (suc at) d some map is from same = let never : ⊥ = omega arith in absurd never
-all_between words low unit byte (pair ∷ other ∷ pairs) zero d some map is from same = let never : ⊥ = omega arith in absurd never
-all_between words low unit byte (pair ∷ other ∷ pairs) (suc at) d some map is from same =
-    let first = map.0 in
-    let last = map-at words (pair.0 % (256 * unit) + 1) (256 * unit) (other ∷ pairs) at d map.3 (omega arith) in (
-      byte_between unit byte pair.0 (get_or (other ∷ pairs) at d).0 some (omega arith) (omega arith) same,
-      all_between words (pair.0 % (256 * unit) + 1) unit byte (other ∷ pairs) at d some map.3 (omega arith) (omega arith) same,
-    )
+-- One pair more in front of pairs that share a byte.
+share_more : (unit byte : ℕ) (pair : ℕ × ℕ) (pairs : Pairs) (at : ℕ) → middle unit 256 pair.0 ≡ byte → sharing unit 256 byte pairs ≡ at + 1 + sharing unit 256 byte (drop (at + 1) pairs)
+    → sharing unit 256 byte (pair ∷ pairs) ≡ suc at + 1 + sharing unit 256 byte (drop (suc at + 1) (pair ∷ pairs))
+share_more unit byte pair pairs at here rest =
+    let one : sharing unit 256 byte (pair ∷ pairs) ≡ 1 + sharing unit 256 byte pairs = ap (λ b. cond b (1 + sharing unit 256 byte pairs) 0) (eq-eqb (middle unit 256 pair.0) byte here) in
+    let left : sharing unit 256 byte (drop (at + 1) pairs) ≡ sharing unit 256 byte (drop (suc at + 1) (pair ∷ pairs)) = ap (λ n. sharing unit 256 byte (drop n (pair ∷ pairs))) (let e : suc (at + 1) ≡ suc at + 1 = omega arith in e) in
+    omega arith
 
--- So all have the byte that the first and the last have.
-pub ends_share : (words unit byte : ℕ) (pairs : Pairs) (at : ℕ) (d : ℕ × ℕ) → 0 < unit → IsMap words 0 (256 * unit) (low_pairs (256 * unit) pairs) → at + 1 ≡ length pairs
-    → middle unit 256 (get_or pairs 0 d).0 ≡ byte → middle unit 256 (get_or pairs at d).0 ≡ byte → AllMiddle unit 256 byte pairs
-ends_share words unit byte [] at d some map is first last = let never : ⊥ = omega arith in absurd never
-ends_share words unit byte (pair ∷ []) at d some map is first last = (first, tt)
-ends_share words unit byte (pair ∷ other ∷ pairs) zero d some map is first last = let never : ⊥ = omega arith in absurd never
-ends_share words unit byte (pair ∷ other ∷ pairs) (suc at) d some map is first last =
-    let any : 0 < 256 = omega arith in
-    let here : pair.0 % (256 * unit) ≡ byte * unit + pair.0 % unit = mod-mul pair.0 any some ∙ ap (λ n. n * unit + pair.0 % unit) first in
-    (first, all_between words (pair.0 % (256 * unit) + 1) unit byte (other ∷ pairs) at d some map.3 (omega arith) (omega arith) last)
+share_one : (unit byte : ℕ) (pair : ℕ × ℕ) (pairs : Pairs) → middle unit 256 pair.0 ≡ byte → sharing unit 256 byte (pair ∷ pairs) ≡ 0 + 1 + sharing unit 256 byte (drop (0 + 1) (pair ∷ pairs))
+share_one unit byte pair pairs here = ap (λ b. cond b (1 + sharing unit 256 byte pairs) 0) (eq-eqb (middle unit 256 pair.0) byte here)
+
+between_share : (words low unit byte : ℕ) (pairs : Pairs) (at : ℕ) (d : ℕ × ℕ) → 0 < unit → IsMap words low (256 * unit) (low_pairs (256 * unit) pairs) → byte * unit ≤ low → at < length pairs
+    → middle unit 256 (get_or pairs at d).0 ≡ byte → sharing unit 256 byte pairs ≡ at + 1 + sharing unit 256 byte (drop (at + 1) pairs)
+between_share words low unit byte [] at d some map from within same = let never : ⊥ = omega arith in absurd never
+between_share words low unit byte (pair ∷ pairs) zero d some map from within same = share_one unit byte pair pairs same
+between_share words low unit byte (pair ∷ pairs) (suc at) d some map from within same =
+    let first = map.0 in
+    let last = map-at words (pair.0 % (256 * unit) + 1) (256 * unit) pairs at d map.3 (omega arith) in
+    share_more unit byte pair pairs at (byte_between unit byte pair.0 (get_or pairs at d).0 some (omega arith) (omega arith) same)
+    (between_share words (pair.0 % (256 * unit) + 1) unit byte pairs at d some map.3 (omega arith) (omega arith) same)
+
+-- So all have the byte up to the one that has it as the first does.
+pub front_share : (words low unit byte : ℕ) (pairs : Pairs) (at : ℕ) (d : ℕ × ℕ) → 0 < unit → IsMap words low (256 * unit) (low_pairs (256 * unit) pairs) → at < length pairs
+    → middle unit 256 (get_or pairs 0 d).0 ≡ byte → middle unit 256 (get_or pairs at d).0 ≡ byte → sharing unit 256 byte pairs ≡ at + 1 + sharing unit 256 byte (drop (at + 1) pairs)
+front_share words low unit byte [] at d some map within first same = let never : ⊥ = omega arith in absurd never
+front_share words low unit byte (pair ∷ pairs) zero d some map within first same = share_one unit byte pair pairs first
+front_share words low unit byte (pair ∷ pairs) (suc at) d some map within first same =
+    let here : pair.0 % (256 * unit) ≡ byte * unit + pair.0 % unit = mod-mul pair.0 (let any : 0 < 256 = omega arith in any) some ∙ ap (λ n. n * unit + pair.0 % unit) first in
+    share_more unit byte pair pairs at first (between_share words (pair.0 % (256 * unit) + 1) unit byte pairs at d some map.3 (omega arith) (omega arith) same)
 
 pub middle-at : (unit top head : ℕ) (pairs : Pairs) (at : ℕ) (d : ℕ × ℕ) → AllMiddle unit top head pairs → at < length pairs → middle unit top (get_or pairs at d).0 ≡ head
 middle-at unit top head [] at d all within = let never : ⊥ = omega arith in absurd never
 middle-at unit top head (pair ∷ pairs) zero d all within = all.0
 middle-at unit top head (pair ∷ pairs) (suc at) d all within = middle-at unit top head pairs at d all.1 (omega arith)
-
-pub sharing-all : (unit top head : ℕ) (pairs : Pairs) → AllMiddle unit top head pairs → sharing unit top head pairs ≡ length pairs
-sharing-all unit top head [] all = refl
-sharing-all unit top head (pair ∷ pairs) all =
-    ap (λ b. cond b (1 + sharing unit top head pairs) 0) (eq-eqb (middle unit top pair.0) head all.0) ∙ (let rest = sharing-all unit top head pairs all.1 in omega arith)
 
 -- ---- one child more, behind the others
 

@@ -20,7 +20,7 @@ use Rattle.judy_node.specs.Trees.{Pairs, Tree, IsMap, join, forms_in, IsChild, I
 use Rattle.judy_node.specs.Built.{middle, sharing, IsBuilt, AreMade}
 use Rattle.judy_node.proofs.Maps.{map-wider, map-AllBelow}
 use Rattle.judy_node.proofs.Shaped.{branch-child}
-use Rattle.judy_node.proofs.Groups.{AllMiddle, NotMiddle, sharing-within, sharing-front, sharing-rest, sharing-yes, sharing-all, middle-at, ends_share, length-low_pairs, low_pairs-append, low_pairs-shared, map-front, map-down, map-after, children-push, join-push, forms-push, below-push, below-wider}
+use Rattle.judy_node.proofs.Groups.{AllMiddle, NotMiddle, sharing-within, sharing-front, sharing-rest, sharing-yes, middle-at, front_share, length-low_pairs, low_pairs-append, low_pairs-shared, map-front, map-down, map-after, children-push, join-push, forms-push, below-push, below-wider}
 
 -- The unit above a byte.
 pub unit_above : (below : ℕ) → 256 ^ (below + 1) ≡ 256 ^ below * 256
@@ -148,18 +148,24 @@ made_built words below pairs rest bytes kids next more over low high many =
       tight = tight-head (branch [] bytes (length pairs)) (forms_in kids) (branch_tight [] bytes (length pairs) many two) made.tight;
     }
 
--- ---- pairs that all have one byte
+-- ---- pairs that have one byte
 
 all_share : (unit byte : ℕ) (pairs : Pairs) (end : ℕ) → end ≡ sharing unit 256 byte pairs → length pairs ≤ end → AllMiddle unit 256 byte pairs
 all_share unit byte pairs end is all = subst (AllMiddle unit 256 byte) (ap (λ n. take n pairs) (sym is) ∙ take_all end pairs all) (sharing-front unit 256 byte pairs)
 
--- Sorted pairs all have a byte where the first and the last have it.
+-- Sorted pairs have a byte up to one that has it as the first does.
+pub sharing_front : (words low below byte : ℕ) (pairs : Pairs) (at : ℕ) (d : ℕ × ℕ) → IsMap words low (256 ^ below * 256) (low_pairs (256 ^ below * 256) pairs) → at < length pairs
+    → middle (256 ^ below) 256 (get_or pairs 0 d).0 ≡ byte → middle (256 ^ below) 256 (get_or pairs at d).0 ≡ byte
+    → sharing (256 ^ below) 256 byte pairs ≡ at + 1 + sharing (256 ^ below) 256 byte (drop (at + 1) pairs)
+sharing_front words low below byte pairs at d map within first same =
+    front_share words low (256 ^ below) byte pairs at d (unit_pos below) (subst (λ n. IsMap words low n (low_pairs n pairs)) (mul_comm (256 ^ below) 256) map) within first same
+
+-- All have it where the last has it.
 pub sharing_ends : (words below byte : ℕ) (pairs : Pairs) (at : ℕ) (d : ℕ × ℕ) → IsMap words 0 (256 ^ (below + 1)) (low_pairs (256 ^ (below + 1)) pairs) → at + 1 ≡ length pairs
-    → middle (256 ^ below) 256 (get_or pairs 0 d).0 ≡ byte → middle (256 ^ below) 256 (get_or pairs at d).0 ≡ byte → sharing (256 ^ below) 256 byte pairs ≡ length pairs
+    → middle (256 ^ below) 256 (get_or pairs 0 d).0 ≡ byte → middle (256 ^ below) 256 (get_or pairs at d).0 ≡ byte → length pairs ≤ sharing (256 ^ below) 256 byte pairs
 sharing_ends words below byte pairs at d map is first last =
-    let unit = 256 ^ below in
-    let top : 256 ^ (below + 1) ≡ 256 * unit = unit_above below ∙ mul_comm unit 256 in
-    sharing-all unit 256 byte pairs (ends_share words unit byte pairs at d (unit_pos below) (subst (λ n. IsMap words 0 n (low_pairs n pairs)) top map) is first last)
+    let front = sharing_front words 0 below byte pairs at d (subst (λ n. IsMap words 0 n (low_pairs n pairs)) (unit_above below) map) (omega arith) first last in
+    omega arith
 
 pub sharing_apart : (unit byte : ℕ) (pairs : Pairs) (at : ℕ) (d : ℕ × ℕ) → at < length pairs → middle unit 256 (get_or pairs at d).0 ≢ byte → sharing unit 256 byte pairs < length pairs
 sharing_apart unit byte pairs at d within apart =

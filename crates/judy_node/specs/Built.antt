@@ -14,6 +14,10 @@ abbrev pub sharing : ℕ → ℕ → ℕ → Pairs → ℕ
 sharing unit top head [] = 0
 sharing unit top head (pair ∷ pairs) = if middle unit top pair.0 == head then 1 + sharing unit top head pairs else 0
 
+-- Pairs whose keys strictly ascend where they are read by their lowest bytes, so many and one above them.
+abbrev pub AreSorted : ℕ → ℕ → Pairs → Type 0
+AreSorted words below pairs = (low : ℕ) × IsMap words low (256 ^ below * 256) (low_pairs (256 ^ below * 256) pairs)
+
 -- A node made of pairs whose keys are read by their lowest bytes, as many as a width: it has these pairs, and it is tight.
 pub record IsBuilt (words width : ℕ) (pairs : Pairs) (tree : Tree) : Type 0 where
   pub child : IsChild words width tree

@@ -7,7 +7,7 @@ ghost use Rattle.judy_node.specs.Trees.{Tree, IsMap, IsChild, AreParts, branch_t
 ghost use Rattle.judy_node.specs.Branches.{IsWholeBranch, tree_below};
 ghost use Rattle.judy_node.specs.Kinds.{tree_of, IsLevel, IsDeep, behind};
 ghost use Rattle.judy_node.specs.Populations.{AreSums};
-ghost use Rattle.judy_node.specs.Built.{sharing, middle, IsBuilt, AreMade};
+ghost use Rattle.judy_node.specs.Built.{sharing, middle, AreSorted, IsBuilt, AreMade};
 
 use crate::child::{BranchOf, ChildOf, KindOf};
 use crate::head::Head;
@@ -25,14 +25,16 @@ fn byte_above(key: u64, below: u8) -> u8
     low_part(without_tail(key, usize::from(below)), 1) as u8
 }
 
-// How many bytes the keys of sorted pairs have there: so many children they will be. Where the byte changes from a key to the next can't be
-// foreseen, so the changes are added up without a branch.
-fn bytes_above(pairs: &[(u64, u64)], below: u8) -> usize
-    requires below { below ≤ 7 }
-    requires some { 0 < length pairs.now }
+// Pairs are passed by so many at once: where two of sorted pairs have one byte, all between them have it.
+const STRIDE: usize = 64;
+
+// How often the byte there changes from a key to the next, and from the byte before them to the first. Where it does can't be foreseen, so
+// the changes are added up without a branch.
+fn changes_above(pairs: &[(u64, u64)], below: u8, before: u8) -> usize
+    requires { below ≤ 7 }
 {
-    let mut count = 1usize;
-    let mut last = byte_above(pairs[0].0, below);
+    let mut count = 0usize;
+    let mut last = before;
     for pair in pairs {
         let byte = byte_above(pair.0, below);
         count = count.wrapping_add(usize::from(byte != last));
@@ -41,8 +43,64 @@ fn bytes_above(pairs: &[(u64, u64)], below: u8) -> usize
     count
 }
 
+// How many bytes the keys of sorted pairs have there: so many children they will be.
+fn bytes_above(pairs: &[(u64, u64)], below: u8) -> usize
+    requires below { below ≤ 7 }
+    requires some { 0 < length pairs.now }
+{
+    let mut count = 1usize;
+    let mut last = byte_above(pairs[0].0, below);
+    let mut rest = pairs;
+    'strides: while let Some((stride, after)) = rest.split_first_chunk::<STRIDE>() {
+        let end = byte_above(stride[STRIDE - 1].0, below);
+        let changes = if byte_above(stride[0].0, below) == end {
+            usize::from(end != last)
+        } else {
+            changes_above(stride, below, last)
+        };
+        count = count.wrapping_add(changes);
+        last = end;
+        rest = after;
+    }
+    count.wrapping_add(changes_above(rest, below, last))
+}
+
+// Whether the stride from a place on ends with a pair that has the byte there that the first of all has.
+fn stride_has<V: Words + Drop>(pairs: &[(u64, u64)], below: u8, byte: u8, at: usize) -> bool
+    requires below { below ≤ 7 }
+    requires first { byte ≡ middle (256 ^ below) 256 (slice_index_or pairs.now 0 (0, 0)).0 }
+    requires sorted { AreSorted V.WORDS below pairs.now }
+    requires within { at ≤ length pairs.now }
+    ensures within { IsTrue result → at + STRIDE ≤ length pairs.now }
+    ensures shared { IsTrue result → sharing (256 ^ below) 256 byte pairs.now
+        ≡ at + STRIDE + sharing (256 ^ below) 256 byte (drop (at + STRIDE) pairs.now) }
+{
+    if pairs.len() - at < STRIDE {
+        return false;
+    }
+    byte_above(pairs[at + STRIDE - 1].0, below) == byte
+}
+
+// Where the whole strides end whose pairs have the byte there that the first pair has.
+#[inline(never)]
+fn strides_end<V: Words + Drop>(pairs: &[(u64, u64)], below: u8, byte: u8) -> usize
+    requires below { below ≤ 7 }
+    requires first { byte ≡ middle (256 ^ below) 256 (slice_index_or pairs.now 0 (0, 0)).0 }
+    requires sorted { AreSorted V.WORDS below pairs.now }
+    ensures within { result ≤ length pairs.now }
+    ensures shared { sharing (256 ^ below) 256 byte pairs.now
+        ≡ result + sharing (256 ^ below) 256 byte (drop result pairs.now) }
+{
+    let mut at = 0;
+    while stride_has::<V>(pairs, below, byte, at) {
+        at += STRIDE;
+    }
+    at
+}
+
 // How many of the first pairs have a byte there.
-fn group_end(pairs: &[(u64, u64)], below: u8, byte: u8) -> usize
+#[inline(always)]
+fn front_with(pairs: &[(u64, u64)], below: u8, byte: u8) -> usize
     requires { below ≤ 7 }
     ensures { result ≡ sharing (256 ^ below) 256 byte pairs.now }
 {
@@ -52,6 +110,21 @@ fn group_end(pairs: &[(u64, u64)], below: u8, byte: u8) -> usize
         }
     }
     pairs.len()
+}
+
+// How many of the first of sorted pairs have the byte there that the first one has.
+fn group_end<V: Words + Drop>(pairs: &[(u64, u64)], below: u8, byte: u8) -> usize
+    requires below { below ≤ 7 }
+    requires first { byte ≡ middle (256 ^ below) 256 (slice_index_or pairs.now 0 (0, 0)).0 }
+    requires sorted { AreSorted V.WORDS below pairs.now }
+    ensures { result ≡ sharing (256 ^ below) 256 byte pairs.now }
+{
+    if pairs.len() < STRIDE {
+        return front_with(pairs, below, byte);
+    }
+    let front = strides_end::<V>(pairs, below, byte);
+    let (_, rest) = pairs.split_at(front);
+    front + front_with(rest, below, byte)
 }
 
 // Whether all of sorted pairs have the byte there that the first one has: they do where the last one has it.
@@ -189,7 +262,7 @@ fn add_group<'a, V: Words + Drop>(
         next) }
 {
     let byte = byte_above(rest[0].0, below);
-    let end = group_end(rest, below, byte);
+    let end = group_end::<V>(rest, below, byte);
     add_child(alloc, children, below, &rest[..end])?;
     bytes.add(byte);
     let (_, left) = rest.split_at(end);

@@ -21,7 +21,7 @@ pub(crate) fn value_in<V: Words + Drop>(view: &ViewOf<'_, V>, key: u64) -> Optio
 {
     match view {
         ViewOf::Null => None,
-        ViewOf::One(only, value) => if *only == key { Some(*value) } else { None },
+        ViewOf::One(only, value) => value_of_one(*only, *value, key),
         ViewOf::Imm(list) => value_in_imm(list, key),
         ViewOf::Leaf(list) => value_in_leaf(list, key),
         ViewOf::BitLeaf(skipped, list) => {
@@ -34,6 +34,14 @@ pub(crate) fn value_in<V: Words + Drop>(view: &ViewOf<'_, V>, key: u64) -> Optio
         }
         ViewOf::Branch(_) => unreachable!(),
     }
+}
+
+/// The value of a key beside the only pair that there is.
+#[inline(always)]
+pub(crate) fn value_of_one(only: u64, value: u64, key: u64) -> Option<u64>
+    ensures { result ≡ value_of ((only, value) ∷ []) key }
+{
+    if only == key { Some(value) } else { None }
 }
 
 // The value at the place at which a list finds a key; none where it finds none.

@@ -11,7 +11,7 @@ ghost use Rattle.judy_query.specs.Parts.{value_of, IsEnd, IsShown};
 ghost use Rattle.judy_query.specs.Starts.{IsBegun};
 ghost use Rattle.judy_query.specs.Visits.{most_visits_below, most_visits_down};
 
-use crate::ends::{value_in, value_in_words};
+use crate::ends::{value_in, value_in_words, value_of_one};
 use judy_bits::Meter;
 use judy_leaf::Words;
 use judy_node::{BranchOf, NodeOf, Step, ViewOf};
@@ -32,7 +32,7 @@ pub fn lookup<V: Words + Drop>(tree: &NodeOf<V>, key: u64, meter: &mut Meter) ->
 /// What a look-up finds at the root, which it enters.
 #[derive(Drop)]
 pub enum Start<'a, V: Words + Drop> {
-    /// The root is a leaf: the value of the key there, none where it is absent.
+    /// The root is a leaf or the only pair: the value of the key there, none where it is absent.
     Found(Option<u64>),
     /// The root is a branch, and the way goes on there.
     Further(&'a BranchOf<V>),
@@ -41,7 +41,8 @@ pub enum Start<'a, V: Words + Drop> {
 }
 
 /// Begins a look-up: one visit, of the root. The meter stands below `u64::MAX`.
-// A small array is one leaf at the root, and its search is hardly more than a call: so this is compiled into its callers, and the rest isn't.
+// A small array is one leaf at the root, or one pair, and its search is hardly more than a call: so this is compiled into its callers, and the
+// rest isn't.
 #[inline(always)]
 pub fn lookup_start<'a, V: Words + Drop>(
     tree: &'a NodeOf<V>,
@@ -56,6 +57,7 @@ pub fn lookup_start<'a, V: Words + Drop>(
     match tree.enter(meter) {
         ViewOf::Leaf(list) => Start::Found(value_in_words(&list, key)),
         ViewOf::Branch(branch) => Start::Further(branch),
+        ViewOf::One(only, value) => Start::Found(value_of_one(only, value, key)),
         _ => Start::Other,
     }
 }

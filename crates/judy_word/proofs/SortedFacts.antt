@@ -5,7 +5,7 @@ use Rattle.judy_model.specs.Keys.{IsWord, word_order}
 use Rattle.judy_model.proofs.lemmas.orders.WordOrder.{le_from_word}
 use Rattle.judy_leaf.specs.KeyLists.{keys_of, values_of}
 use Rattle.judy_node.specs.Trees.{Pairs, IsMap}
-use Rattle.judy_word.specs.Sorted.{ascending_from}
+use Rattle.judy_word.specs.Sorted.{ascending_from, pairs_in}
 
 -- The least word that may come behind a key, or at the beginning.
 abbrev pub low_after : Option ℕ → ℕ
@@ -43,11 +43,16 @@ pub map_itself : (keys : List ℕ) → map (λ (key : ℕ). key) keys ≡ keys
 map_itself [] = refl
 map_itself (key ∷ keys) = ap (λ rest. key ∷ rest) (map_itself keys)
 
--- The keys with the value 0 each.
-pub keys_kept : (keys : List ℕ) → keys_of (map (λ (key : ℕ). (key, 0)) keys) ≡ keys
-keys_kept [] = refl
-keys_kept (key ∷ keys) = ap (λ rest. key ∷ rest) (keys_kept keys)
+-- What becomes a pair keeps its key.
+pub keys_kept : {A : Type 0} (key_of value_of : A → ℕ) (items : List A) → keys_of (pairs_in key_of value_of items) ≡ map key_of items
+keys_kept key_of value_of [] = refl
+keys_kept key_of value_of (item ∷ items) = ap (λ rest. key_of item ∷ rest) (keys_kept key_of value_of items)
 
-pub all_zero : (keys : List ℕ) → AllByRecursion (λ value. value ≡ 0) (values_of (map (λ (key : ℕ). (key, 0)) keys))
+pub values_kept : {A : Type 0} (key_of value_of : A → ℕ) (items : List A) → values_of (pairs_in key_of value_of items) ≡ map value_of items
+values_kept key_of value_of [] = refl
+values_kept key_of value_of (item ∷ items) = ap (λ rest. value_of item ∷ rest) (values_kept key_of value_of items)
+
+-- Words have no value but 0.
+pub all_zero : (keys : List ℕ) → AllByRecursion (λ (value : ℕ). value ≡ 0) (map (λ (key : ℕ). 0) keys)
 all_zero [] = tt
 all_zero (key ∷ keys) = (refl, all_zero keys)

@@ -1,5 +1,5 @@
 -- Lists of keys of which arrays are made at once.
-use Rattle.std.specs.Prelude.{◌≡◌, ℕ, suc, ◌<◌, ◌≤◌, if◌then◌else◌, List, [], ◌∷◌, length}
+use Rattle.std.specs.Prelude.{◌≡◌, ℕ, suc, ◌<◌, ◌≤◌, if◌then◌else◌, List, [], ◌∷◌, length, map}
 use Rattle.std.specs.List.{AllByRecursion}
 use Rattle.std.specs.Ordering.{is_le}
 use Rattle.judy_model.specs.Keys.{IsWord, word_order}
@@ -10,6 +10,10 @@ use Rattle.judy_word.specs.declared.sorted.SortedError.TheVariants.{NotAscending
 abbrev pub ascending_from : ℕ → List ℕ → ℕ
 ascending_from low [] = 0
 ascending_from low (key ∷ keys) = if is_le (word_order low key) then suc (ascending_from (suc key) keys) else 0
+
+-- The keys of items with their values.
+abbrev pub pairs_in : {A : Type 0} → (A → ℕ) → (A → ℕ) → List A → List (ℕ × ℕ)
+pairs_in key_of value_of items = map (λ item. (key_of item, value_of item)) items
 
 -- The keys are words, they strictly ascend, and are no more than a limit.
 pub record IsSorted (limit : ℕ) (keys : List ℕ) : Type 0 where

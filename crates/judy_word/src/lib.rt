@@ -29,7 +29,7 @@ pub use laws::{
     a_loaded_map_is_tight, a_loaded_set_is_tight, same_keys_same_nodes,
     same_keys_same_nodes_of_maps,
 };
-pub use sorted::{Keyed, SortedError, check_sorted};
+pub use sorted::{Keyed, SortedError};
 pub use tree_array::TreeEntries;
 pub use word_array::{Judy1, JudyL, WordArray};
 pub use word_map::WordMap;

@@ -5,10 +5,11 @@ ghost use Rattle.std.specs.FinMap as finmap;
 ghost use Rattle.std.specs.List.{AllByRecursion};
 ghost use Rattle.judy_model.specs.Keys.{IsWord};
 ghost use Rattle.judy_leaf.specs.KeyLists.{keys_of};
-ghost use Rattle.judy_word.specs.Sorted.{ascending_from, IsSorted, IsFault};
+ghost use Rattle.judy_word.specs.Sorted.{ascending_from, pairs_in, IsSorted, IsFault};
 
 use crate::tree_array::TreeArray;
 use crate::word_array::{Judy1, JudyL};
+use judy_leaf::Words;
 use std::alloc::{AllocError, Global};
 use thiserror::Error;
 
@@ -26,28 +27,46 @@ pub enum SortedError {
     NoMemory,
 }
 
-/// What has a key: a word itself, or a word with its value.
+/// What has a key and a value: a word itself, whose value is 0, or a word with its value.
 pub trait Keyed {
     ghost key_of: { Self → ℕ };
+
+    ghost value_of: { Self → ℕ };
 
     /// The key.
     fn key(&self) -> u64
         ensures { result ≡ key_of self.now };
+
+    /// The value.
+    fn value(&self) -> u64
+        ensures { result ≡ value_of self.now };
 }
 
 impl Keyed for u64 {
     ghost key_of = { λ key. key };
 
+    ghost value_of = { λ key. 0 };
+
     fn key(&self) -> u64 {
         *self
+    }
+
+    fn value(&self) -> u64 {
+        0
     }
 }
 
 impl Keyed for (u64, u64) {
     ghost key_of = { λ pair. pair.0 };
 
+    ghost value_of = { λ pair. pair.1 };
+
     fn key(&self) -> u64 {
         self.0
+    }
+
+    fn value(&self) -> u64 {
+        self.1
     }
 }
 
@@ -67,11 +86,8 @@ fn ascending<K: Keyed>(items: &[K]) -> usize
     items.len()
 }
 
-/// Whether the keys of a list strictly ascend, and are no more than a limit; else what is wrong with the first that doesn't fit, as
-/// `from_sorted` tells it. It asks for no memory, so it is for a caller who has to make pairs of the list first.
-///
-///     check_sorted(9, &[7, 3])        // Err(SortedError::NotAscending(1))
-pub fn check_sorted<K: Keyed>(limit: u64, items: &[K]) -> Result<(), SortedError>
+// Whether the keys of a list strictly ascend, and are no more than a limit; else what is wrong with the first that doesn't fit.
+fn check_sorted<K: Keyed>(limit: u64, items: &[K]) -> Result<(), SortedError>
     ensures sorted { OnOk result (IsSorted limit (map K.key_of items.now)) }
     ensures refused { IfErr result (IsFault limit (map K.key_of items.now)) }
 {
@@ -85,15 +101,40 @@ pub fn check_sorted<K: Keyed>(limit: u64, items: &[K]) -> Result<(), SortedError
     Ok(())
 }
 
-// The keys with the value 0 each.
-fn without_values(alloc: Global, keys: &[u64]) -> Result<Vec<(u64, u64)>, AllocError>
-    ensures { IfOk result (λ pairs. pairs.items ≡ map (λ key. (key, 0)) keys.now) }
+// The keys with their values.
+fn pairs_of<K: Keyed>(alloc: Global, items: &[K]) -> Result<Vec<(u64, u64)>, AllocError>
+    ensures { IfOk result (λ pairs. pairs.items ≡ pairs_in K.key_of K.value_of items.now) }
 {
-    let mut pairs = Vec::with_capacity(alloc, keys.len())?;
-    'keys: for key in keys {
-        pairs.push((*key, 0)).map_err(|_| AllocError)?;
+    let mut pairs = Vec::with_capacity(alloc, items.len())?;
+    'items: for item in items {
+        pairs
+            .push((item.key(), item.value()))
+            .map_err(|_| AllocError)?;
     }
     Ok(pairs)
+}
+
+// The tree of what has a key and a value each, by way of pairs.
+fn tree_of<V: Words + Drop, K: Keyed>(
+    alloc: Global,
+    limit: u64,
+    items: &[K],
+) -> Result<TreeArray<V>, SortedError>
+    requires one { V.WORDS ≤ 1 }
+    requires some { 1 ≤ limit }
+    requires no_values { V.WORDS ≡ 0
+        → AllByRecursion (λ value. value ≡ 0) (map K.value_of items.now) }
+    ensures pairs { IfOk result (λ tree. tree.tree.pairs ≡ pairs_in K.key_of K.value_of items.now) }
+    ensures limit { IfOk result (λ tree. tree.limit ≡ limit) }
+    ensures tight { IfOk result (λ tree. tree.loose ≡ false) }
+    ensures sorted { OnOk result (IsSorted limit (map K.key_of items.now)) }
+    ensures refused { IfErr result (IsFault limit (map K.key_of items.now)) }
+{
+    check_sorted(limit, items)?;
+    let Ok(pairs) = pairs_of(alloc, items) else {
+        return Err(SortedError::NoMemory);
+    };
+    TreeArray::from_sorted(alloc, limit, &pairs).map_err(|_| SortedError::NoMemory)
 }
 
 impl JudyL {
@@ -123,6 +164,27 @@ impl JudyL {
         tree.law();
         Ok(JudyL::of(tree))
     }
+
+    /// The same of what has a key and a value each. While the array is made, it takes 16 bytes more for each. (This project's own.)
+    ///
+    ///     let squares = JudyL::from_items(alloc, 100, &[(1, 1), (2, 4), (3, 9)])?;
+    pub fn from_items<K: Keyed>(
+        alloc: Global,
+        limit: u64,
+        items: &[K],
+    ) -> Result<JudyL, SortedError>
+        requires { 1 ≤ limit }
+        ensures pairs { IfOk result
+            (λ a. finmap.entries a.map ≡ pairs_in K.key_of K.value_of items.now) }
+        ensures limit { IfOk result (λ a. a.limit ≡ limit) }
+        ensures tight { IfOk result (λ a. a.loose ≡ false) }
+        ensures sorted { OnOk result (IsSorted limit (map K.key_of items.now)) }
+        ensures refused { IfErr result (IsFault limit (map K.key_of items.now)) }
+    {
+        let tree = tree_of(alloc, limit, items)?;
+        tree.law();
+        Ok(JudyL::of(tree))
+    }
 }
 
 impl Judy1 {
@@ -138,13 +200,7 @@ impl Judy1 {
         ensures sorted { OnOk result (IsSorted limit keys.now) }
         ensures refused { IfErr result (IsFault limit keys.now) }
     {
-        check_sorted(limit, keys)?;
-        let Ok(pairs) = without_values(alloc, keys) else {
-            return Err(SortedError::NoMemory);
-        };
-        let Ok(tree) = TreeArray::from_sorted(alloc, limit, &pairs) else {
-            return Err(SortedError::NoMemory);
-        };
+        let tree = tree_of(alloc, limit, keys)?;
         tree.law();
         Ok(Judy1::of(tree))
     }

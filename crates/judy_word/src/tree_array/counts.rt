@@ -18,7 +18,7 @@ use judy_unmetered::UNMETERED;
 
 impl<V: Words + Drop> TreeArray<V> {
     /// The value of a key, 0 where keys have no value; `None` where it is absent.
-    // A key of a small array, whose root is a leaf, is found in the caller; any other by a call.
+    // A key of a small array, whose root is a leaf or one pair, is found in the caller; any other by a call.
     #[inline(always)]
     pub fn get(&self, key: u64) -> Option<u64>
         ensures { result ≡ map.get (map_in self.now) key }
@@ -30,7 +30,7 @@ impl<V: Words + Drop> TreeArray<V> {
         }
     }
 
-    // The same, where the root is neither a leaf nor a branch.
+    // The same, where the root is no leaf, no pair and no branch.
     #[inline(never)]
     fn get_other(&self, key: u64) -> Option<u64>
         ensures { result ≡ map.get (map_in self.now) key }
