@@ -1,5 +1,5 @@
 -- A tree made of sorted pairs.
-use Rattle.std.specs.Prelude.{◌≡◌, ℕ, ◌+◌, ◌*◌, ◌/◌, ◌%◌, ◌^◌, ◌≤◌, ◌==◌, if◌then◌else◌, List, [], ◌∷◌, ◌++◌, length}
+use Rattle.std.specs.Prelude.{◌≡◌, ℕ, ◌+◌, ◌*◌, ◌/◌, ◌%◌, ◌^◌, ◌≤◌, ◌==◌, if◌then◌else◌, List, [], ◌∷◌, ◌++◌, length, slice_index_or}
 use Rattle.judy_model.specs.Forms.{loose_in}
 use Rattle.judy_model.specs.Shapes.{AllBelow}
 use Rattle.judy_leaf.specs.KeyLists.{low_pairs}
@@ -8,6 +8,10 @@ use Rattle.judy_node.specs.Trees.{Pairs, Tree, IsTight, IsMap, join, forms_in, I
 -- Bytes in the middle of a key: what stands above the lowest ones, counted by `unit`, but below `top` of these units.
 abbrev pub middle : ℕ → ℕ → ℕ → ℕ
 middle unit top key = key / unit % top
+
+-- The byte that stands above the lowest ones, so many, of the first pair's key.
+abbrev pub first_byte : ℕ → Pairs → ℕ
+first_byte below pairs = middle (256 ^ below) 256 (slice_index_or pairs 0 (0, 0)).0
 
 -- How many of the first pairs have these middle bytes.
 abbrev pub sharing : ℕ → ℕ → ℕ → Pairs → ℕ

@@ -1,13 +1,13 @@
 //! The tight tree of sorted pairs.
 
-ghost use Rattle.std.specs.Prelude.{◌≡◌, ℕ, suc, ◌+◌, ◌-◌, ◌*◌, ◌/◌, ◌%◌, ◌^◌, ◌<◌, ◌≤◌, [], ◌∷◌, ◌++◌, length, drop, IfOk, OnOk, IsTrue, IsFalse, slice_index_or};
+ghost use Rattle.std.specs.Prelude.{◌≡◌, ℕ, suc, ◌+◌, ◌-◌, ◌*◌, ◌/◌, ◌%◌, ◌^◌, ◌<◌, ◌≤◌, [], ◌∷◌, ◌++◌, length, drop, IfOk, OnOk, IsTrue, IsFalse};
 ghost use Rattle.judy_model.specs.Shapes.{immediate_limit};
 ghost use Rattle.judy_leaf.specs.KeyLists.{low_pairs};
 ghost use Rattle.judy_node.specs.Trees.{Tree, IsMap, IsChild, AreParts, branch_tree};
 ghost use Rattle.judy_node.specs.Branches.{IsWholeBranch, tree_below};
 ghost use Rattle.judy_node.specs.Kinds.{tree_of, IsLevel, IsDeep, behind};
 ghost use Rattle.judy_node.specs.Populations.{AreSums};
-ghost use Rattle.judy_node.specs.Built.{sharing, middle, AreSorted, IsBuilt, AreMade};
+ghost use Rattle.judy_node.specs.Built.{sharing, middle, first_byte, AreSorted, IsBuilt, AreMade};
 
 use crate::child::{BranchOf, ChildOf, KindOf};
 use crate::head::Head;
@@ -68,7 +68,7 @@ fn bytes_above(pairs: &[(u64, u64)], below: u8) -> usize
 // Whether the stride from a place on ends with a pair that has the byte there that the first of all has.
 fn stride_has<V: Words + Drop>(pairs: &[(u64, u64)], below: u8, byte: u8, at: usize) -> bool
     requires below { below ≤ 7 }
-    requires first { byte ≡ middle (256 ^ below) 256 (slice_index_or pairs.now 0 (0, 0)).0 }
+    requires first { byte ≡ first_byte below pairs.now }
     requires sorted { AreSorted V.WORDS below pairs.now }
     requires within { at ≤ length pairs.now }
     ensures within { IsTrue result → at + STRIDE ≤ length pairs.now }
@@ -85,7 +85,7 @@ fn stride_has<V: Words + Drop>(pairs: &[(u64, u64)], below: u8, byte: u8, at: us
 #[inline(never)]
 fn strides_end<V: Words + Drop>(pairs: &[(u64, u64)], below: u8, byte: u8) -> usize
     requires below { below ≤ 7 }
-    requires first { byte ≡ middle (256 ^ below) 256 (slice_index_or pairs.now 0 (0, 0)).0 }
+    requires first { byte ≡ first_byte below pairs.now }
     requires sorted { AreSorted V.WORDS below pairs.now }
     ensures within { result ≤ length pairs.now }
     ensures shared { sharing (256 ^ below) 256 byte pairs.now
@@ -115,7 +115,7 @@ fn front_with(pairs: &[(u64, u64)], below: u8, byte: u8) -> usize
 // How many of the first of sorted pairs have the byte there that the first one has.
 fn group_end<V: Words + Drop>(pairs: &[(u64, u64)], below: u8, byte: u8) -> usize
     requires below { below ≤ 7 }
-    requires first { byte ≡ middle (256 ^ below) 256 (slice_index_or pairs.now 0 (0, 0)).0 }
+    requires first { byte ≡ first_byte below pairs.now }
     requires sorted { AreSorted V.WORDS below pairs.now }
     ensures { result ≡ sharing (256 ^ below) 256 byte pairs.now }
 {
@@ -131,7 +131,7 @@ fn group_end<V: Words + Drop>(pairs: &[(u64, u64)], below: u8, byte: u8) -> usiz
 fn all_have<V: Words + Drop>(pairs: &[(u64, u64)], below: u8, byte: u8) -> bool
     requires below { below ≤ 7 }
     requires some { 0 < length pairs.now }
-    requires first { byte ≡ middle (256 ^ below) 256 (slice_index_or pairs.now 0 (0, 0)).0 }
+    requires first { byte ≡ first_byte below pairs.now }
     requires map { IsMap V.WORDS 0 (256 ^ (below + 1)) (low_pairs (256 ^ (below + 1)) pairs.now) }
     ensures all { IsTrue result → length pairs.now ≤ sharing (256 ^ below) 256 byte pairs.now }
     ensures apart { IsFalse result → sharing (256 ^ below) 256 byte pairs.now < length pairs.now }
@@ -251,8 +251,7 @@ fn add_group<'a, V: Words + Drop>(
     requires one { V.WORDS ≤ 1 }
     requires width { (1 ≤ below) × (below ≤ 7) }
     requires some { 0 < length rest.now }
-    requires two { sharing (256 ^ below) 256
-        (middle (256 ^ below) 256 (slice_index_or pairs.now 0 (0, 0)).0) pairs.now
+    requires two { sharing (256 ^ below) 256 (first_byte below pairs.now) pairs.now
         < length pairs.now }
     requires made { (next : ℕ)
         × AreMade V.WORDS below pairs.now rest.now bytes.old children.old.items next }
@@ -390,8 +389,7 @@ fn split<V: Words + Drop>(
     requires one { V.WORDS ≤ 1 }
     requires width { (1 ≤ below) × (below ≤ 7) }
     requires more { 32 < length pairs.now }
-    requires two { sharing (256 ^ below) 256
-        (middle (256 ^ below) 256 (slice_index_or pairs.now 0 (0, 0)).0) pairs.now
+    requires two { sharing (256 ^ below) 256 (first_byte below pairs.now) pairs.now
         < length pairs.now }
     requires map { IsMap V.WORDS 0 (256 ^ (below + 1)) (low_pairs (256 ^ (below + 1)) pairs.now) }
     ensures level { IfOk result (λ branch. IsWholeBranch V.WORDS branch.value) }

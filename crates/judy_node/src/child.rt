@@ -38,16 +38,18 @@ pub struct PlaceOf<V: Words + Drop> {
 pub type Child<const W: usize> = ChildOf<ValueWords<W>>;
 
 /// The kinds of nodes below the root, by their parts: for writing.
+// The two that no root of few or of many scattered keys is stand first: whoever asks for a leaf, for a branch and for any other asks two questions,
+// where a leaf among others would be found by a jump through a table.
 #[cycle(node)]
 #[derive(Drop)]
 pub enum KindOf<V: Words + Drop> {
     /// An immediate: a few keys.
     Imm(Head, u64),
-    /// A leaf of up to 32 keys: how many they are, and the block that holds them.
-    Leaf(u8, Block),
     /// A bitmap leaf: keys that differ in their last byte alone. The number that the skipped bytes spell, and the block that
     /// holds the last bytes.
     Bit(Head, Block),
+    /// A leaf of up to 32 keys: how many they are, and the block that holds them.
+    Leaf(u8, Block),
     /// A branch.
     Branch(Box<BranchOf<V>>),
 }

@@ -18,7 +18,7 @@ use Rattle.judy_node.specs.declared.view.ViewOf.TheVariants.{Null, One, Imm, Lea
 use Rattle.judy_node.specs.Populations.{population, HoldsNth}
 use Rattle.judy_node.proofs.Maps.{map-wider, map-length, join-map, children-length, length-shift, shift-zero}
 use Rattle.judy_node.proofs.Counts.{population-step, branch_population}
-use Rattle.judy_query.specs.Parts.{IsPart, IsBeside, passed, reached, IsStart, width_of, IsShown, IsDown}
+use Rattle.judy_query.specs.Parts.{IsPart, IsBeside, passed, reached, IsStart, width_of, IsEnd, IsShown, IsDown}
 use Rattle.judy_query.proofs.Parts.{whole_part, part_of_part}
 use Rattle.judy_query.proofs.Splits.{next_unit, split-at, gap-at, first_of, rest_of, first_long}
 
@@ -182,6 +182,15 @@ is_shown words width tree view some narrow wide is = record {
   map = subst (λ w. IsMap words 0 (256 ^ w) (view_pairs view)) (sym wide) is.map;
   place = subst (λ w. IsPlace words w view) (sym wide) is.place;
 }
+
+-- A node that isn't shown as a branch has no children.
+pub end_is : {V : _} (view : ViewOf V) → ((branch : _) → view ≡ Branch branch → ⊥) → IsEnd view
+end_is Null other = tt
+end_is (One key value) other = tt
+end_is (Imm list) other = tt
+end_is (Leaf list) other = tt
+end_is (BitLeaf skipped list) other = tt
+end_is (Branch branch) other = absurd (other branch refl)
 
 -- The way begins at the root.
 abbrev pub down_root : {V : _} (words : ℕ) (tree : Tree) (view : ViewOf V) (key : ℕ) → IsNode words tree → IsView words 8 tree view → key < 2 ^ 64 → IsDown words tree.pairs view key key

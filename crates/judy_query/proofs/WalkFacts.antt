@@ -11,8 +11,8 @@ use Rattle.judy_node.specs.Trees.{Pairs, Tree, join, IsChild, IsBranch}
 use Rattle.judy_node.specs.Views.{IsView, view_pairs}
 use Rattle.judy_node.specs.declared.view.ViewOf.{ViewOf}
 use Rattle.judy_node.proofs.Maps.{children-length, length-shift, length-keys_of, shift-append, shift-shift}
-use Rattle.judy_node.specs.declared.view.ViewOf.TheVariants.{Null, One, Imm, Leaf, BitLeaf, Branch}
-use Rattle.judy_query.specs.Parts.{IsPart, IsStart, IsEnd, IsShown, width_of}
+use Rattle.judy_node.specs.declared.view.ViewOf.TheVariants.{Branch}
+use Rattle.judy_query.specs.Parts.{IsPart, IsStart, IsShown, width_of}
 use Rattle.judy_query.specs.Turns.{IsTurn, IsFirst}
 use Rattle.judy_query.specs.Walks.{rest_of_turn, rest_if_any, waiting, IsTurnBehind, AreTurns}
 use Rattle.judy_query.specs.declared.turns.Turn.{Turn}
@@ -89,14 +89,6 @@ module _ {V : _} (words : ℕ) (old new : List (Option (Turn V))) (last : Option
   ] apart.1
 
 -- ---- children
-
-pub end_is : {V : _} (view : ViewOf V) → ((b : _) → view ≡ Branch b → ⊥) → IsEnd view
-end_is Null never = tt
-end_is (One key value) never = tt
-end_is (Imm list) never = tt
-end_is (Leaf list) never = tt
-end_is (BitLeaf skipped list) never = tt
-end_is (Branch b) never = never b refl
 
 -- A branch has a child.
 pub first_inside : (words width : ℕ) (skipped bytes : List ℕ) (kids : List Tree) (count : ℕ) → IsBranch words width skipped bytes kids count → 0 < length kids

@@ -55,7 +55,7 @@ pub use many::{MOST_WAYS, lookup_many};
 pub use places::entry_nth;
 pub use sides::Side;
 pub use surroundings::around;
-pub use values::{Start, lookup, lookup_further, lookup_start};
+pub use values::{Start, lookup, lookup_further, lookup_one, lookup_start};
 pub use walk::Walk;
 
 /// A key with its value, which is 0 where keys have no value.

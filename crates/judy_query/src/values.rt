@@ -32,7 +32,7 @@ pub fn lookup<V: Words + Drop>(tree: &NodeOf<V>, key: u64, meter: &mut Meter) ->
 /// What a look-up finds at the root, which it enters.
 #[derive(Drop)]
 pub enum Start<'a, V: Words + Drop> {
-    /// The root is a leaf or the only pair: the value of the key there, none where it is absent.
+    /// The root is a leaf, or the only pair: the value of the key there, none where it is absent.
     Found(Option<u64>),
     /// The root is a branch, and the way goes on there.
     Further(&'a BranchOf<V>),
@@ -41,8 +41,8 @@ pub enum Start<'a, V: Words + Drop> {
 }
 
 /// Begins a look-up: one visit, of the root. The meter stands below `u64::MAX`.
-// A small array is one leaf at the root, or one pair, and its search is hardly more than a call: so this is compiled into its callers, and the
-// rest isn't.
+// A small array is one leaf at the root, and its search is hardly more than a call: so this is compiled into its callers, and the rest isn't.
+// One pair isn't asked for here, since each look-up of other arrays would ask with it.
 #[inline(always)]
 pub fn lookup_start<'a, V: Words + Drop>(
     tree: &'a NodeOf<V>,
@@ -57,6 +57,23 @@ pub fn lookup_start<'a, V: Words + Drop>(
     match tree.enter(meter) {
         ViewOf::Leaf(list) => Start::Found(value_in_words(&list, key)),
         ViewOf::Branch(branch) => Start::Further(branch),
+        _ => Start::Other,
+    }
+}
+
+/// The same beside the only pair, where the root is one: one visit, of the root, and the meter as for `lookup_start`. Of any other root `Other`.
+#[inline(always)]
+pub fn lookup_one<'a, V: Words + Drop>(
+    tree: &'a NodeOf<V>,
+    key: u64,
+    meter: &mut Meter,
+) -> Start<'a, V>
+    requires { meter.old < 2 ^ 64 - 1 }
+    ensures start { IsBegun V.WORDS tree.now.pairs key result }
+    ensures visits { meter.new ≡ meter.old + 1 }
+{
+    tree.law();
+    match tree.enter(meter) {
         ViewOf::One(only, value) => Start::Found(value_of_one(only, value, key)),
         _ => Start::Other,
     }

@@ -32,6 +32,7 @@ fn arrays_of_the_keys(rt: HostRuntime) -> Result<(), Fail> {
         let mut pairs = Vec::new(rt.alloc());
         for place in 0..500 {
             check_pairs(&rt, JudyL::from_sorted(rt.alloc(), 500, &pairs), &pairs);
+            check_pairs(&rt, JudyL::from_items(rt.alloc(), 500, &pairs), &pairs);
             pairs.push((distance.wrapping_mul(place), !place))?;
         }
     }
@@ -43,6 +44,10 @@ fn refused_by_their_place(rt: HostRuntime) -> Result<(), Fail> {
     let alloc = rt.alloc();
     let twice = JudyL::from_sorted(alloc, 9, &[(1, 10), (5, 50), (5, 51)]);
     refused_pairs(&rt, twice, SortedError::NotAscending(2));
+    let copied = JudyL::from_items(alloc, 9, &[(1, 10), (5, 50), (5, 51)]);
+    refused_pairs(&rt, copied, SortedError::NotAscending(2));
+    let more = JudyL::from_items(alloc, 2, &[(1, 10), (5, 50), (6, 60)]);
+    refused_pairs(&rt, more, SortedError::Full(2));
     let fallen = Judy1::from_sorted(alloc, 9, &[7, 3, 9]);
     refused_keys(&rt, fallen, SortedError::NotAscending(1));
     let many = Judy1::from_sorted(alloc, 2, &[1, 2, 3, 3]);

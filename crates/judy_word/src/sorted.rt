@@ -167,6 +167,9 @@ impl JudyL {
 
     /// The same of what has a key and a value each. While the array is made, it takes 16 bytes more for each. (This project's own.)
     ///
+    /// The errors are those of `from_sorted`: `NotAscending` and `Full` tell the first key that doesn't fit by its place, and are told before memory
+    /// is asked for; `NoMemory` only where there is none. Nothing is kept then.
+    ///
     ///     let squares = JudyL::from_items(alloc, 100, &[(1, 1), (2, 4), (3, 9)])?;
     pub fn from_items<K: Keyed>(
         alloc: Global,

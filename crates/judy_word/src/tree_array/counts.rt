@@ -13,12 +13,14 @@ use crate::tree_array::TreeArray;
 use judy_bits::Meter;
 use judy_leaf::Words;
 use judy_node::BranchOf;
-use judy_query::{MOST_WAYS, Start, lookup, lookup_further, lookup_many, lookup_start, rank};
+use judy_query::{
+    MOST_WAYS, Start, lookup, lookup_further, lookup_many, lookup_one, lookup_start, rank,
+};
 use judy_unmetered::UNMETERED;
 
 impl<V: Words + Drop> TreeArray<V> {
     /// The value of a key, 0 where keys have no value; `None` where it is absent.
-    // A key of a small array, whose root is a leaf or one pair, is found in the caller; any other by a call.
+    // A key of a small array, whose root is a leaf, is found in the caller; any other by a call.
     #[inline(always)]
     pub fn get(&self, key: u64) -> Option<u64>
         ensures { result ≡ map.get (map_in self.now) key }
@@ -30,9 +32,22 @@ impl<V: Words + Drop> TreeArray<V> {
         }
     }
 
-    // The same, where the root is no leaf, no pair and no branch.
+    // The same, where the root is no leaf and no branch. Since it is told to be rare, a leaf and a branch are asked for first. It does no more
+    // than compare the only pair: for anything else it would save registers first.
+    #[cold]
     #[inline(never)]
     fn get_other(&self, key: u64) -> Option<u64>
+        ensures { result ≡ map.get (map_in self.now) key }
+    {
+        match lookup_one(&self.root, key, &mut Meter::new(UNMETERED)) {
+            Start::Found(value) => value,
+            _ => self.get_in_any(key),
+        }
+    }
+
+    // The same, whatever the root is.
+    #[inline(never)]
+    fn get_in_any(&self, key: u64) -> Option<u64>
         ensures { result ≡ map.get (map_in self.now) key }
     {
         lookup(&self.root, key, &mut Meter::new(UNMETERED))

@@ -1,12 +1,11 @@
-use Rattle.std.proofs.Common.{◌≡◌, ℕ, ◌-◌, ◌^◌, ◌<◌, ◌≤◌, [], refl, ap, subst, arith}
+use Rattle.std.proofs.Common.{ℕ, ◌-◌, ◌^◌, ◌<◌, ◌≤◌, [], ap, subst, arith}
 use Rattle.std.proofs.Math.Nat.{pow-le-pow_right}
 use Rattle.judy_node.specs.Trees.{Pairs, branch_pairs}
-use Rattle.judy_node.specs.declared.view.ViewOf.{ViewOf}
-use Rattle.judy_node.specs.declared.view.ViewOf.TheVariants.{Null, One, Imm, Leaf, BitLeaf, Branch}
+use Rattle.judy_node.specs.declared.view.ViewOf.TheVariants.{Branch}
 use Rattle.judy_node.specs.Views.{view_pairs}
-use Rattle.judy_query.specs.Parts.{IsDown, IsShown, IsEnd, width_of}
+use Rattle.judy_query.specs.Parts.{IsDown, IsShown, width_of}
 use Rattle.judy_query.proofs.Parts.{whole_part}
-use Rattle.judy_query.proofs.Downs.{down_child, down_gap, child_inside, child_is, beside_is}
+use Rattle.judy_query.proofs.Downs.{end_is, down_child, down_gap, child_inside, child_is, beside_is}
 use Rattle.judy_query.proofs.Finds.{part-value}
 use Rattle.judy_query.proofs.AroundFacts.{down_value}
 use Rattle.judy_query.proofs.values.end_of_way.Invariants.{shown}
@@ -37,15 +36,6 @@ module _ {V : _} (words : ℕ) (b : _) (key left : ℕ) where
     back = down.back;
     part = down.part;
   }
-
--- A node that isn't shown as a branch has no children.
-end_is : {V : _} (view : ViewOf V) → ((branch : _) → view ≡ Branch branch → ⊥) → IsEnd view
-end_is Null other = tt
-end_is (One key value) other = tt
-end_is (Imm list) other = tt
-end_is (Leaf list) other = tt
-end_is (BitLeaf skipped list) other = tt
-end_is (Branch branch) other = absurd (other branch refl)
 
 pub down-init : goal.down-init
 down-init g c = (down_top g.V.Words.WORDS c.args.top c.args.key c.args.key c.requires.shown c.requires.inside, omega arith, omega arith)

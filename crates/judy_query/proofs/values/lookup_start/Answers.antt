@@ -10,12 +10,6 @@ returns-in-Leaf-clause-start g c =
     ∙ sym (ap (λ pairs. value_of pairs c.args.key) c.in-Leaf.ensures.view.pairs)
     ∙ sym (get_is g.V.Words.WORDS (256 ^ 8) c.args.tree.now.pairs c.law.ensures.map c.args.key)
 
-pub returns-in-One-clause-start : goal.returns-in-One-clause-start
-returns-in-One-clause-start g c =
-    c.value_of_one.ensures
-    ∙ sym (ap (λ pairs. value_of pairs c.args.key) c.in-One.ensures.view.pairs)
-    ∙ sym (get_is g.V.Words.WORDS (256 ^ 8) c.args.tree.now.pairs c.law.ensures.map c.args.key)
-
 pub returns-in-Branch-clause-start : goal.returns-in-Branch-clause-start
 returns-in-Branch-clause-start g c =
     let view = c.in-Branch.ensures.view in

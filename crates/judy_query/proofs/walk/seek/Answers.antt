@@ -8,10 +8,10 @@ use Rattle.judy_node.specs.Views.{view_pairs}
 use Rattle.judy_node.proofs.Maps.{length-keys_of}
 use Rattle.judy_query.specs.Parts.{IsDown, width_of, passed, reached}
 use Rattle.judy_query.specs.Walks.{waiting, AreTurns}
-use Rattle.judy_query.proofs.Downs.{down_branch, down_root, down_child, down_gap, child_inside, child_is, beside_is, branch_is, passed_few, beside_reached}
+use Rattle.judy_query.proofs.Downs.{end_is, down_branch, down_root, down_child, down_gap, child_inside, child_is, beside_is, branch_is, passed_few, beside_reached}
 use Rattle.judy_query.proofs.LaterFacts.{reached_rank}
 use Rattle.judy_query.proofs.Splits.{rest_of}
-use Rattle.judy_query.proofs.WalkFacts.{part-rest, end_is}
+use Rattle.judy_query.proofs.WalkFacts.{part-rest}
 use Rattle.judy_query.proofs.walk.seek.Goals as goal
 
 pub down-init : goal.down-init
