@@ -38,8 +38,8 @@ pub struct PlaceOf<V: Words + Drop> {
 pub type Child<const W: usize> = ChildOf<ValueWords<W>>;
 
 /// The kinds of nodes below the root, by their parts: for writing.
-// The two that no root of few or of many scattered keys is stand first: whoever asks for a leaf, for a branch and for any other asks two questions,
-// where a leaf among others would be found by a jump through a table.
+// The immediate and the bitmap leaf stand in front, side by side: so a leaf and a branch are told from the rest by two questions. With the leaf
+// between them, the three are told apart by a jump through a table.
 #[cycle(node)]
 #[derive(Drop)]
 pub enum KindOf<V: Words + Drop> {

@@ -36,7 +36,7 @@ pub enum Start<'a, V: Words + Drop> {
     Found(Option<u64>),
     /// The root is a branch, and the way goes on there.
     Further(&'a BranchOf<V>),
-    /// The root is another node without children.
+    /// The root is none of those that were asked for.
     Other,
 }
 
