@@ -1,9 +1,13 @@
-# Sellumaq: what is run from the top of the repository. All of it needs the Rattle kit, whose command is `rt`; the library for C and
-# its tests need a C compiler too.
+# Sellumaq: what is run from the top of the repository. `make` builds the program and the library from compiled/, by a C compiler. What proves
+# needs the Rattle kit, whose command is `rt`.
 
+CC = cc
+LD = ld
+OBJCOPY = objcopy
 PREFIX = /usr/local
 LIBDIR = $(PREFIX)/lib
 DESTDIR =
+VERSION := $(shell cat VERSION)
 
 # The folder of this project's libJudy, which is no linker's own: a libJudy that is installed stays what programs find.
 JUDYDIR = $(LIBDIR)/sellumaq
@@ -21,10 +25,7 @@ PYTHON_DIR = $(or $(shell tools/python_dir $(PREFIX) 2>/dev/null),$(PREFIX)/shar
 # At how many keys `make bench` measures the arrays.
 KEYS = 10000 1000000
 
-# All that a build of the program reads.
-SOURCES := crates.txt $(shell find crates -path '*/out' -prune -o -type f \( -name '*.rt' -o -name '*.antt' \) -print)
-
-# Where the library for C is left, and what it is made of besides.
+# Where the library for C is left, and what it is made of besides the compiled text.
 LIB := out/lib
 C_SOURCES := $(wildcard bindings/c/*.h bindings/c/hp/*)
 RUST_FILES := $(patsubst bindings/rust/%,%,$(wildcard bindings/rust/Cargo.toml bindings/rust/README.md bindings/rust/src/*.rs bindings/rust/src/*/*.rs \
@@ -32,19 +33,30 @@ RUST_FILES := $(patsubst bindings/rust/%,%,$(wildcard bindings/rust/Cargo.toml b
 C_FLAGS = -std=c11 -D_DEFAULT_SOURCE -O2 -Wall -Wextra
 LIBRARIES := $(addprefix $(LIB)/,libsellumaq.a libsellumaq.so libJudy.a libJudy.so)
 
-.PHONY: help test refusals lib lib-test python bindings-test bench fmt kit install install-program install-library install-libjudy install-test uninstall clean
+# What refuses calls for memory where tests preload it.
+REFUSER := out/refuse_alloc.so
+
+# What a program or a shared library can't be made to do by a fault of its caller: run its stack, or have its tables of calls written.
+HARDENED = -Wl,-z,relro,-z,now,-z,noexecstack
+
+.PHONY: all help lib python check test proved compiled dist bench fmt kit buildable install install-program install-library install-libjudy \
+	install-test uninstall clean
+
+all: judystore lib
 
 help:
-	@echo 'make judystore   proves and builds the program, and leaves it as ./judystore'
-	@echo 'make test        the gate: every proof, must-fail edit, test and program, from nothing'
-	@echo 'make refusals    runs the programs with each of their calls for memory refused in turn'
-	@echo 'make lib         proves and builds the library for C, and leaves it in out/lib; make lib-test tries it'
+	@echo 'make             builds the program, ./judystore, and the library for C, out/lib, from compiled/: make judystore, make lib'
 	@echo 'make python      builds the Python package, and leaves it in out/python'
-	@echo 'make bindings-test  tries it from C, Rust and Python'
-	@echo 'make bench       measures the arrays beside libJudy, BTreeMap and HashMap, the program beside BTreeMap, and the bindings beside their peers'
+	@echo 'make check       tries all of it, as people use it and where memory is refused, from C, Rust and Python'
 	@echo 'make install     puts the program and the library for C, Rust and Python under PREFIX ($(PREFIX)); make uninstall takes them away'
 	@echo 'make install-libjudy  links the library of HP'"'"'s names to where the linker looks for libJudy'
 	@echo 'make install-test  runs the programs of the README over a library that was installed'
+	@echo 'make dist        packs the last commit as sellumaq-$(VERSION).tar.xz'
+	@echo 'make bench       measures the arrays beside libJudy, BTreeMap and HashMap, the program beside BTreeMap, and the bindings beside their peers'
+	@echo 'With the Rattle kit:'
+	@echo 'make test        the gate: every proof and must-fail edit, from nothing, the compiled texts beside what was proved, and make check'
+	@echo 'make proved      proves and builds from the sources, and says whether compiled/ is the same code'
+	@echo 'make compiled    makes compiled/ anew'
 	@echo 'make fmt         lays out the sources'
 	@echo 'make clean       takes away what these commands made'
 
@@ -52,47 +64,56 @@ help:
 kit:
 	@command -v rt >/dev/null 2>&1 || { echo 'The Rattle kit is missing: its command `rt` is not on PATH.' >&2; exit 1; }
 
-judystore: $(SOURCES)
-	@$(MAKE) -s kit
-	@tools/prove judy_store
-	@mkdir -p out/proofs
-	@(cd crates/judy_store && rt run </dev/null) >out/proofs/build.log 2>&1 || { echo 'NOT BUILT: see out/proofs/build.log' >&2; exit 1; }
-	@cp crates/judy_store/out/judy_store judystore
-	@echo 'built ./judystore'
+buildable:
+	@tools/buildable $(CC)
 
-test: kit
+judystore: compiled/judystore.s compiled/system.c | buildable
+	@mkdir -p out
+	@$(CC) $(C_FLAGS) -fPIE -pie -DFOR_PROGRAM $(HARDENED) $(CPPFLAGS) $(CFLAGS) $(LDFLAGS) compiled/judystore.s compiled/system.c -o out/judystore
+	@mv out/judystore $@
+	@echo 'built ./$@'
+
+# Proves and builds from the sources, and leaves what is built in out/proved.
+proved: kit
+	@tools/prove judy_store judy_c
+	@mkdir -p out/proved
+	@(cd crates/judy_store && rt run </dev/null) >out/proofs/program.log 2>&1 || { echo 'NOT BUILT: see out/proofs/program.log' >&2; exit 1; }
+	@tools/archive >out/proofs/library.log 2>&1 || { echo 'NOT BUILT: see out/proofs/library.log' >&2; exit 1; }
+	@cp crates/judy_store/out/judy_store out/proved/judystore
+	@cp crates/judy_c/out/libjudy_c.a out/proved
+	@tools/compiled compare .
+
+# Proves what the compiled texts are of, and makes them anew.
+compiled: kit
+	@tools/prove judy_store judy_c
+	@tools/compiled make
+
+check: judystore lib python $(REFUSER)
+	@tests/check
+
+test:
 	@tools/gate
-
-refusals: judystore
-	@tools/try_refusals.py ./judystore
-	@tools/try_memory.py ./judystore
-	@tools/prove judy_loose
-	@(cd crates/judy_loose && rt run </dev/null) >out/proofs/loose.log 2>&1 || { echo 'NOT BUILT: see out/proofs/loose.log' >&2; exit 1; }
-	@tools/try_loose.py crates/judy_loose/out/judy_loose
 
 lib: $(LIBRARIES)
 
-# The proved calls as an archive. The kit is asked for only where something is proved.
-ARCHIVE := crates/judy_c/out/libjudy_c.a
+# The proved calls over malloc, and the same calls over JudyMalloc below HP's names. Each library is linked to one object first, in which all
+# names but its own are hidden.
+$(LIB)/calls.o: compiled/sellumaq.s | buildable
+	@mkdir -p $(LIB)
+	@$(CC) -c $< -o $@
 
-$(ARCHIVE): $(SOURCES)
-	@$(MAKE) -s kit
-	@tools/prove judy_c
-	@mkdir -p out/proofs
-	@tools/archive >out/proofs/library.log 2>&1 || { echo 'NOT BUILT: see out/proofs/library.log' >&2; exit 1; }
+$(LIB)/sellumaq.o: $(LIB)/calls.o compiled/system.c
+	@$(CC) $(C_FLAGS) -fPIC $(CPPFLAGS) $(CFLAGS) -c compiled/system.c -o $(LIB)/system.o
+	@$(LD) -r $(LIB)/calls.o $(LIB)/system.o -o $@
+	@$(OBJCOPY) --wildcard --keep-global-symbol='sellumaq_*' $@
 
-# The proved calls over the kit's three functions over malloc, by which they take memory, and the same calls over ours below HP's names.
-# Each library is linked to one object first, in which all names but its own are hidden.
-$(LIB)/sellumaq.o: $(ARCHIVE) $(C_SOURCES)
-	@rm -rf $(LIB) && mkdir -p $(LIB)/calls
-	@cd $(LIB)/calls && ar x ../../../$(ARCHIVE) && ar x "$$(dirname "$$(rt doc)")/c/liblibc_c.a" heap.pic.o && mv heap.pic.o ..
-	@ld -r $(LIB)/calls/*.o $(LIB)/heap.pic.o -o $@
-	@objcopy --wildcard --keep-global-symbol='sellumaq_*' $@
-
-$(LIB)/judy.o: $(LIB)/sellumaq.o
-	@for part in judy memory; do $(CC) $(C_FLAGS) -fPIC -ftls-model=initial-exec -c bindings/c/hp/$$part.c -o $(LIB)/hp_$$part.o || exit 1; done
-	@ld -r $(LIB)/calls/*.o $(LIB)/hp_*.o -o $@
-	@objcopy --wildcard --keep-global-symbol='Judy*' $@
+$(LIB)/judy.o: $(LIB)/calls.o compiled/system.c $(C_SOURCES)
+	@$(CC) $(C_FLAGS) -fPIC -DWITHOUT_MEMORY $(CPPFLAGS) $(CFLAGS) -c compiled/system.c -o $(LIB)/hp_system.o
+	@for part in judy memory; do \
+		$(CC) $(C_FLAGS) -fPIC -ftls-model=initial-exec $(CPPFLAGS) $(CFLAGS) -c bindings/c/hp/$$part.c -o $(LIB)/hp_$$part.o || exit 1; \
+	done
+	@$(LD) -r $(LIB)/calls.o $(LIB)/hp_system.o $(LIB)/hp_judy.o $(LIB)/hp_memory.o -o $@
+	@$(OBJCOPY) --wildcard --keep-global-symbol='Judy*' $@
 
 $(LIB)/libsellumaq.a: $(LIB)/sellumaq.o
 	@rm -f $@ && ar rcs $@ $<
@@ -103,41 +124,30 @@ $(LIB)/libJudy.a: $(LIB)/judy.o
 	@echo 'built $@'
 
 $(LIB)/libsellumaq.so: $(LIB)/sellumaq.o
-	@$(CC) -shared -Wl,-soname,libsellumaq.so.0 -Wl,-Bsymbolic -o $@ $<
+	@$(CC) -shared -Wl,-soname,libsellumaq.so.0 -Wl,-Bsymbolic $(HARDENED) $(LDFLAGS) -o $@ $<
 	@ln -sf libsellumaq.so $(LIB)/libsellumaq.so.0
 	@echo 'built $@'
 
 # Its calls of itself stay in it, but those of the four functions that a program may replace.
 $(LIB)/libJudy.so: $(LIB)/judy.o
-	@$(CC) -shared -Wl,-soname,libJudy.so.1 -Wl,--version-script,bindings/c/hp/names.map -Wl,--dynamic-list,bindings/c/hp/replaced.list -o $@ $<
+	@$(CC) -shared -Wl,-soname,libJudy.so.1 -Wl,--version-script,bindings/c/hp/names.map -Wl,--dynamic-list,bindings/c/hp/replaced.list \
+		$(HARDENED) $(LDFLAGS) -o $@ $<
 	@ln -sf libJudy.so $(LIB)/libJudy.so.1
 	@echo 'built $@'
-
-# The C tests over the static library and over the shared one, the first under Valgrind where it is there.
-lib-test: lib
-	@tools/try_library $(LIB)
 
 # The Python package, ready to be imported: with the extension, where a C compiler and Python's headers are there.
 python: lib
 	@if command -v python3 >/dev/null 2>&1; then python3 bindings/python/build_package.py $(LIB) out/python; \
 	else mkdir -p out/python && cp -r bindings/python/sellumaq out/python; fi
 
-# What refuses calls for memory where it is preloaded.
-REFUSER := out/refuse_alloc.so
-
-$(REFUSER): tools/refuse_alloc.c
+$(REFUSER): tests/refuse_alloc.c
 	@mkdir -p out
 	@$(CC) -O1 -shared -fPIC -o $@ $<
 
-# The tests of the three languages over the library, those of Rust where cargo is there; Rust's and Python's with memory refused too. Only the
-# tests themselves are refused it: cargo runs them by the command that the variable names.
-bindings-test: lib-test python $(REFUSER)
-	@if command -v cargo >/dev/null 2>&1; then \
-		cd bindings/rust && export SELLUMAQ_LIB=$(abspath $(LIB)) && \
-		CARGO_TARGET_X86_64_UNKNOWN_LINUX_GNU_RUNNER='env LD_PRELOAD=$(abspath $(REFUSER))' cargo test --offline --workspace; \
-	else echo 'no cargo here: the Rust binding is not tried'; fi
-	@cd bindings/python/tests && export PYTHONPATH=$(abspath out/python) SELLUMAQ_LIBRARY=$(abspath $(LIB))/libsellumaq.so && \
-		for binding in '' ctypes; do LD_PRELOAD=$(abspath $(REFUSER)) SELLUMAQ_BINDING=$$binding python3 -m unittest discover || exit 1; done
+# The same bytes of the same commit, by one version of git and of xz.
+dist:
+	@git archive --format=tar --prefix=sellumaq-$(VERSION)/ HEAD | xz -9e -T1 >sellumaq-$(VERSION).tar.xz
+	@echo 'packed sellumaq-$(VERSION).tar.xz'
 
 # A million keys take long, forty minutes or more where other work runs beside; 10,000 take five, and the program seven.
 bench: lib judystore
@@ -191,7 +201,7 @@ install-libjudy: install-library
 
 # The programs of the README, built and run over a library that was installed.
 install-test:
-	@tools/try_install
+	@tests/install
 
 uninstall:
 	rm -f "$(DESTDIR)$(PREFIX)/bin/judystore" "$(DESTDIR)$(MAN)/man1/judystore.1"

@@ -229,7 +229,7 @@ class Strings(unittest.TestCase):
         self.assertIsNone(longest.at_or_after(b"\xff" * (MAX_KEY + 1)))
 
 
-# Refuses this thread's calls for memory, from the n-th on, or none for 0, and answers how many it refused; there where tools/refuse_alloc.c
+# Refuses this thread's calls for memory, from the n-th on, or none for 0, and answers how many it refused; there where tests/refuse_alloc.c
 # is preloaded, as `make bindings-test` does.
 refuse_from = getattr(ctypes.CDLL(None), "refuse_from", None)
 

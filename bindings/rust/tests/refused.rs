@@ -1,4 +1,4 @@
-//! Inserts that are refused for want of memory: each says so and leaves the array as it was. Memory is refused by tools/refuse_alloc.c where
+//! Inserts that are refused for want of memory: each says so and leaves the array as it was. Memory is refused by tests/refuse_alloc.c where
 //! that is preloaded, as `make bindings-test` does; where it isn't, nothing is tried.
 use sellumaq::{InsertError, Judy1, JudyHs, JudyL, JudySl, NoMemory};
 use std::collections::{BTreeMap, BTreeSet};

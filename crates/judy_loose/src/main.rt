@@ -1,7 +1,7 @@
 //! The program `judy_loose`: plays worked rows on a set of words, or on a map where anything comes on standard input, tells what nodes it
 //! has and what it answers, and prints that.
 //!
-//! Scripts show no nodes, and an array becomes loose only where memory is refused to it. So `tools/try_loose.py` runs this program with its
+//! Scripts show no nodes, and an array becomes loose only where memory is refused to it. So `tests/loose` runs this program with its
 //! calls for memory refused in turn, and compares what it prints with a plain set. Which array it is stands on standard input, since to
 //! read the words of a command line takes memory.
 #![tactic(auto)]

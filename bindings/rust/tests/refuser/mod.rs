@@ -1,4 +1,4 @@
-//! Calls for memory that are refused, by tools/refuse_alloc.c where that is preloaded.
+//! Calls for memory that are refused, by tests/refuse_alloc.c where that is preloaded.
 use std::ffi::c_void;
 use std::fmt::Debug;
 use std::os::raw::{c_char, c_long};

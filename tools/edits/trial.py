@@ -5,9 +5,7 @@ import pathlib
 import shutil
 import tempfile
 
-import edits
-import functions
-import prover
+from edits import files, functions, prover
 
 FLAGS = ["--jobs", "1"]
 
@@ -26,8 +24,8 @@ class Trial:
         for name in names:
             edit = pathlib.Path(name)
             try:
-                function = edits.function_of(self.sources, self.folder, edit)
-                is_same = edits.changed(self.folder, edit) == self.rt.read_edit(name, self.crate.folder)[0]
+                function = files.function_of(self.sources, self.folder, edit)
+                is_same = files.changed(self.folder, edit) == self.rt.read_edit(name, self.crate.folder)[0]
             except (OSError, ValueError):
                 function = is_same = None
             if function and is_same:
@@ -54,7 +52,7 @@ class Trial:
     def try_at_once(self, tried):
         """Tries edits that change different functions. Those that are left, since a function that theirs calls has an edit too, are returned.
         Where the check says nothing of them, each half of them is tried."""
-        texts = edits.changed_by_all(self.folder, tried)
+        texts = files.changed_by_all(self.folder, tried)
         ran = self.check(texts, tried)
         fault = self.fault_of(ran, texts)
         if fault and len(tried) == 1:
@@ -87,7 +85,7 @@ class Trial:
         self.sort(names)
         left = list(self.own)
         while left:
-            first = edits.groups_of(self.sources, self.folder, left)[0]
+            first = files.groups_of(self.sources, self.folder, left)[0]
             waiting = self.try_at_once(first)
             left = [edit for edit in left if edit not in first or edit in waiting]
         if self.found and not self.is_proved():

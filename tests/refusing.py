@@ -1,6 +1,6 @@
 """What the tools share that run a program where memory is refused: the runs, and the count of what was checked.
 
-It needs a C compiler, `cc`, for the library that refuses (tools/refuse_alloc.c).
+It needs a C compiler, `cc`, for the library that refuses (tests/refuse_alloc.c).
 """
 
 import os

@@ -6,14 +6,14 @@ import re
 import shutil
 import subprocess
 
-import crates
+TOP = os.path.normpath(os.path.join(os.path.dirname(os.path.abspath(__file__)), ".."))
 
 
 class Example:
     """What a page shows below a heading: the file it names, and its commands, each with what it prints."""
 
     def __init__(self, page, heading):
-        with open(f"{crates.TOP}/{page}", encoding="utf-8") as file:
+        with open(f"{TOP}/{page}", encoding="utf-8") as file:
             part = re.split(rf"^{re.escape(heading)}\b", file.read(), maxsplit=1, flags=re.MULTILINE)[1].split("\n#")[0]
         blocks = re.findall(r"(?:^    .*\n|^\n(?=    ))+", part, re.MULTILINE)
         text, *told = re.sub(r"^    ", "", "".join(blocks), flags=re.MULTILINE).strip("\n").split("\n$ ")
@@ -23,12 +23,12 @@ class Example:
 
     def is_file(self):
         """Whether the page shows the file as it is."""
-        with open(f"{crates.TOP}/{self.name}", encoding="utf-8") as file:
+        with open(f"{TOP}/{self.name}", encoding="utf-8") as file:
             return file.read() == self.text
 
     def prints(self, folder, told=None, change=lambda command: command):
         """Whether each command, run in a folder with the examples in it, prints what the page says."""
-        shutil.copytree(f"{crates.TOP}/examples", f"{folder}/examples")
+        shutil.copytree(f"{TOP}/examples", f"{folder}/examples")
         return all(self.run_one(command, folder, told or {}, change) == answer for command, answer in self.commands)
 
     @staticmethod
