@@ -4,7 +4,7 @@
 usage: tools/try_program.py PROGRAM
 
 Prints a line for each check that fails, and how many passed; the status is 0 where all did. What it expects is
-docs/guide/judystore.md's: the answers of the first script, the ends of the program with their status and line (rows command-lines and
+docs/use/judystore.md's: the answers of the first script, the ends of the program with their status and line (rows command-lines and
 command-line-ends), the files that it writes.
 """
 
@@ -23,8 +23,9 @@ import time
 import pages
 
 # What pages show of the program, which makes its first script the one of the guide.
-SHOWN = [pages.Example("README.md", "### A script"), pages.Example("docs/guide/judystore.md", "## A first script")]
-FIRST_SCRIPT = SHOWN[1].text.encode()
+GUIDE = "docs/use/judystore.md"
+SHOWN = [pages.Example(GUIDE, "## A first script"), pages.Example(GUIDE, "## Neighbours and counts")]
+FIRST_SCRIPT = SHOWN[0].text.encode()
 FIRST_ANSWERS = b"ok\nwas 0\nwas 7\n9\nnone\nnone\n"
 READ_FAULT = b"judystore: run: read\n"
 # The dump of a judy1 `a` with the key 1, and of the store that the first script leaves.
