@@ -1,5 +1,5 @@
-"""The programs that README.md and the pages of docs/guide show. Each stands once, in examples/: a page names that file, shows its text,
-and then commands with what they print."""
+"""The programs that README.md, the bindings' pages and those of docs/use show. Each stands once, in examples/: a page names that file, shows its
+text, and then commands with what they print."""
 
 import os
 import re
