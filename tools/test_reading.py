@@ -1,6 +1,7 @@
 #!/usr/bin/env python3
-"""Tests of what the tools read: the functions of a source, an edit, the prover's lines on an edited crate, and what a kit says of an edit and of a
-crate. They need no kit."""
+"""Tests of what the tools read: the functions of a source, an edit, the prover's lines on an edited crate, what a kit says
+of an edit and of a crate, the heads of functions for the page of contracts, and definitions that nothing reaches. They need
+no kit."""
 
 import contextlib
 import importlib.machinery
@@ -171,13 +172,53 @@ class Reading(unittest.TestCase):
             self.assertEqual(told, (what in (True, "refused", "limit"), "as the kit says"))
 
 
+def load(name):
+    """A tool whose file has no ending, as a module."""
+    loader = importlib.machinery.SourceFileLoader(name, str(pathlib.Path(__file__).with_name(name)))
+    tool = importlib.util.module_from_spec(importlib.util.spec_from_loader(name, loader))
+    loader.exec_module(tool)
+    return tool
+
+
+class Contracts(unittest.TestCase):
+    """What the page of contracts takes from a source."""
+
+    def test_heads(self):
+        contracts, lines = load("contracts"), SKIP.split("\n")
+        found = {at: functions.HEAD.match(line) for at, line in enumerate(lines)}
+        heads = {head[2]: contracts.head_of(lines, at) for at, head in found.items() if head}
+        self.assertEqual(heads["new"], "pub fn new(len: u8) -> Skip\n    requires { len ≤ 7 }")
+        self.assertEqual(heads["len"], "fn len(&self) -> u8")
+        self.assertEqual(heads["read"], "fn read(&mut self) -> u8\n    requires { true }")
+
+    def test_sentences(self):
+        contracts = load("contracts")
+        self.assertEqual(contracts.first_sentence(["The bytes of a", " [`Skip`]. (Own.)"]), "The bytes of a `Skip`.")
+        self.assertEqual(contracts.comment_above(["/// One. Two.", "#[inline]", "fn one() {"], 2), "One.")
+
+
+class Unused(unittest.TestCase):
+    """Which definitions of two files of proofs nothing reaches."""
+
+    def test_dead(self):
+        unused = load("unused")
+        texts = {
+            "proofs/One.antt": "pub same : ℕ\nsame = 1\n\npub kept : ℕ\nkept = helper\n\nhelper : ℕ\nhelper = 2\n",
+            "proofs/Two.antt": "use Rattle.low.proofs.One.{kept as other}\n\npub same : ℕ\nsame = 1\n\n"
+            "pub bound : ℕ → ℕ\nbound = λ same. other\n",
+            "proofs/f/Answers.antt": "use Rattle.low.proofs.Two.{bound}\n\npub returns : ℕ\nreturns = bound 1\n",
+            "src/lib.rt": "#[tactic(auto, using(crate::proofs::One::same))]\nfn f() {}\n",
+        }
+        files = {f"crates/low/{path}": unused.Module(f"crates/low/{path}", text) for path, text in texts.items()}
+        dead = unused.find_dead(files)
+        self.assertEqual([(block.path, block.name) for block in dead], [("crates/low/proofs/Two.antt", "same")])
+
+
 class Gate(unittest.TestCase):
     """What the gate takes from the lines of `rt ci`."""
 
     def test_proved(self):
-        loader = importlib.machinery.SourceFileLoader("gate", str(pathlib.Path(__file__).with_name("gate")))
-        gate = importlib.util.module_from_spec(importlib.util.spec_from_loader("gate", loader))
-        loader.exec_module(gate)
+        gate = load("gate")
         progress = gate.Progress(2)
         said = ["proved", "is kept: an earlier run on this machine proved it", "NOT PROVED", "ran, and wrote what its file stdout has"]
         lines = [*(f"rt: judy_{at} {each}" for at, each in enumerate(said)), "rt: judy_4: its tests are proved", "rt: judy_4: its tests passed"]
