@@ -44,6 +44,11 @@ def indent_of(line):
     return len(line) - len(line.lstrip(" "))
 
 
+def ends_head(lines, at, indent):
+    """Whether a line ends a function without a body, whose head has so many spaces in front."""
+    return lines[at].endswith(";") and (at + 1 == len(lines) or indent_of(lines[at + 1]) <= indent)
+
+
 def body_of(lines, first):
     """The lines of the braces of the body of a function whose head begins at a line; none where it has no body."""
     indent = indent_of(lines[first])
@@ -54,7 +59,7 @@ def body_of(lines, first):
         if indent_of(line) == indent and line.endswith("{"):
             closing = " " * indent + "}"
             return at, next(end for end in range(at, len(lines)) if lines[end] == closing)
-        if line.endswith(";") and (at + 1 == len(lines) or indent_of(lines[at + 1]) <= indent):
+        if ends_head(lines, at, indent):
             return None
     return None
 
