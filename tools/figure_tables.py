@@ -86,6 +86,8 @@ RUST_GOAL = 10.0
 RUST_WALKS = ("iterate", "iterate-back", "iter_mut")
 PYTHON_GOAL = 1.0
 PYTHON_WALKS = {"walk": 2.0, "items": 2.0}
+# The tables in which each figure of ours has one of libJudy's beside it.
+BESIDE_LIBJUDY = ["arrays", "dictionary", "small", "empties", "scripts"]
 # In what the work of a call is told.
 UNITS = ["instructions", "lines of 32 KiB", "lines of 1 MiB", "wrong branches"]
 NAMES = {
@@ -132,13 +134,16 @@ class Table:
         shown = f"{figure:,.{places}f}"
         return f"**{shown}**" if missed else shown
 
-    def text(self):
-        """The table without the columns in which no row has a cell, and how many figures miss their goals."""
+    def plain(self):
+        """The table alone, without the columns in which no row has a cell."""
         told = [at for at in range(len(self.rows[0])) if any(row[at] for row in self.rows[1:])]
         lines = ["| " + " | ".join(row[at] for at in told) + " |" for row in self.rows]
-        lines.insert(1, "|---" * len(told) + "|")
-        missed = ["", f"{self.missed} of {self.judged} figures with a goal miss it."] if self.judged else []
-        return "\n".join([*lines, *missed])
+        return "\n".join([lines[0], "|---" * len(told) + "|", *lines[1:]])
+
+    def text(self):
+        """The table, and how many of its figures miss their goals."""
+        missed = f"\n\n{self.missed} of {self.judged} figures with a goal miss it." if self.judged else ""
+        return self.plain() + missed
 
 
 def keys_told(keys):
@@ -166,6 +171,34 @@ def means(told):
             if any(found):
                 table.row(array, keys_told(keys), name_of(array, library), *found)
     return table.text()
+
+
+def short_means(told, operations):
+    """The means of Sellumaq, of HP's names and of std's maps, without goals; what is above libJudy's is in bold."""
+    table = Table("array", "library", *operations)
+    for (array, _), each in told.items():
+        for library in ("sellumaq", "relinked", std_of(array)):
+            level = None if library == std_of(array) else 1.0
+            found = [table.judge(each.mean(library, it), level) for it in operations]
+            if all(found[:2]):
+                table.row(array, name_of(array, library), *found)
+    return table.plain()
+
+
+def slower(tables):
+    """All figures of ours that are above libJudy's, the farthest first."""
+    found = []
+    for name in BESIDE_LIBJUDY:
+        for (array, keys), each in figures.figures_of(tables.get(name, [])).items():
+            ours, unit = ("judystore", "s") if name == "scripts" else ("sellumaq", None)
+            for pattern in each.patterns() or [figures.MEAN]:
+                for call in each.calls():
+                    ratio = each.ratio(ours, pattern, call, "libjudy", unit)
+                    found += [(ratio, name, array, keys, pattern, call)] if ratio and round(ratio, 2) > 1 else []
+    table = Table("of", "array", "keys", "pattern", "call", "by libJudy's")
+    for ratio, name, array, keys, pattern, call in sorted(found, reverse=True):
+        table.row(name, array, keys_told(keys), pattern, call, f"{ratio:.2f}")
+    return table.plain()
 
 
 def by_pattern(told):
