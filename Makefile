@@ -149,14 +149,15 @@ dist:
 	@git archive --format=tar --prefix=sellumaq-$(VERSION)/ HEAD | xz -9e -T1 >sellumaq-$(VERSION).tar.xz
 	@echo 'packed sellumaq-$(VERSION).tar.xz'
 
+# Where the figures of a run are kept, of which the pages of figures are made.
+RESULTS = bench/results/$(shell date +%F).csv
+
 # A million keys take long, forty minutes or more where other work runs beside; 10,000 take five, and the program seven.
-bench: lib judystore
-	@tools/bench $(LIB) --svg docs/bench.svg $(KEYS)
-	@tools/bench_program ./judystore
-	@python3 bindings/python/build_package.py $(LIB) out/python && PYTHONPATH=out/python bench/sorted.py
-	@if command -v cargo >/dev/null 2>&1; then \
-		cd bindings/rust && SELLUMAQ_LIB=$(abspath $(LIB)) cargo run --offline --release --quiet --example beside_std; \
-	else echo 'no cargo here: the Rust crate is not measured beside std'; fi
+bench: lib judystore python
+	@tools/bench $(LIB) --csv $(RESULTS) $(KEYS)
+	@tools/bench_program ./judystore --csv $(RESULTS)
+	@tools/bench_bindings $(LIB) out/python --csv $(RESULTS)
+	@tools/tables
 
 # Under DESTDIR, which is for those who pack: the program with its page, and the library with what each language needs to use it. What is
 # built already is taken as it is, so this needs no kit then. Each file gets its mode here, whatever the umask.

@@ -192,10 +192,10 @@ MEASURE(counts_std, void *, btree_text_new(), btree_text_free(a), btree_text_ins
 #endif
 
 static const struct array ARRAYS[] = {
-    {"counts", "sellumaq", counts_sellumaq},
-    {"counts", "skip-list", counts_skip_list},
+    {"judysl", "sellumaq", counts_sellumaq},
+    {"judysl", "skip-list", counts_skip_list},
 #ifdef WITH_STD
-    {"counts", "btreemap", counts_std},
+    {"judysl", "btreemap", counts_std},
 #endif
 };
 

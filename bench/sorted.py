@@ -3,17 +3,20 @@
 
     PYTHONPATH=out/python bench/sorted.py [KEYS]
 
-The figures are ratios of times: sortedcontainers' is 1.00, less is faster. Each time is the least of five runs, taken in turn. A dict and a set
-have no order, so they lack most of the calls.
-"""
+It prints a line for each figure, as the measuring programs in C do: KIND LIBRARY PATTERN KEYS CALL NUMBER, the
+number being nanoseconds of processor time a key, the least of five runs, which take turns. `plain` is a dict or a
+set, which have no order and so lack most of the calls. `range` is a walk over Python's own range of the same
+numbers, which makes each anew as a walk through a Judy array does. """
 
 import random
 import sys
 import time
 
 from sellumaq import BINDING, Judy1, JudyL
+from sortedcontainers import SortedDict, SortedSet
 
-GOALS = {"walk": 2.0, "items": 2.0}
+# By the ctypes binding another name, since its figures are others.
+OURS = "sellumaq" if BINDING == "extension" else f"sellumaq-{BINDING}"
 
 
 def use_all(walk):
@@ -59,42 +62,39 @@ def measure(named, operations, keys, places):
     return least
 
 
-def show(least, ours, theirs, plain):
-    print(f"| {ours} | of {theirs}'s time | {plain} | goal |\n|---|---|---|---|")
-    for operation, time_of_theirs in least[theirs].items():
-        goal, ratios = GOALS.get(operation, 1.0), [least[name][operation] / time_of_theirs for name in (ours, plain)]
-        missed = "*" if ratios[0] > goal else ""
-        print(f"| {operation} | {missed}{ratios[0]:.2f}{missed} | {'-' if ratios[1] > 1e9 else f'{ratios[1]:.2f}'} | {goal:.1f} |")
+def show(kind, pattern, keys, least):
+    for library, times in least.items():
+        for call, time in times.items():
+            if time < float("inf"):
+                print(f"{kind} {library} {pattern} {keys} {call} {time / keys * 1e9:.2f}", flush=True)
 
 
-def show_floor(multiples, theirs):
-    """What a walk takes that does nothing but make the numbers, as one through a Judy array does too."""
-    own, beside = (min(seconds(SETS["walk"], it, (), ()) for _ in range(15)) for it in (range(0, max(multiples) + 1, 16), theirs))
-    print(f"\nA walk over Python's own range of these numbers, which makes each anew too, takes {own / beside:.2f} of SortedSet's time.")
+def measure_pattern(pattern, keys, chance):
+    """A set and a dict of these keys, and beside them the walk that does nothing but make the numbers."""
+    count = len(keys)
+    places = [chance.randrange(count) for _ in range(count)]
+    sets = {OURS: Judy1(keys), "sortedcontainers": SortedSet(keys), "plain": set(keys)}
+    show("judy1", pattern, count, measure(sets, SETS, keys, places))
+    if pattern == "multiples-of-16":
+        numbers = range(0, max(keys) + 1, 16)
+        least = min(seconds(SETS["walk"], numbers, (), ()) for _ in range(15))
+        show("judy1", pattern, count, {"range": {"walk": least}})
+    pairs = {key: n for n, key in enumerate(keys)}
+    chance.shuffle(keys)
+    dicts = {OURS: JudyL(pairs), "sortedcontainers": SortedDict(pairs), "plain": pairs}
+    show("judyl", pattern, count, measure(dicts, DICTS, keys, places))
 
 
 def main():
-    try:
-        from sortedcontainers import SortedDict, SortedSet
-    except ImportError:
-        print("no sortedcontainers here: nothing is measured")
-        return
     count = int(sys.argv[1]) if len(sys.argv) > 1 else 200_000
     chance = random.Random(1)
     patterns = {
-        "random words": chance.sample(range(0, 2**63, 2), count),
-        "multiples of 16": [n * 16 for n in range(count)],
+        "random-words": chance.sample(range(0, 2**63, 2), count),
+        "multiples-of-16": [n * 16 for n in range(count)],
     }
     for pattern, keys in patterns.items():
         chance.shuffle(keys)
-        places = [chance.randrange(count) for _ in range(count)]
-        print(f"\n{count:,} {pattern}, by the {BINDING} binding\n")
-        show(measure({"Judy1": Judy1(keys), "SortedSet": SortedSet(keys), "set": set(keys)}, SETS, keys, places), "Judy1", "SortedSet", "set")
-        pairs = {key: n for n, key in enumerate(keys)}
-        chance.shuffle(keys)
-        print()
-        show(measure({"JudyL": JudyL(pairs), "SortedDict": SortedDict(pairs), "dict": pairs}, DICTS, keys, places), "JudyL", "SortedDict", "dict")
-    show_floor(keys, SortedSet(keys))
+        measure_pattern(pattern, keys, chance)
 
 
 if __name__ == "__main__":

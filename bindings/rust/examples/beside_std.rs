@@ -1,5 +1,6 @@
-//! Measures the arrays beside std's sets and maps: `cargo run --release --example beside_std`. Each figure is the least of 15 turns, in
-//! nanoseconds of processor time a key, with the ratio to std's.
+//! Measures the arrays beside std's sets and maps: `cargo run --release --example beside_std`. It prints a line for each figure, as
+//! the measuring programs in C do: ARRAY LIBRARY PATTERN KEYS CALL NUMBER, the number being nanoseconds of processor time a key, the
+//! least of 15 turns. `by-calls` is a walk by the call of C that each step of an iterator makes, without the iterator.
 // One text measures std's types too, which want keys lent; and it may ask for a newer Rust than the crate.
 #![allow(
     clippy::needless_borrows_for_generic_args,
@@ -16,7 +17,7 @@ type Pattern = (&'static str, fn(u64) -> u64);
 
 const PATTERNS: [Pattern; 3] = [
     ("ascending", |n| n),
-    ("runs of 100", |n| n % 100 + n / 100 * 1_000_003),
+    ("runs-of-100", |n| n % 100 + n / 100 * 1_000_003),
     ("random", |n| n.wrapping_mul(0x9e37_79b9_7f4a_7c15)),
 ];
 
@@ -48,27 +49,29 @@ fn nanoseconds<T>(keys: usize, before: impl Fn() -> T, act: impl Fn(T)) -> f64 {
     (0..15).map(|_| turn()).fold(f64::INFINITY, f64::min)
 }
 
-fn tell(what: &str, ours: f64, std: f64) {
-    println!("  {what:<24} {ours:8.1} ns {std:8.1} ns {:6.2}", ours / std);
+/// Which keys are measured: their pattern, and how many there are.
+type Keys<'a> = (&'a str, usize);
+
+fn tell(array: &str, library: &str, (pattern, count): Keys, call: &str, time: f64) {
+    println!("{array} {library} {pattern} {count} {call} {time:.2}");
 }
 
 macro_rules! side_by_side {
-    ($what:literal, $keys:expr, $ours:expr, $std:expr, |$it:ident| $act:expr) => {
-        tell(
-            $what,
-            nanoseconds($keys, $ours, |mut $it| {
-                let _ = &mut $it;
-                $act;
-            }),
-            nanoseconds($keys, $std, |mut $it| {
-                let _ = &mut $it;
-                $act;
-            }),
-        )
+    ($array:literal, $call:literal, $keys:expr, $ours:expr, $std:expr, |$it:ident| $act:expr) => {
+        let ours = nanoseconds($keys.1, $ours, |mut $it| {
+            let _ = &mut $it;
+            $act;
+        });
+        tell($array, "sellumaq", $keys, $call, ours);
+        let std = nanoseconds($keys.1, $std, |mut $it| {
+            let _ = &mut $it;
+            $act;
+        });
+        tell($array, "std", $keys, $call, std);
     };
 }
 
-fn measure(keys: &[u64]) {
+fn measure(pattern: &str, keys: &[u64]) {
     let (set, plain_set): (Judy1, BTreeSet<u64>) = (
         keys.iter().copied().collect(),
         keys.iter().copied().collect(),
@@ -78,71 +81,79 @@ fn measure(keys: &[u64]) {
         keys.iter().map(|key| (*key, 1)).collect(),
     );
     let (shuffled, count) = (|n: usize| keys[n * 7919 % keys.len()], keys.len());
-    side_by_side!("set: insert", count, Judy1::new, BTreeSet::new, |it| (0
+    let told = (pattern, count);
+    side_by_side!("judy1", "insert", told, Judy1::new, BTreeSet::new, |it| (0
         ..count)
         .for_each(|n| see(it.insert(shuffled(n)))));
-    side_by_side!("set: contains", count, || &set, || &plain_set, |it| (0
+    side_by_side!("judy1", "contains", told, || &set, || &plain_set, |it| (0
         ..count)
         .for_each(|n| see(it.contains(&shuffled(n)))));
-    side_by_side!("set: iterate", count, || &set, || &plain_set, |it| it
+    side_by_side!("judy1", "iterate", told, || &set, || &plain_set, |it| it
         .iter()
-        .for_each(|key| see(key)));
-    side_by_side!("set: iterate back", count, || &set, || &plain_set, |it| it
-        .iter()
-        .rev()
         .for_each(|key| see(key)));
     side_by_side!(
-        "set: remove",
-        count,
+        "judy1",
+        "iterate-back",
+        told,
+        || &set,
+        || &plain_set,
+        |it| it.iter().rev().for_each(|key| see(key))
+    );
+    side_by_side!(
+        "judy1",
+        "remove",
+        told,
         || set.clone(),
         || plain_set.clone(),
         |it| (0..count).for_each(|n| see(it.remove(&shuffled(n))))
     );
     side_by_side!(
-        "set: pop_first",
-        count,
+        "judy1",
+        "pop_first",
+        told,
         || set.clone(),
         || plain_set.clone(),
         |it| while it.pop_first().is_some() {}
     );
-    side_by_side!("map: insert new", count, JudyL::new, BTreeMap::new, |it| (0
+    side_by_side!("judyl", "insert", told, JudyL::new, BTreeMap::new, |it| (0
         ..count)
         .for_each(|n| see(it.insert(shuffled(n), 1))));
-    side_by_side!("map: extend", count, JudyL::new, BTreeMap::new, |it| it
+    side_by_side!("judyl", "extend", told, JudyL::new, BTreeMap::new, |it| it
         .extend((0..count).map(|n| (shuffled(n), 1))));
     side_by_side!(
-        "map: insert again",
-        count,
+        "judyl",
+        "insert-again",
+        told,
         || map.clone(),
         || plain.clone(),
         |it| (0..count).for_each(|n| see(it.insert(shuffled(n), 2)))
     );
-    side_by_side!("map: get", count, || &map, || &plain, |it| (0..count)
+    side_by_side!("judyl", "get", told, || &map, || &plain, |it| (0..count)
         .for_each(|n| see(it.get(&shuffled(n)))));
-    side_by_side!("map: entry", count, JudyL::new, BTreeMap::new, |it| (0
+    side_by_side!("judyl", "entry", told, JudyL::new, BTreeMap::new, |it| (0
         ..count)
         .for_each(|n| *it.entry(shuffled(n)).or_insert(0) += 1));
-    side_by_side!("map: iterate", count, || &map, || &plain, |it| it
+    side_by_side!("judyl", "iterate", told, || &map, || &plain, |it| it
         .iter()
         .for_each(|pair| see(pair)));
     side_by_side!(
-        "map: iter_mut",
-        count,
+        "judyl",
+        "iter_mut",
+        told,
         || map.clone(),
         || plain.clone(),
         |it| it.iter_mut().for_each(|(_, value)| *value += 1)
     );
     side_by_side!(
-        "map: remove",
-        count,
+        "judyl",
+        "remove",
+        told,
         || map.clone(),
         || plain.clone(),
         |it| (0..count).for_each(|n| see(it.remove(&shuffled(n))))
     );
-    println!(
-        "  map: the call of C alone {:8.1} ns",
-        nanoseconds(count, || (), |()| walk_by_the_call(&map))
-    );
+    let by_calls = nanoseconds(count, || (), |()| walk_by_the_call(&map));
+    tell("judyl", "by-calls", told, "iterate", by_calls);
 }
 
 /// The walk of an iterator by the call of C that each of its steps makes, without the iterator.
@@ -155,11 +166,9 @@ fn walk_by_the_call(map: &JudyL) {
 }
 
 fn main() {
-    println!("{:<26} {:>11} {:>11} {:>6}", "", "Sellumaq", "std", "ratio");
     for count in [10_000, 200_000] {
-        for (name, key) in PATTERNS {
-            println!("{count} keys, {name}");
-            measure(&(0..count).map(key).collect::<Vec<_>>());
+        for (pattern, key) in PATTERNS {
+            measure(pattern, &(0..count).map(key).collect::<Vec<_>>());
         }
     }
 }
