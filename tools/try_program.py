@@ -133,6 +133,8 @@ REFUSED = [
     ("--dump", "error: a value is required for '--dump <FILE>'"),
     ("a b", "error: unexpected argument 'b'"),
     ("--nope", "error: unexpected argument '--nope'"),
+    ("-f 2", "error: unexpected argument '-f'"),
+    ("-l d", "error: unexpected argument '-l'"),
     ("--load a --load b", "error: the argument '--load <FILE>' cannot be used multiple times"),
     ("--load -x", "error: unexpected argument '-x'"),
     ("--format", "error: a value is required for '--format <N>'"),
