@@ -6,7 +6,8 @@ use Rattle.judy_model.specs.DumpExamples.{small, heading, head_of_prefixes}
 abbrev pub up_to_kind : List ℕ
 up_to_kind = heading 1 ++ 1 ∷ 97 ∷ []
 
--- The beginning of a dump of one judysl array with the keys of no bytes and `ab`, up to the third key of three: in the first format.
+-- The beginning of a dump of one judysl array with the keys of no bytes and `ab`, up to the third key of three: in the
+-- first format.
 abbrev pub up_to_third_key : List ℕ
 up_to_third_key = heading 1 ++ head_of_prefixes ++ 0 ∷ 0 ∷ small 1 ++ 0 ∷ 2 ∷ codes "ab" ++ small 2
 

@@ -1,5 +1,5 @@
-//! What the program prints of its ends and faults, and the exit status of each end: the table in docs/FORMATS.md, computed by the check. Nothing here
-//! is run.
+//! What the program prints of its ends and faults, and the exit status of each end: the table in docs/FORMATS.md,
+//! computed by the check. Nothing here is run.
 
 ghost use Rattle.std.specs.Prelude.{◌≡◌, [], ◌∷◌, ◌++◌, codes, string_bytes};
 ghost use Rattle.judy_script.specs.declared.fault.RunFault.{RunFault};

@@ -1,5 +1,5 @@
-//! Faults of dumps that end right behind the field by which they are told, so that no field behind it is asked for first; and the order of faults
-//! that one field has.
+//! Faults of dumps that end right behind the field by which they are told, so that no field behind it is asked for
+//! first; and the order of faults that one field has.
 
 ghost use Rattle.std.specs.Prelude.{◌≡◌, [], ◌∷◌, ◌++◌, codes, Some};
 ghost use Rattle.judy_model.specs.Fields.{truncated, bad_magic, too_many, bad_name, same_name, bad_kind, bad_limit, bad_count, bad_key, bad_order, bad_prefix};
@@ -20,7 +20,8 @@ pub fn faults_in_front_of_keys()
     ensures count { flaw_of (up_to_kind ++ 1 ∷ small 1 ++ small 2) ≡ Some bad_count }
 {}
 
-/// Faults of keys in the first format: a key that is no greater than the one before, in an array of each kind, and of a judysl array one with a zero byte.
+/// Faults of keys in the first format: a key that is no greater than the one before, in an array of each kind, and of a
+/// judysl array one with a zero byte.
 pub fn faults_of_keys()
     ensures set { flaw_of (up_to_keys 1 ++ small 5 ++ small 5) ≡ Some bad_order }
     ensures words { flaw_of (up_to_keys 2 ++ small 5 ++ small 9 ++ small 4) ≡ Some bad_order }
@@ -51,7 +52,8 @@ pub fn a_great_shared_length_is_told_behind_it()
     ensures half { flaw_of (two_entries ++ 3 ∷ []) ≡ Some truncated }
 {}
 
-/// The faults of the bytes of a key in the second format, behind the key `ab`: a zero byte, then a shared front that isn't the longest, then the order.
+/// The faults of the bytes of a key in the second format, behind the key `ab`: a zero byte, then a shared front that
+/// isn't the longest, then the order.
 pub fn a_slack_front_comes_before_the_order()
     ensures same_key { flaw_of (two_entries ++ 0 ∷ 0 ∷ 0 ∷ 2 ∷ codes "ab") ≡ Some bad_prefix }
     ensures lesser_key { flaw_of (two_entries ++ 0 ∷ 0 ∷ 0 ∷ 2 ∷ codes "aa") ≡ Some bad_prefix }

@@ -1,4 +1,5 @@
-//! Lines of 4,096 bytes, which fit, and of 4,097, which don't: of letters, of spaces, a comment, with a CR, and a last line.
+//! Lines of 4,096 bytes, which fit, and of 4,097, which don't: of letters, of spaces, a comment, with a CR, and a last
+//! line.
 
 ghost use Rattle.std.specs.Prelude.{◌≡◌, [], ◌∷◌, ◌++◌, codes, true, false, Ok, Err};
 ghost use Rattle.judy_model.specs.Lines.{is_too_long};

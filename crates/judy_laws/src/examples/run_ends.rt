@@ -1,4 +1,5 @@
-//! Runs of `make a judyl`, an LF and `ins a 5 7` that a fault ended: the first line, of 13 bytes with its LF, was run alone.
+//! Runs of `make a judyl`, an LF and `ins a 5 7` that a fault ended: the first line, of 13 bytes with its LF, was run
+//! alone.
 
 ghost use Rattle.std.specs.Prelude.{◌≡◌, [], ◌∷◌, ◌++◌, codes, true, IsTrue};
 ghost use Rattle.judy_model.specs.RunEnds.{read, too_long, LeftBy};

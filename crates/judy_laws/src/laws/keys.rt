@@ -3,8 +3,8 @@
 ghost use Rattle.std.specs.Prelude.{◌≡◌, ◌<◌, ◌≤◌, ◌⊎◌, ℕ, All, List, ◌∷◌, ◌++◌};
 ghost use Rattle.judy_model.specs.KeyTokens.{digits_of, printed_key};
 
-/// A key is printed as it stands behind `=` where each of its bytes is from `!` (33) to `~` (126). One other byte, as each from 128 on is, has it
-/// printed in digits behind `#`.
+/// A key is printed as it stands behind `=` where each of its bytes is from `!` (33) to `~` (126). One other byte, as
+/// each from 128 on is, has it printed in digits behind `#`.
 pub fn one_byte_that_is_no_sign_has_a_key_printed_in_digits()
     ensures signs { (key : List ℕ) → All (λ byte. (33 ≤ byte) × (byte ≤ 126)) key
         → printed_key key ≡ 61 ∷ key }

@@ -6,8 +6,8 @@ ghost use Rattle.judy_model.specs.Stores.{Store};
 ghost use Rattle.judy_model.specs.Replies.{Reply, line_too_long};
 ghost use Rattle.judy_model.specs.Steps.{step, Step};
 
-/// A line of more than 4,096 bytes, whatever they are and whatever ended it, is refused as too long and leaves the store, and no other line is
-/// refused so.
+/// A line of more than 4,096 bytes, whatever they are and whatever ended it, is refused as too long and leaves the
+/// store, and no other line is refused so.
 pub fn exactly_the_lines_over_4096_bytes_are_too_long()
     ensures refused { (store : Store) (line : Line) → 4096 < length line.bytes
         → step store line ≡ (Err line_too_long, store) }
