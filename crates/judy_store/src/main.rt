@@ -9,13 +9,14 @@
 //!
 //! work.rt does what the words ask, in the program's order:
 //! files.rt opens the files, dump_file.rt has the one that is written, pipes.rt has the pipes over them, and store.rt what is done with these. end.rt tells how
-//! the program ends.
+//! the program ends, and examples.rt has what is printed of each end.
 #![tactic(auto)]
 
 ghost use Rattle.std.specs.Prelude.{◌<◌, ◌-◌, ◌^◌};
 
 mod dump_file;
 mod end;
+mod examples;
 mod files;
 mod pipes;
 mod store;

@@ -1,0 +1,4 @@
+pub mod CommandNames
+pub mod WholeLines
+pub mod LineExamples
+pub mod FaultPlaces
