@@ -1,4 +1,4 @@
-//! Short cases of the definitions, each computed by the check. Their values are those of docs/FORMATS.md.
+//! Short cases of the definitions, each computed by the check. Their values are those of docs/use/formats.md.
 
 pub mod dump_faults;
 pub mod keys;

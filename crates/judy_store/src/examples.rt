@@ -1,4 +1,4 @@
-//! What the program prints of its ends and faults, and the exit status of each end: the table in docs/FORMATS.md,
+//! What the program prints of its ends and faults, and the exit status of each end: the table in docs/use/formats.md,
 //! computed by the check. Nothing here is run.
 
 ghost use Rattle.std.specs.Prelude.{◌≡◌, [], ◌∷◌, ◌++◌, codes, string_bytes};
