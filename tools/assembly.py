@@ -9,7 +9,9 @@ import re
 
 # Names that any assembler reads: those that the C library and callers know, and those that were made here.
 PLAIN = re.compile(r"[A-Za-z_.][\w.]*")
-PATH_END = re.compile(r"(\w+)[^\w:]*(?:::<#\w+>)*(?:\+\w+)?$")
+# The types that a path names in angles, and what stands behind its last word.
+TYPES = re.compile(r"(?:::)?<[^<>]*>")
+PATH_END = re.compile(r"([A-Za-z_]\w*)[^\w:]*(?:\+\w+)?$")
 NUMBERED = re.compile(r"\.L(BB|CPI|JTI|func_end)(\d+)(?:_(\d+))?\b")
 QUOTED = re.compile(r'"([^"]*)"')
 CONSTANT = re.compile(r"\.Lstatic\.\d+")
@@ -17,6 +19,10 @@ CONSTANT = re.compile(r"\.Lstatic\.\d+")
 MARKS = {"BB": "", "CPI": "c", "JTI": "t", "func_end": "e"}
 # Lines that tell the compiler's version, the module's name, and what the linker may fold.
 DROPPED = re.compile(r"\s*\.(file|ident|addrsig|addrsig_sym)\b")
+FUNCTION = re.compile(r"\s*\.type\s+.*,@function$")
+FUNCTION_END = re.compile(r"\s*\.size\s+.*, \.Lfunc_end\d+-")
+UNWINDING = re.compile(r"\s*\.cfi_")
+UNWINDING_PLACE = re.compile(r"^\s*\.cfi_sections .*\n", re.MULTILINE)
 TEXT_LINE = re.compile(r"\s*\.(ascii|asciz|string)\b")
 DIGITS = "0123456789abcdefghijklmnopqrstuvwxyz"
 
@@ -39,7 +45,10 @@ def symbol_of(path):
     """The symbol of a function, or of a table of one: the end of its path, and a sum of the whole."""
     if PLAIN.fullmatch(path):
         return path
-    found = PATH_END.search(path)
+    plain, count = path, 1
+    while count:
+        plain, count = TYPES.subn("", plain)
+    found = PATH_END.search(plain)
     if not found:
         raise Unknown(f"no end of a path: {path}")
     return f"{found[1]}.{sum_of(path)}"
@@ -123,6 +132,28 @@ def named_by_contents(lines):
 
     for line in lines:
         yield line if TEXT_LINE.match(line) else CONSTANT.sub(lambda found: name_of(found[0]), line)
+
+
+def parts_of(lines):
+    """The lines of each function from its `.type` line to its end, and those between functions, in their order."""
+    part = []
+    for line in lines:
+        if FUNCTION.match(line) and part:
+            yield part
+            part = []
+        part.append(line)
+        if FUNCTION_END.match(line):
+            yield part
+            part = []
+    yield part
+
+
+def with_unwinding(plain, unwound):
+    """The plain text, with the lines that tell how the stack is unwound in each function whose code is the same with them."""
+    told = UNWINDING_PLACE.sub("", unwound)
+    both = zip(parts_of(plain.splitlines()), parts_of(told.splitlines()), strict=True)
+    chosen = ((more if [line for line in more if not UNWINDING.match(line)] == part else part) for part, more in both)
+    return "\n".join(line for part in chosen for line in part) + "\n"
 
 
 def with_lasting_names(text):
