@@ -102,9 +102,11 @@ $(LIB)/calls.o: compiled/sellumaq.s | buildable
 	@mkdir -p $(LIB)
 	@$(CC) -c $< -o $@
 
-$(LIB)/sellumaq.o: $(LIB)/calls.o compiled/system.c
-	@$(CC) $(C_FLAGS) -fPIC $(CPPFLAGS) $(CFLAGS) -c compiled/system.c -o $(LIB)/system.o
-	@$(LD) -r $(LIB)/calls.o $(LIB)/system.o -o $@
+$(LIB)/sellumaq.o: $(LIB)/calls.o compiled/system.c bindings/c/about.c bindings/c/sellumaq.h
+	@for part in compiled/system bindings/c/about; do \
+		$(CC) $(C_FLAGS) -fPIC $(CPPFLAGS) $(CFLAGS) -c $$part.c -o $(LIB)/$${part##*/}.o || exit 1; \
+	done
+	@$(LD) -r $(LIB)/calls.o $(LIB)/system.o $(LIB)/about.o -o $@
 	@$(OBJCOPY) --wildcard --keep-global-symbol='sellumaq_*' $@
 
 $(LIB)/judy.o: $(LIB)/calls.o compiled/system.c $(C_SOURCES)
@@ -177,7 +179,7 @@ install-library: lib python
 	install -m 755 $(LIB)/libJudy.so "$(DESTDIR)$(JUDYDIR)/libJudy.so.1"
 	ln -sf libJudy.so.1 "$(DESTDIR)$(JUDYDIR)/libJudy.so"
 	for name in $(PACKAGES); do \
-		sed 's|@PREFIX@|$(PREFIX)|; s|@LIBDIR@|$(LIBDIR)|; s|@JUDYDIR@|$(JUDYDIR)|' bindings/c/$$name.in >$(LIB)/$$name && \
+		sed 's|@PREFIX@|$(PREFIX)|; s|@LIBDIR@|$(LIBDIR)|; s|@JUDYDIR@|$(JUDYDIR)|; s|@VERSION@|$(VERSION)|' bindings/c/$$name.in >$(LIB)/$$name && \
 		install -m 644 $(LIB)/$$name "$(DESTDIR)$(LIBDIR)/pkgconfig/$$name" || exit 1; \
 	done
 	install -m 644 bindings/c/sellumaq.h "$(DESTDIR)$(PREFIX)/include/sellumaq.h"
