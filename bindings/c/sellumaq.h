@@ -71,6 +71,10 @@ enum {
     SELLUMAQ_TOO_SMALL = 5  /* of strings: the key found doesn't fit the caller's buffer */
 };
 
+/* An answer as text for people, in English and without an end of line: from SELLUMAQ_NO_MEMORY on why the call refused. 0 and 1 mean two things
+ * each, and no refusal, and their texts say so; any other number is told as one that no call answers. The text is never freed. */
+const char *sellumaq_error_text(int number);
+
 /* ---- sets of words ---- */
 
 typedef struct { void *array; } sellumaq_judy1;
