@@ -12,6 +12,9 @@ VERSION := $(shell cat VERSION)
 # The folder of this project's libJudy, which is no linker's own: a libJudy that is installed stays what programs find.
 JUDYDIR = $(LIBDIR)/sellumaq
 
+# The number goes up where a program that was linked against the library before can't run over it: bindings/c/abi.txt says what these rest on.
+SONAME := libsellumaq.so.1
+
 # The packages that pkg-config knows then, the calls of the header, each of which gets a page, and the folders that a prefix of this project's
 # own has, which go with the last file in them.
 MAN = $(PREFIX)/share/man
@@ -125,9 +128,9 @@ $(LIB)/libJudy.a: $(LIB)/judy.o
 	@rm -f $@ && ar rcs $@ $<
 	@echo 'built $@'
 
-$(LIB)/libsellumaq.so: $(LIB)/sellumaq.o
-	@$(CC) -shared -Wl,-soname,libsellumaq.so.0 -Wl,-Bsymbolic $(HARDENED) $(LDFLAGS) -o $@ $<
-	@ln -sf libsellumaq.so $(LIB)/libsellumaq.so.0
+$(LIB)/libsellumaq.so: $(LIB)/sellumaq.o bindings/c/sellumaq.map
+	@$(CC) -shared -Wl,-soname,$(SONAME) -Wl,--version-script,bindings/c/sellumaq.map -Wl,-Bsymbolic $(HARDENED) $(LDFLAGS) -o $@ $<
+	@ln -sf libsellumaq.so $(LIB)/$(SONAME)
 	@echo 'built $@'
 
 # Its calls of itself stay in it, but those of the four functions that a program may replace.
@@ -173,8 +176,8 @@ install-library: lib python
 	install -d "$(DESTDIR)$(JUDYDIR)" "$(DESTDIR)$(LIBDIR)/pkgconfig" "$(DESTDIR)$(PREFIX)/include/sellumaq" "$(DESTDIR)$(MAN)/man3"
 	install -d "$(DESTDIR)$(PYTHON_DIR)/sellumaq"
 	install -m 644 $(LIB)/libsellumaq.a "$(DESTDIR)$(LIBDIR)/libsellumaq.a"
-	install -m 755 $(LIB)/libsellumaq.so "$(DESTDIR)$(LIBDIR)/libsellumaq.so.0"
-	ln -sf libsellumaq.so.0 "$(DESTDIR)$(LIBDIR)/libsellumaq.so"
+	install -m 755 $(LIB)/libsellumaq.so "$(DESTDIR)$(LIBDIR)/$(SONAME)"
+	ln -sf $(SONAME) "$(DESTDIR)$(LIBDIR)/libsellumaq.so"
 	install -m 644 $(LIB)/libJudy.a "$(DESTDIR)$(JUDYDIR)/libJudy.a"
 	install -m 755 $(LIB)/libJudy.so "$(DESTDIR)$(JUDYDIR)/libJudy.so.1"
 	ln -sf libJudy.so.1 "$(DESTDIR)$(JUDYDIR)/libJudy.so"
@@ -212,7 +215,7 @@ uninstall:
 		at="$(DESTDIR)$(LIBDIR)/$$name"; \
 		if [ "$$(readlink "$$at")" = "$(JUDYDIR)/$$name" ]; then rm "$$at"; fi; \
 	done
-	cd "$(DESTDIR)$(LIBDIR)" 2>/dev/null && rm -f libsellumaq.a libsellumaq.so libsellumaq.so.0 $(addprefix pkgconfig/,$(PACKAGES)) || true
+	cd "$(DESTDIR)$(LIBDIR)" 2>/dev/null && rm -f libsellumaq.a libsellumaq.so $(SONAME) $(addprefix pkgconfig/,$(PACKAGES)) || true
 	cd "$(DESTDIR)$(JUDYDIR)" 2>/dev/null && rm -f libJudy.a libJudy.so libJudy.so.1 || true
 	rm -f "$(DESTDIR)$(PREFIX)/include/sellumaq.h"
 	rm -rf "$(DESTDIR)$(PYTHON_DIR)/sellumaq"
