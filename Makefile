@@ -15,10 +15,15 @@ JUDYDIR = $(LIBDIR)/sellumaq
 # The number goes up where a program that was linked against the library before can't run over it: bindings/c/abi.txt says what these rest on.
 SONAME := libsellumaq.so.1
 
-# The packages that pkg-config knows then, the calls of the header, each of which gets a page, and the folders that a prefix of this project's
-# own has, which go with the last file in them.
+# What tells pkg-config and CMake of the library, below LIBDIR, each made of a file of bindings/c, in which the words between two @ are replaced.
+FINDERS := $(addprefix pkgconfig/,sellumaq.pc sellumaq-judy.pc) $(addprefix cmake/sellumaq/,sellumaq-config.cmake sellumaq-config-version.cmake)
+from_libdir = $(shell realpath -ms --relative-to='$(LIBDIR)' '$(1)')
+REPLACED = s|@PREFIX@|$(PREFIX)|; s|@LIBDIR@|$(LIBDIR)|; s|@JUDYDIR@|$(JUDYDIR)|; s|@VERSION@|$(VERSION)|; s|@SONAME@|$(SONAME)|; \
+	s|@TO_PREFIX@|$(call from_libdir,$(PREFIX))|; s|@TO_JUDYDIR@|$(call from_libdir,$(JUDYDIR))|
+
+# The calls of the header, each of which gets a page, and the folders that a prefix of this project's own has, which go with the last file in
+# them.
 MAN = $(PREFIX)/share/man
-PACKAGES := sellumaq.pc sellumaq-judy.pc
 CALLS = $(shell grep -ow 'sellumaq_judy[1a-z]*_[a-z_]*' bindings/c/sellumaq.h | sort -u)
 OWN_FOLDERS = $(if $(filter-out /usr /usr/local,$(PREFIX)),"$(PYTHON_DIR)" "$(dir $(PYTHON_DIR))" "$(MAN)" "$(LIBDIR)" $(foreach name,bin include lib share,"$(PREFIX)/$(name)") "$(PREFIX)")
 
@@ -174,16 +179,16 @@ install-program: judystore
 
 install-library: lib python
 	install -d "$(DESTDIR)$(JUDYDIR)" "$(DESTDIR)$(LIBDIR)/pkgconfig" "$(DESTDIR)$(PREFIX)/include/sellumaq" "$(DESTDIR)$(MAN)/man3"
-	install -d "$(DESTDIR)$(PYTHON_DIR)/sellumaq"
+	install -d "$(DESTDIR)$(LIBDIR)/cmake/sellumaq" "$(DESTDIR)$(PYTHON_DIR)/sellumaq"
 	install -m 644 $(LIB)/libsellumaq.a "$(DESTDIR)$(LIBDIR)/libsellumaq.a"
 	install -m 755 $(LIB)/libsellumaq.so "$(DESTDIR)$(LIBDIR)/$(SONAME)"
 	ln -sf $(SONAME) "$(DESTDIR)$(LIBDIR)/libsellumaq.so"
 	install -m 644 $(LIB)/libJudy.a "$(DESTDIR)$(JUDYDIR)/libJudy.a"
 	install -m 755 $(LIB)/libJudy.so "$(DESTDIR)$(JUDYDIR)/libJudy.so.1"
 	ln -sf libJudy.so.1 "$(DESTDIR)$(JUDYDIR)/libJudy.so"
-	for name in $(PACKAGES); do \
-		sed 's|@PREFIX@|$(PREFIX)|; s|@LIBDIR@|$(LIBDIR)|; s|@JUDYDIR@|$(JUDYDIR)|; s|@VERSION@|$(VERSION)|' bindings/c/$$name.in >$(LIB)/$$name && \
-		install -m 644 $(LIB)/$$name "$(DESTDIR)$(LIBDIR)/pkgconfig/$$name" || exit 1; \
+	for file in $(FINDERS); do \
+		name=$${file##*/} && sed '$(REPLACED)' bindings/c/$$name.in >$(LIB)/$$name && \
+		install -m 644 $(LIB)/$$name "$(DESTDIR)$(LIBDIR)/$$file" || exit 1; \
 	done
 	install -m 644 bindings/c/sellumaq.h "$(DESTDIR)$(PREFIX)/include/sellumaq.h"
 	install -m 644 bindings/c/hp/Judy.h "$(DESTDIR)$(PREFIX)/include/sellumaq/Judy.h"
@@ -215,12 +220,12 @@ uninstall:
 		at="$(DESTDIR)$(LIBDIR)/$$name"; \
 		if [ "$$(readlink "$$at")" = "$(JUDYDIR)/$$name" ]; then rm "$$at"; fi; \
 	done
-	cd "$(DESTDIR)$(LIBDIR)" 2>/dev/null && rm -f libsellumaq.a libsellumaq.so $(SONAME) $(addprefix pkgconfig/,$(PACKAGES)) || true
+	cd "$(DESTDIR)$(LIBDIR)" 2>/dev/null && rm -f libsellumaq.a libsellumaq.so $(SONAME) $(FINDERS) || true
 	cd "$(DESTDIR)$(JUDYDIR)" 2>/dev/null && rm -f libJudy.a libJudy.so libJudy.so.1 || true
 	rm -f "$(DESTDIR)$(PREFIX)/include/sellumaq.h"
 	rm -rf "$(DESTDIR)$(PYTHON_DIR)/sellumaq"
 	rm -rf "$(DESTDIR)$(PREFIX)/include/sellumaq" "$(DESTDIR)$(PREFIX)/share/sellumaq"
-	for folder in "$(JUDYDIR)" "$(LIBDIR)/pkgconfig" "$(MAN)/man1" "$(MAN)/man3" $(OWN_FOLDERS); do \
+	for folder in "$(JUDYDIR)" "$(LIBDIR)/pkgconfig" "$(LIBDIR)/cmake/sellumaq" "$(LIBDIR)/cmake" "$(MAN)/man1" "$(MAN)/man3" $(OWN_FOLDERS); do \
 		if [ -d "$(DESTDIR)$$folder" ]; then rmdir --ignore-fail-on-non-empty "$(DESTDIR)$$folder"; fi; \
 	done
 
