@@ -24,7 +24,7 @@ REPLACED = s|@PREFIX@|$(PREFIX)|; s|@LIBDIR@|$(LIBDIR)|; s|@JUDYDIR@|$(JUDYDIR)|
 # The calls of the header, each of which gets a page, and the folders that a prefix of this project's own has, which go with the last file in
 # them.
 MAN = $(PREFIX)/share/man
-CALLS = $(shell grep -ow 'sellumaq_judy[1a-z]*_[a-z_]*' bindings/c/sellumaq.h | sort -u)
+CALLS = $(shell grep -ow 'sellumaq_judy[1a-z]*_[a-z_]*\|sellumaq_version\|sellumaq_error_text' bindings/c/sellumaq.h | sort -u)
 OWN_FOLDERS = $(if $(filter-out /usr /usr/local,$(PREFIX)),"$(PYTHON_DIR)" "$(dir $(PYTHON_DIR))" "$(MAN)" "$(LIBDIR)" $(foreach name,bin include lib share,"$(PREFIX)/$(name)") "$(PREFIX)")
 
 # Where Python finds modules under PREFIX, by its own word; a folder of our own where there is no Python.
@@ -193,7 +193,10 @@ install-library: lib python
 	install -m 644 bindings/c/sellumaq.h "$(DESTDIR)$(PREFIX)/include/sellumaq.h"
 	install -m 644 bindings/c/hp/Judy.h "$(DESTDIR)$(PREFIX)/include/sellumaq/Judy.h"
 	install -m 644 docs/man/*.3 "$(DESTDIR)$(MAN)/man3"
-	for call in $(CALLS); do kind=$${call#sellumaq_}; ln -sf $${kind%%_*}.3 "$(DESTDIR)$(MAN)/man3/$$call.3" || exit 1; done
+	for call in $(CALLS); do \
+		page=$${call#sellumaq_} && page=$${page%%_*}; case $$page in judy*) ;; *) page=sellumaq ;; esac; \
+		ln -sf $$page.3 "$(DESTDIR)$(MAN)/man3/$$call.3" || exit 1; \
+	done
 	for file in $(RUST_FILES); do install -D -m 644 bindings/rust/$$file "$(DESTDIR)$(PREFIX)/share/sellumaq/rust/$$file" || exit 1; done
 	install -m 644 out/python/sellumaq/*.* "$(DESTDIR)$(PYTHON_DIR)/sellumaq"
 
