@@ -41,6 +41,9 @@ RUST_FILES := $(patsubst bindings/rust/%,%,$(wildcard bindings/rust/Cargo.toml b
 C_FLAGS = -std=c11 -D_DEFAULT_SOURCE -O2 -Wall -Wextra
 LIBRARIES := $(addprefix $(LIB)/,libsellumaq.a libsellumaq.so libJudy.a libJudy.so)
 
+# What `ld -r` joins is machine code alone. Of an object that holds code for -flto too a linker takes that, and leaves what was assembled.
+JOINED = -fno-lto
+
 # What refuses calls for memory where tests preload it.
 REFUSER := out/refuse_alloc.so
 
@@ -112,15 +115,15 @@ $(LIB)/calls.o: compiled/sellumaq.s | buildable
 
 $(LIB)/sellumaq.o: $(LIB)/calls.o compiled/system.c bindings/c/about.c bindings/c/sellumaq.h
 	@for part in compiled/system bindings/c/about; do \
-		$(CC) $(C_FLAGS) -fPIC $(CPPFLAGS) $(CFLAGS) -c $$part.c -o $(LIB)/$${part##*/}.o || exit 1; \
+		$(CC) $(C_FLAGS) -fPIC $(CPPFLAGS) $(CFLAGS) $(JOINED) -c $$part.c -o $(LIB)/$${part##*/}.o || exit 1; \
 	done
 	@$(LD) -r $(LIB)/calls.o $(LIB)/system.o $(LIB)/about.o -o $@
 	@$(OBJCOPY) --wildcard --keep-global-symbol='sellumaq_*' $@
 
 $(LIB)/judy.o: $(LIB)/calls.o compiled/system.c $(C_SOURCES)
-	@$(CC) $(C_FLAGS) -fPIC -DWITHOUT_MEMORY $(CPPFLAGS) $(CFLAGS) -c compiled/system.c -o $(LIB)/hp_system.o
+	@$(CC) $(C_FLAGS) -fPIC -DWITHOUT_MEMORY $(CPPFLAGS) $(CFLAGS) $(JOINED) -c compiled/system.c -o $(LIB)/hp_system.o
 	@for part in judy memory; do \
-		$(CC) $(C_FLAGS) -fPIC -ftls-model=initial-exec $(CPPFLAGS) $(CFLAGS) -c bindings/c/hp/$$part.c -o $(LIB)/hp_$$part.o || exit 1; \
+		$(CC) $(C_FLAGS) -fPIC -ftls-model=initial-exec $(CPPFLAGS) $(CFLAGS) $(JOINED) -c bindings/c/hp/$$part.c -o $(LIB)/hp_$$part.o || exit 1; \
 	done
 	@$(LD) -r $(LIB)/calls.o $(LIB)/hp_system.o $(LIB)/hp_judy.o $(LIB)/hp_memory.o -o $@
 	@$(OBJCOPY) --wildcard --keep-global-symbol='Judy*' $@
