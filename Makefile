@@ -12,11 +12,19 @@ VERSION := $(shell cat VERSION)
 # The folder of this project's libJudy, which is no linker's own: a libJudy that is installed stays what programs find.
 JUDYDIR = $(LIBDIR)/sellumaq
 
-# The packages that pkg-config knows then, the calls of the header, each of which gets a page, and the folders that a prefix of this project's
-# own has, which go with the last file in them.
+# The number goes up where a program that was linked against the library before can't run over it: bindings/c/abi.txt says what these rest on.
+SONAME := libsellumaq.so.1
+
+# What tells pkg-config and CMake of the library, below LIBDIR, each made of a file of bindings/c, in which the words between two @ are replaced.
+FINDERS := $(addprefix pkgconfig/,sellumaq.pc sellumaq-judy.pc) $(addprefix cmake/sellumaq/,sellumaq-config.cmake sellumaq-config-version.cmake)
+from_libdir = $(shell realpath -ms --relative-to='$(LIBDIR)' '$(1)')
+REPLACED = s|@PREFIX@|$(PREFIX)|; s|@LIBDIR@|$(LIBDIR)|; s|@JUDYDIR@|$(JUDYDIR)|; s|@VERSION@|$(VERSION)|; s|@SONAME@|$(SONAME)|; \
+	s|@TO_PREFIX@|$(call from_libdir,$(PREFIX))|; s|@TO_JUDYDIR@|$(call from_libdir,$(JUDYDIR))|
+
+# The calls of the header, each of which gets a page, and the folders that a prefix of this project's own has, which go with the last file in
+# them.
 MAN = $(PREFIX)/share/man
-PACKAGES := sellumaq.pc sellumaq-judy.pc
-CALLS = $(shell grep -ow 'sellumaq_judy[1a-z]*_[a-z_]*' bindings/c/sellumaq.h | sort -u)
+CALLS = $(shell grep -ow 'sellumaq_judy[1a-z]*_[a-z_]*\|sellumaq_version\|sellumaq_error_text' bindings/c/sellumaq.h | sort -u)
 OWN_FOLDERS = $(if $(filter-out /usr /usr/local,$(PREFIX)),"$(PYTHON_DIR)" "$(dir $(PYTHON_DIR))" "$(MAN)" "$(LIBDIR)" $(foreach name,bin include lib share,"$(PREFIX)/$(name)") "$(PREFIX)")
 
 # Where Python finds modules under PREFIX, by its own word; a folder of our own where there is no Python.
@@ -32,6 +40,9 @@ RUST_FILES := $(patsubst bindings/rust/%,%,$(wildcard bindings/rust/Cargo.toml b
 	bindings/rust/serde/Cargo.toml bindings/rust/sellumaq-sys/Cargo.toml bindings/rust/sellumaq-sys/build.rs bindings/rust/sellumaq-sys/src/*.rs))
 C_FLAGS = -std=c11 -D_DEFAULT_SOURCE -O2 -Wall -Wextra
 LIBRARIES := $(addprefix $(LIB)/,libsellumaq.a libsellumaq.so libJudy.a libJudy.so)
+
+# What `ld -r` joins is machine code alone. Of an object that holds code for -flto too a linker takes that, and leaves what was assembled.
+JOINED = -fno-lto
 
 # What refuses calls for memory where tests preload it.
 REFUSER := out/refuse_alloc.so
@@ -102,15 +113,17 @@ $(LIB)/calls.o: compiled/sellumaq.s | buildable
 	@mkdir -p $(LIB)
 	@$(CC) -c $< -o $@
 
-$(LIB)/sellumaq.o: $(LIB)/calls.o compiled/system.c
-	@$(CC) $(C_FLAGS) -fPIC $(CPPFLAGS) $(CFLAGS) -c compiled/system.c -o $(LIB)/system.o
-	@$(LD) -r $(LIB)/calls.o $(LIB)/system.o -o $@
+$(LIB)/sellumaq.o: $(LIB)/calls.o compiled/system.c bindings/c/about.c bindings/c/sellumaq.h
+	@for part in compiled/system bindings/c/about; do \
+		$(CC) $(C_FLAGS) -fPIC $(CPPFLAGS) $(CFLAGS) $(JOINED) -c $$part.c -o $(LIB)/$${part##*/}.o || exit 1; \
+	done
+	@$(LD) -r $(LIB)/calls.o $(LIB)/system.o $(LIB)/about.o -o $@
 	@$(OBJCOPY) --wildcard --keep-global-symbol='sellumaq_*' $@
 
 $(LIB)/judy.o: $(LIB)/calls.o compiled/system.c $(C_SOURCES)
-	@$(CC) $(C_FLAGS) -fPIC -DWITHOUT_MEMORY $(CPPFLAGS) $(CFLAGS) -c compiled/system.c -o $(LIB)/hp_system.o
+	@$(CC) $(C_FLAGS) -fPIC -DWITHOUT_MEMORY $(CPPFLAGS) $(CFLAGS) $(JOINED) -c compiled/system.c -o $(LIB)/hp_system.o
 	@for part in judy memory; do \
-		$(CC) $(C_FLAGS) -fPIC -ftls-model=initial-exec $(CPPFLAGS) $(CFLAGS) -c bindings/c/hp/$$part.c -o $(LIB)/hp_$$part.o || exit 1; \
+		$(CC) $(C_FLAGS) -fPIC -ftls-model=initial-exec $(CPPFLAGS) $(CFLAGS) $(JOINED) -c bindings/c/hp/$$part.c -o $(LIB)/hp_$$part.o || exit 1; \
 	done
 	@$(LD) -r $(LIB)/calls.o $(LIB)/hp_system.o $(LIB)/hp_judy.o $(LIB)/hp_memory.o -o $@
 	@$(OBJCOPY) --wildcard --keep-global-symbol='Judy*' $@
@@ -123,9 +136,9 @@ $(LIB)/libJudy.a: $(LIB)/judy.o
 	@rm -f $@ && ar rcs $@ $<
 	@echo 'built $@'
 
-$(LIB)/libsellumaq.so: $(LIB)/sellumaq.o
-	@$(CC) -shared -Wl,-soname,libsellumaq.so.0 -Wl,-Bsymbolic $(HARDENED) $(LDFLAGS) -o $@ $<
-	@ln -sf libsellumaq.so $(LIB)/libsellumaq.so.0
+$(LIB)/libsellumaq.so: $(LIB)/sellumaq.o bindings/c/sellumaq.map
+	@$(CC) -shared -Wl,-soname,$(SONAME) -Wl,--version-script,bindings/c/sellumaq.map -Wl,-Bsymbolic $(HARDENED) $(LDFLAGS) -o $@ $<
+	@ln -sf libsellumaq.so $(LIB)/$(SONAME)
 	@echo 'built $@'
 
 # Its calls of itself stay in it, but those of the four functions that a program may replace.
@@ -170,21 +183,24 @@ install-program: judystore
 
 install-library: lib python
 	install -d "$(DESTDIR)$(JUDYDIR)" "$(DESTDIR)$(LIBDIR)/pkgconfig" "$(DESTDIR)$(PREFIX)/include/sellumaq" "$(DESTDIR)$(MAN)/man3"
-	install -d "$(DESTDIR)$(PYTHON_DIR)/sellumaq"
+	install -d "$(DESTDIR)$(LIBDIR)/cmake/sellumaq" "$(DESTDIR)$(PYTHON_DIR)/sellumaq"
 	install -m 644 $(LIB)/libsellumaq.a "$(DESTDIR)$(LIBDIR)/libsellumaq.a"
-	install -m 755 $(LIB)/libsellumaq.so "$(DESTDIR)$(LIBDIR)/libsellumaq.so.0"
-	ln -sf libsellumaq.so.0 "$(DESTDIR)$(LIBDIR)/libsellumaq.so"
+	install -m 755 $(LIB)/libsellumaq.so "$(DESTDIR)$(LIBDIR)/$(SONAME)"
+	ln -sf $(SONAME) "$(DESTDIR)$(LIBDIR)/libsellumaq.so"
 	install -m 644 $(LIB)/libJudy.a "$(DESTDIR)$(JUDYDIR)/libJudy.a"
 	install -m 755 $(LIB)/libJudy.so "$(DESTDIR)$(JUDYDIR)/libJudy.so.1"
 	ln -sf libJudy.so.1 "$(DESTDIR)$(JUDYDIR)/libJudy.so"
-	for name in $(PACKAGES); do \
-		sed 's|@PREFIX@|$(PREFIX)|; s|@LIBDIR@|$(LIBDIR)|; s|@JUDYDIR@|$(JUDYDIR)|' bindings/c/$$name.in >$(LIB)/$$name && \
-		install -m 644 $(LIB)/$$name "$(DESTDIR)$(LIBDIR)/pkgconfig/$$name" || exit 1; \
+	for file in $(FINDERS); do \
+		name=$${file##*/} && sed '$(REPLACED)' bindings/c/$$name.in >$(LIB)/$$name && \
+		install -m 644 $(LIB)/$$name "$(DESTDIR)$(LIBDIR)/$$file" || exit 1; \
 	done
 	install -m 644 bindings/c/sellumaq.h "$(DESTDIR)$(PREFIX)/include/sellumaq.h"
 	install -m 644 bindings/c/hp/Judy.h "$(DESTDIR)$(PREFIX)/include/sellumaq/Judy.h"
 	install -m 644 docs/man/*.3 "$(DESTDIR)$(MAN)/man3"
-	for call in $(CALLS); do kind=$${call#sellumaq_}; ln -sf $${kind%%_*}.3 "$(DESTDIR)$(MAN)/man3/$$call.3" || exit 1; done
+	for call in $(CALLS); do \
+		page=$${call#sellumaq_} && page=$${page%%_*}; case $$page in judy*) ;; *) page=sellumaq ;; esac; \
+		ln -sf $$page.3 "$(DESTDIR)$(MAN)/man3/$$call.3" || exit 1; \
+	done
 	for file in $(RUST_FILES); do install -D -m 644 bindings/rust/$$file "$(DESTDIR)$(PREFIX)/share/sellumaq/rust/$$file" || exit 1; done
 	install -m 644 out/python/sellumaq/*.* "$(DESTDIR)$(PYTHON_DIR)/sellumaq"
 
@@ -211,12 +227,12 @@ uninstall:
 		at="$(DESTDIR)$(LIBDIR)/$$name"; \
 		if [ "$$(readlink "$$at")" = "$(JUDYDIR)/$$name" ]; then rm "$$at"; fi; \
 	done
-	cd "$(DESTDIR)$(LIBDIR)" 2>/dev/null && rm -f libsellumaq.a libsellumaq.so libsellumaq.so.0 $(addprefix pkgconfig/,$(PACKAGES)) || true
+	cd "$(DESTDIR)$(LIBDIR)" 2>/dev/null && rm -f libsellumaq.a libsellumaq.so $(SONAME) $(FINDERS) || true
 	cd "$(DESTDIR)$(JUDYDIR)" 2>/dev/null && rm -f libJudy.a libJudy.so libJudy.so.1 || true
 	rm -f "$(DESTDIR)$(PREFIX)/include/sellumaq.h"
 	rm -rf "$(DESTDIR)$(PYTHON_DIR)/sellumaq"
 	rm -rf "$(DESTDIR)$(PREFIX)/include/sellumaq" "$(DESTDIR)$(PREFIX)/share/sellumaq"
-	for folder in "$(JUDYDIR)" "$(LIBDIR)/pkgconfig" "$(MAN)/man1" "$(MAN)/man3" $(OWN_FOLDERS); do \
+	for folder in "$(JUDYDIR)" "$(LIBDIR)/pkgconfig" "$(LIBDIR)/cmake/sellumaq" "$(LIBDIR)/cmake" "$(MAN)/man1" "$(MAN)/man3" $(OWN_FOLDERS); do \
 		if [ -d "$(DESTDIR)$$folder" ]; then rmdir --ignore-fail-on-non-empty "$(DESTDIR)$$folder"; fi; \
 	done
 

@@ -44,9 +44,19 @@
 #include <stddef.h>
 #include <stdint.h>
 
+/* The version that this header is of. Before a release its text says so, `1.0.0-dev`, and the numbers are those of the release to come. */
+#define SELLUMAQ_VERSION "1.0.0-dev"
+#define SELLUMAQ_VERSION_MAJOR 1
+#define SELLUMAQ_VERSION_MINOR 0
+#define SELLUMAQ_VERSION_PATCH 0
+
 #ifdef __cplusplus
 extern "C" {
 #endif
+
+/* The version of the library that the program runs over, as SELLUMAQ_VERSION tells that of the header. The text is never freed. This call and
+ * `sellumaq_error_text` aren't among the proved ones. */
+const char *sellumaq_version(void);
 
 /* What a call answers that has more to tell than yes and no. */
 enum {
@@ -60,6 +70,10 @@ enum {
     SELLUMAQ_BAD_KEY = 4,   /* of strings and byte strings: the bytes are no key; of `from_sorted` also: a key isn't above the one before it */
     SELLUMAQ_TOO_SMALL = 5  /* of strings: the key found doesn't fit the caller's buffer */
 };
+
+/* An answer as text for people, in English and without an end of line: from SELLUMAQ_NO_MEMORY on why the call refused. 0 and 1 mean two things
+ * each, and no refusal, and their texts say so; any other number is told as one that no call answers. The text is never freed. */
+const char *sellumaq_error_text(int number);
 
 /* ---- sets of words ---- */
 

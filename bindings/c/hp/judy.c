@@ -1,5 +1,5 @@
-/* HP's names over Sellumaq's calls. Nothing is decided here but what the manual pages say of null pointers and of the errors, and how
- * many bytes an array has. */
+/* HP's names over Sellumaq's calls. Nothing is decided here but what the manual pages say of null pointers and of the errors, where a search that
+ * finds nothing leaves its word, and how many bytes an array has. */
 #include "Judy.h"
 #include "../sellumaq.h"
 #include "memory.h"
@@ -137,34 +137,46 @@ PPvoid_t JudyLGet(Pcvoid_t array, Word_t key, PJError_t error) {
     return sellumaq_judyl_slot(&map, key, &slot) ? (PPvoid_t)slot : NULL;
 }
 
-#define SET_SEARCH(name, call) \
+/* A search for a key that finds none leaves its word where HP's library does: one further on its way, round the ends too; an array of no key
+ * leaves it. Programs go on from there. The searches for words that are no keys leave theirs. */
+enum { UP = 1, DOWN = -1, STAYS = 0 };
+
+static void pass(Pcvoid_t array, Word_t *word, int step) {
+    if (array) *word += (Word_t)step;
+}
+
+#define SET_SEARCH(name, call, step) \
     int name(Pcvoid_t array, Word_t *word, PJError_t error) { \
         SEARCHES(refuse); \
         sellumaq_judy1 set = {(void *)array}; \
-        return call(&set, *word, word); \
+        if (call(&set, *word, word)) return 1; \
+        pass(array, word, step); \
+        return 0; \
     }
 
-SET_SEARCH(Judy1First, sellumaq_judy1_first)
-SET_SEARCH(Judy1Next, sellumaq_judy1_next)
-SET_SEARCH(Judy1Last, sellumaq_judy1_last)
-SET_SEARCH(Judy1Prev, sellumaq_judy1_prev)
-SET_SEARCH(Judy1FirstEmpty, sellumaq_judy1_first_empty)
-SET_SEARCH(Judy1NextEmpty, sellumaq_judy1_next_empty)
-SET_SEARCH(Judy1LastEmpty, sellumaq_judy1_last_empty)
-SET_SEARCH(Judy1PrevEmpty, sellumaq_judy1_prev_empty)
+SET_SEARCH(Judy1First, sellumaq_judy1_first, UP)
+SET_SEARCH(Judy1Next, sellumaq_judy1_next, UP)
+SET_SEARCH(Judy1Last, sellumaq_judy1_last, DOWN)
+SET_SEARCH(Judy1Prev, sellumaq_judy1_prev, DOWN)
+SET_SEARCH(Judy1FirstEmpty, sellumaq_judy1_first_empty, STAYS)
+SET_SEARCH(Judy1NextEmpty, sellumaq_judy1_next_empty, STAYS)
+SET_SEARCH(Judy1LastEmpty, sellumaq_judy1_last_empty, STAYS)
+SET_SEARCH(Judy1PrevEmpty, sellumaq_judy1_prev_empty, STAYS)
 
-#define MAP_SEARCH(name, call) \
+#define MAP_SEARCH(name, call, step) \
     PPvoid_t name(Pcvoid_t array, Word_t *word, PJError_t error) { \
         SEARCHES(refuse_slot); \
         sellumaq_judyl map = {(void *)array}; \
         uint64_t *slot; \
-        return call(&map, *word, word, &slot) ? (PPvoid_t)slot : NULL; \
+        if (call(&map, *word, word, &slot)) return (PPvoid_t)slot; \
+        pass(array, word, step); \
+        return NULL; \
     }
 
-MAP_SEARCH(JudyLFirst, sellumaq_judyl_first_slot)
-MAP_SEARCH(JudyLNext, sellumaq_judyl_next_slot)
-MAP_SEARCH(JudyLLast, sellumaq_judyl_last_slot)
-MAP_SEARCH(JudyLPrev, sellumaq_judyl_prev_slot)
+MAP_SEARCH(JudyLFirst, sellumaq_judyl_first_slot, UP)
+MAP_SEARCH(JudyLNext, sellumaq_judyl_next_slot, UP)
+MAP_SEARCH(JudyLLast, sellumaq_judyl_last_slot, DOWN)
+MAP_SEARCH(JudyLPrev, sellumaq_judyl_prev_slot, DOWN)
 
 #define MAP_EMPTIES(name, call) \
     int name(Pcvoid_t array, Word_t *word, PJError_t error) { \

@@ -9,10 +9,11 @@ enum { STEPS = 20000 };
 
 static Pvoid_t set, map, strings, bytes;
 
-/* A word near others, so that searches meet keys and gaps. */
+/* A word near others, so that searches meet keys and gaps, and often the first or the last word. */
 static Word_t word(void) {
-    Word_t kind = any() % 4, low = any() % 600;
-    return kind == 0 ? low : kind == 1 ? -low : kind == 2 ? low << 40 : low * 0x9E3779B97F4A7C15;
+    Word_t kind = any() % 9, low = any() % 600;
+    if (kind == 8) return low % 2 ? -(low % 5) : low % 5;
+    return kind < 2 ? low : kind < 4 ? -low : kind < 6 ? low << 40 : low * 0x9E3779B97F4A7C15;
 }
 
 static void letters(uint8_t *string) {
@@ -22,13 +23,11 @@ static void letters(uint8_t *string) {
     if (length) string[length - 1] = (uint8_t)('a' + any() % 5);
 }
 
-static void tell(const char *name, long answer, Word_t key) { printf("%s %ld %lu\n", name, answer, answer > 0 ? key : 0); }
+/* Of a search that finds nothing too its word is told: programs go on from there. */
+static void tell(const char *name, long answer, Word_t key) { printf("%s %ld %lu\n", name, answer, key); }
 
-static void tell_slot(const char *name, const Word_t *slot, Word_t key) {
-    printf("%s %d %lu %lu\n", name, slot != NULL, slot ? key : 0, slot ? *slot : 0);
-}
+static void tell_slot(const char *name, const Word_t *slot, Word_t key) { printf("%s %d %lu %lu\n", name, slot != NULL, key, slot ? *slot : 0); }
 
-/* A search that finds nothing leaves its word as anything, so each begins at another. */
 static void step_words(Word_t value) {
     Word_t key = word(), to = word(), *slot;
     int found;
@@ -71,7 +70,7 @@ static void step_strings(Word_t value) {
     case 9: JHSD(found, bytes, string, length); tell("JHSD", found, 0); return;
     default: JHSG(slot, bytes, string, length); tell_slot("JHSG", slot, 0); return;
     }
-    tell_slot(slot ? (char *)string : "none", slot, 0);
+    tell_slot((char *)string, slot, 0);
 }
 
 /* Takes out all keys but those of the byte strings, which can't be walked: each array is null then. */

@@ -16,7 +16,7 @@ MAX = 2**64 - 1
 MAX_KEY = 1024
 KEYS, VALUES, ITEMS = range(3)
 
-_library = ctypes.PyDLL(os.environ.get("SELLUMAQ_LIBRARY", "libsellumaq.so.0"))
+_library = ctypes.PyDLL(os.environ.get("SELLUMAQ_LIBRARY", "libsellumaq.so.1"))
 _word = ctypes.c_uint64
 _slot = ctypes.POINTER(_word)
 _key = (ctypes.c_char_p, ctypes.c_size_t)
