@@ -15,6 +15,10 @@ PATH_END = re.compile(r"([A-Za-z_]\w*)[^\w:]*(?:\+\w+)?$")
 NUMBERED = re.compile(r"\.L(BB|CPI|JTI|func_end)(\d+)(?:_(\d+))?\b")
 QUOTED = re.compile(r'"([^"]*)"')
 CONSTANT = re.compile(r"\.Lstatic\.\d+")
+# A table that a `match` became, which the compiler names by its function and a number of the module's; and its section.
+TABLE = re.compile(r'"(\.Lswitch\.table\.[^"]*)"|(\.Lswitch\.table\.[\w.$]+)')
+TABLE_SECTION = re.compile(r'"(\.[\w.]*?\.)(\.Lswitch\.table\.[^"]*)"')
+FIRST_TABLE = 10**6
 # What an assembler marks a local label with, for each kind of the compiler's.
 MARKS = {"BB": "", "CPI": "c", "JTI": "t", "func_end": "e"}
 # Lines that tell the compiler's version, the module's name, and what the linker may fold.
@@ -23,6 +27,7 @@ FUNCTION = re.compile(r"\s*\.type\s+.*,@function$")
 FUNCTION_END = re.compile(r"\s*\.size\s+.*, \.Lfunc_end\d+-")
 UNWINDING = re.compile(r"\s*\.cfi_")
 UNWINDING_PLACE = re.compile(r"^\s*\.cfi_sections .*\n", re.MULTILINE)
+LATE_END = re.compile(r"^(\s*\.size\s+.*\n)(\s*\.cfi_endproc\n)", re.MULTILINE)
 TEXT_LINE = re.compile(r"\s*\.(ascii|asciz|string)\b")
 DIGITS = "0123456789abcdefghijklmnopqrstuvwxyz"
 
@@ -70,6 +75,21 @@ def functions_by_number(lines):
         if size:
             found[size[3]] = sum_of(size[1] or size[2])
     return found
+
+
+def tables_as_constants(lines):
+    """The lines with tables named as constants are, so that what they hold names them too."""
+    numbers = {}
+
+    def name_of(table):
+        return f".Lstatic.{FIRST_TABLE + numbers.setdefault(table, len(numbers))}"
+
+    for line in lines:
+        if TEXT_LINE.match(line):
+            yield line
+        else:
+            line = TABLE_SECTION.sub(lambda found: found[1] + name_of(found[2]), line)
+            yield TABLE.sub(lambda found: name_of(found[1] or found[2]), line)
 
 
 def named_by_function(lines):
@@ -150,7 +170,8 @@ def parts_of(lines):
 
 def with_unwinding(plain, unwound):
     """The plain text, with the lines that tell how the stack is unwound in each function whose code is the same with them."""
-    told = UNWINDING_PLACE.sub("", unwound)
+    # The last of these lines stands behind what ends a function here.
+    told = LATE_END.sub(r"\2\1", UNWINDING_PLACE.sub("", unwound))
     both = zip(parts_of(plain.splitlines()), parts_of(told.splitlines()), strict=True)
     chosen = ((more if [line for line in more if not UNWINDING.match(line)] == part else part) for part, more in both)
     return "\n".join(line for part in chosen for line in part) + "\n"
@@ -158,7 +179,7 @@ def with_unwinding(plain, unwound):
 
 def with_lasting_names(text):
     """The compiler's text with names that stay, checked to be distinct."""
-    lines = list(named_by_contents(list(named_by_function(text.splitlines()))))
+    lines = list(named_by_contents(list(named_by_function(list(tables_as_constants(text.splitlines()))))))
     defined = [line for line in lines if re.match(r"[^\s#][^\s]*:$", line)]
     if len(defined) != len(set(defined)):
         raise Unknown("two things of one name: " + ", ".join(sorted({each for each in defined if defined.count(each) > 1})[:3]))

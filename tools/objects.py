@@ -73,7 +73,7 @@ def text_at(names, at):
 
 def is_constant(name):
     """Whether a section holds one constant alone, which the compiler numbers and our text names by what it holds."""
-    return ".Lstatic." in name or ".Lconst." in name
+    return any(mark in name for mark in (".Lstatic.", ".Lswitch.table.", ".Lconst."))
 
 
 def differences(one, other):
