@@ -47,7 +47,8 @@ class Object:
 
     def read_symbols(self, head, names):
         for name, info, visible, section, value, size in struct.iter_unpack("<IBBHQQ", self.bytes_of(head)):
-            yield assembly.symbol_of(text_at(names, name)) if name else "", info, visible, section, value, size
+            told = text_at(names, name)
+            yield told if is_label(told) else assembly.symbol_of(told), info, visible, section, value, size
 
     def read_relocations(self, head):
         """Each as its place, its kind, and what it leads to: a place in a section, or a name that another object gives."""
@@ -58,7 +59,7 @@ class Object:
 
     def given(self):
         """The names that it gives, each with its kind, how far it is seen, its place and its size. A label is no name."""
-        told = (each for each in self.symbols if each[0] and not each[0].startswith(".L") and each[3] in self.place)
+        told = (each for each in self.symbols if not is_label(each[0]) and each[3] in self.place)
         named = (each for each in told if each[1] & 15 not in (SECTION_TYPE, FILE_TYPE))
         return sorted((name, info, visible, self.place[section], value, size) for name, info, visible, section, value, size in named)
 
@@ -69,6 +70,11 @@ class Object:
 
 def text_at(names, at):
     return names[at : names.index(b"\0", at)].decode()
+
+
+def is_label(name):
+    """Whether this names nothing that another object could ask for."""
+    return not name or name.startswith(".L")
 
 
 def is_constant(name):
