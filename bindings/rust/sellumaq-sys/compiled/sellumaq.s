@@ -1,0 +1,1 @@
+../../../../compiled/sellumaq.s
