@@ -22,11 +22,9 @@
 //! Arrays may be sent to other threads and be read by several at a time, which is read off the library's code and tested, and no part of
 //! its proofs. An insert without memory ends the program by `handle_alloc_error`; `try_insert` answers an error.
 //!
-//! With the manifest in the folder `serde` arrays have Serde's two traits: a set is a sequence, a map is a map, and strings are bytes.
+//! With the feature `serde` arrays have Serde's two traits: a set is a sequence, a map is a map, and strings are bytes.
 #![warn(missing_docs, clippy::undocumented_unsafe_blocks)]
 #![deny(unsafe_op_in_unsafe_fn)]
-// The feature `serde` stands in the manifest of the folder serde alone.
-#![allow(unexpected_cfgs)]
 
 mod array;
 mod edge;
