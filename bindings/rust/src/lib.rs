@@ -41,6 +41,7 @@ mod serial;
 mod slots;
 mod sorted;
 mod span;
+mod types;
 mod walk;
 mod way;
 mod words;
@@ -53,6 +54,7 @@ pub use judyl::JudyL;
 pub use judysl::JudySl;
 pub use keyed::{InsertError, MAX_KEY};
 pub use sorted::{FromSortedError, NotAscending};
+pub use types::{Key, Value, ZeroValue};
 
 /// There was no memory for a new key; the array is as it was.
 ///

@@ -1,27 +1,28 @@
 //! Iterators over an ordered array that change nothing in it.
 
 /// Writes the iterators `Range`, `Iter` and `IntoIter` of an `$array` over its way through a range, a `$way`, which has
-/// `next`, `next_back`, `fold` and `rfold`, each given the array, and answers an `$item`.
+/// `next`, `next_back`, `fold` and `rfold`, each given the array. What these tell the array's `item` makes an `$item` of.
 macro_rules! walks {
-    ($array:ident through $way:ty; $item:ty) => {
+    ($array:ident<$($param:ident: $bound:path = $default:ty),+> through $way:ty; $item:ty) => {
         #[doc = concat!("What a [`", stringify!($array), "`] holds in a range, by ascending key, from both ends.")]
         #[derive(Clone)]
-        pub struct Range<'a> {
-            array: &'a $array,
+        pub struct Range<'a, $($param: $bound = $default),+> {
+            array: &'a $array<$($param),+>,
             way: $way,
         }
 
-        impl Iterator for Range<'_> {
+        impl<$($param: $bound),+> Iterator for Range<'_, $($param),+> {
             type Item = $item;
 
             #[inline]
             fn next(&mut self) -> Option<$item> {
-                self.way.next(self.array)
+                self.way.next(self.array).map($array::<$($param),+>::item)
             }
 
             #[inline]
-            fn fold<B, F: FnMut(B, $item) -> B>(self, start: B, act: F) -> B {
-                self.way.fold(self.array, start, act)
+            fn fold<B, F: FnMut(B, $item) -> B>(self, start: B, mut act: F) -> B {
+                let item = $array::<$($param),+>::item;
+                self.way.fold(self.array, start, |done, told| act(done, item(told)))
             }
 
             fn last(mut self) -> Option<$item> {
@@ -37,21 +38,22 @@ macro_rules! walks {
             }
         }
 
-        impl DoubleEndedIterator for Range<'_> {
+        impl<$($param: $bound),+> DoubleEndedIterator for Range<'_, $($param),+> {
             #[inline]
             fn next_back(&mut self) -> Option<$item> {
-                self.way.next_back(self.array)
+                self.way.next_back(self.array).map($array::<$($param),+>::item)
             }
 
             #[inline]
-            fn rfold<B, F: FnMut(B, $item) -> B>(self, start: B, act: F) -> B {
-                self.way.rfold(self.array, start, act)
+            fn rfold<B, F: FnMut(B, $item) -> B>(self, start: B, mut act: F) -> B {
+                let item = $array::<$($param),+>::item;
+                self.way.rfold(self.array, start, |done, told| act(done, item(told)))
             }
         }
 
-        impl std::iter::FusedIterator for Range<'_> {}
+        impl<$($param: $bound),+> std::iter::FusedIterator for Range<'_, $($param),+> {}
 
-        impl std::fmt::Debug for Range<'_> {
+        impl<$($param: $bound),+> std::fmt::Debug for Range<'_, $($param),+> {
             fn fmt(&self, to: &mut std::fmt::Formatter<'_>) -> std::fmt::Result {
                 to.debug_list().entries(self.clone()).finish()
             }
@@ -59,12 +61,12 @@ macro_rules! walks {
 
         #[doc = concat!("All that a [`", stringify!($array), "`] holds, by ascending key, from both ends.")]
         #[derive(Clone)]
-        pub struct Iter<'a> {
-            range: Range<'a>,
+        pub struct Iter<'a, $($param: $bound = $default),+> {
+            range: Range<'a, $($param),+>,
             left: usize,
         }
 
-        impl Iterator for Iter<'_> {
+        impl<$($param: $bound),+> Iterator for Iter<'_, $($param),+> {
             type Item = $item;
 
             #[inline]
@@ -95,7 +97,7 @@ macro_rules! walks {
             }
         }
 
-        impl DoubleEndedIterator for Iter<'_> {
+        impl<$($param: $bound),+> DoubleEndedIterator for Iter<'_, $($param),+> {
             #[inline]
             fn next_back(&mut self) -> Option<$item> {
                 self.left = self.left.checked_sub(1)?;
@@ -108,41 +110,42 @@ macro_rules! walks {
             }
         }
 
-        impl ExactSizeIterator for Iter<'_> {}
+        impl<$($param: $bound),+> ExactSizeIterator for Iter<'_, $($param),+> {}
 
-        impl std::iter::FusedIterator for Iter<'_> {}
+        impl<$($param: $bound),+> std::iter::FusedIterator for Iter<'_, $($param),+> {}
 
-        impl std::fmt::Debug for Iter<'_> {
+        impl<$($param: $bound),+> std::fmt::Debug for Iter<'_, $($param),+> {
             fn fmt(&self, to: &mut std::fmt::Formatter<'_>) -> std::fmt::Result {
                 to.debug_list().entries(self.clone()).finish()
             }
         }
 
         #[doc = concat!("All that a [`", stringify!($array), "`] held, which the iterator owns, by ascending key, from both ends.")]
-        pub struct IntoIter {
-            array: $array,
+        pub struct IntoIter<$($param: $bound = $default),+> {
+            array: $array<$($param),+>,
             way: $way,
             left: usize,
         }
 
-        impl IntoIter {
-            fn rest(&self) -> Iter<'_> {
+        impl<$($param: $bound),+> IntoIter<$($param),+> {
+            fn rest(&self) -> Iter<'_, $($param),+> {
                 Iter { range: Range { array: &self.array, way: self.way.clone() }, left: self.left }
             }
         }
 
-        impl Iterator for IntoIter {
+        impl<$($param: $bound),+> Iterator for IntoIter<$($param),+> {
             type Item = $item;
 
             #[inline]
             fn next(&mut self) -> Option<$item> {
                 self.left = self.left.checked_sub(1)?;
-                self.way.next(&self.array)
+                self.way.next(&self.array).map($array::<$($param),+>::item)
             }
 
             #[inline]
-            fn fold<B, F: FnMut(B, $item) -> B>(self, start: B, act: F) -> B {
-                self.way.fold(&self.array, start, act)
+            fn fold<B, F: FnMut(B, $item) -> B>(self, start: B, mut act: F) -> B {
+                let item = $array::<$($param),+>::item;
+                self.way.fold(&self.array, start, |done, told| act(done, item(told)))
             }
 
             fn size_hint(&self) -> (usize, Option<usize>) {
@@ -150,44 +153,45 @@ macro_rules! walks {
             }
         }
 
-        impl DoubleEndedIterator for IntoIter {
+        impl<$($param: $bound),+> DoubleEndedIterator for IntoIter<$($param),+> {
             #[inline]
             fn next_back(&mut self) -> Option<$item> {
                 self.left = self.left.checked_sub(1)?;
-                self.way.next_back(&self.array)
+                self.way.next_back(&self.array).map($array::<$($param),+>::item)
             }
 
             #[inline]
-            fn rfold<B, F: FnMut(B, $item) -> B>(self, start: B, act: F) -> B {
-                self.way.rfold(&self.array, start, act)
+            fn rfold<B, F: FnMut(B, $item) -> B>(self, start: B, mut act: F) -> B {
+                let item = $array::<$($param),+>::item;
+                self.way.rfold(&self.array, start, |done, told| act(done, item(told)))
             }
         }
 
-        impl ExactSizeIterator for IntoIter {}
+        impl<$($param: $bound),+> ExactSizeIterator for IntoIter<$($param),+> {}
 
-        impl std::iter::FusedIterator for IntoIter {}
+        impl<$($param: $bound),+> std::iter::FusedIterator for IntoIter<$($param),+> {}
 
-        impl std::fmt::Debug for IntoIter {
+        impl<$($param: $bound),+> std::fmt::Debug for IntoIter<$($param),+> {
             fn fmt(&self, to: &mut std::fmt::Formatter<'_>) -> std::fmt::Result {
                 to.debug_list().entries(self.rest()).finish()
             }
         }
 
-        impl IntoIterator for $array {
+        impl<$($param: $bound),+> IntoIterator for $array<$($param),+> {
             type Item = $item;
-            type IntoIter = IntoIter;
+            type IntoIter = IntoIter<$($param),+>;
 
-            fn into_iter(self) -> IntoIter {
+            fn into_iter(self) -> IntoIter<$($param),+> {
                 let (left, way) = (self.len(), self.iter().range.way);
                 IntoIter { array: self, way, left }
             }
         }
 
-        impl<'a> IntoIterator for &'a $array {
+        impl<'a, $($param: $bound),+> IntoIterator for &'a $array<$($param),+> {
             type Item = $item;
-            type IntoIter = Iter<'a>;
+            type IntoIter = Iter<'a, $($param),+>;
 
-            fn into_iter(self) -> Iter<'a> {
+            fn into_iter(self) -> Iter<'a, $($param),+> {
                 self.iter()
             }
         }
@@ -196,13 +200,16 @@ macro_rules! walks {
 
 /// Writes an iterator over a half of each pair of another, which it takes by `$half`.
 macro_rules! halves {
-    ($(#[$about:meta])* $name:ident $(<$life:lifetime>)? of $pairs:ty; $half:tt: $item:ty) => {
+    (
+        $(#[$about:meta])*
+        $name:ident<$($life:lifetime,)? $($param:ident: $bound:path = $default:ty),+> of $pairs:ty; $half:tt: $item:ty
+    ) => {
         $(#[$about])*
-        pub struct $name $(<$life>)? {
+        pub struct $name<$($life,)? $($param: $bound = $default),+> {
             pairs: $pairs,
         }
 
-        impl $(<$life>)? Iterator for $name $(<$life>)? {
+        impl<$($life,)? $($param: $bound),+> Iterator for $name<$($life,)? $($param),+> {
             type Item = $item;
 
             #[inline]
@@ -224,7 +231,7 @@ macro_rules! halves {
             }
         }
 
-        impl $(<$life>)? DoubleEndedIterator for $name $(<$life>)? {
+        impl<$($life,)? $($param: $bound),+> DoubleEndedIterator for $name<$($life,)? $($param),+> {
             #[inline]
             fn next_back(&mut self) -> Option<$item> {
                 self.pairs.next_back().map(|pair| pair.$half)
@@ -236,11 +243,11 @@ macro_rules! halves {
             }
         }
 
-        impl $(<$life>)? ExactSizeIterator for $name $(<$life>)? {}
+        impl<$($life,)? $($param: $bound),+> ExactSizeIterator for $name<$($life,)? $($param),+> {}
 
-        impl $(<$life>)? std::iter::FusedIterator for $name $(<$life>)? {}
+        impl<$($life,)? $($param: $bound),+> std::iter::FusedIterator for $name<$($life,)? $($param),+> {}
 
-        impl $(<$life>)? std::fmt::Debug for $name $(<$life>)? {
+        impl<$($life,)? $($param: $bound),+> std::fmt::Debug for $name<$($life,)? $($param),+> {
             fn fmt(&self, to: &mut std::fmt::Formatter<'_>) -> std::fmt::Result {
                 self.pairs.fmt(to)
             }
