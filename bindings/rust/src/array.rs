@@ -31,6 +31,7 @@ macro_rules! array {
             #[doc = concat!("let array = sellumaq::", stringify!($array), "::new();")]
             /// assert!(array.is_empty());
             /// ```
+            #[must_use]
             pub const fn new() -> Self {
                 Self::empty()
             }
@@ -43,6 +44,7 @@ macro_rules! array {
             #[doc = concat!("static ARRAY: sellumaq::", stringify!($array), "<i32> = sellumaq::", stringify!($array), "::empty();")]
             /// assert!(ARRAY.is_empty());
             /// ```
+            #[must_use]
             pub const fn empty() -> Self {
                 $array {
                     handle: sellumaq_sys::$handle { array: std::ptr::null_mut() },
@@ -56,6 +58,7 @@ macro_rules! array {
             #[doc = $sample]
             /// assert_eq!(array.len(), 3);
             /// ```
+            #[must_use]
             pub fn len(&self) -> usize {
                 let handle = self.handle;
                 // SAFETY: the handle is this array's, lent for this call alone, which only reads.
@@ -69,6 +72,7 @@ macro_rules! array {
             #[doc = $sample]
             /// assert!(!array.is_empty());
             /// ```
+            #[must_use]
             pub fn is_empty(&self) -> bool {
                 self.len() == 0
             }

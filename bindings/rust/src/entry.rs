@@ -24,6 +24,14 @@ macro_rules! entries {
         }
 
         /// The place of a key that is there.
+        ///
+        /// ```
+        #[doc = concat!("use sellumaq::", stringify!($module), "::Entry;\n", $sample)]
+        #[doc = concat!("if let Entry::Occupied(entry) = map.entry(", $a, ") {")]
+        ///     assert_eq!(entry.remove(), 10);
+        /// }
+        #[doc = concat!("assert!(!map.contains_key(", $a, "));")]
+        /// ```
         pub struct OccupiedEntry<'a, $($param: $bound $(= $default)?),+> {
             map: &'a mut $map<$($of),+>,
             key: $held,
@@ -31,6 +39,14 @@ macro_rules! entries {
         }
 
         /// The place of a key that is absent.
+        ///
+        /// ```
+        #[doc = concat!("use sellumaq::", stringify!($module), "::Entry;\n", $sample)]
+        #[doc = concat!("if let Entry::Vacant(entry) = map.entry(", $c, ") {")]
+        ///     entry.insert(5);
+        /// }
+        #[doc = concat!("assert_eq!(map.get(", $c, "), Some(5));")]
+        /// ```
         pub struct VacantEntry<'a, $($param: $bound $(= $default)?),+> {
             map: &'a mut $map<$($of),+>,
             key: $held,
@@ -266,7 +282,11 @@ macro_rules! entries {
                 self.try_insert(value).unwrap_or_else($end)
             }
 
-            /// Puts the key in with a value, and answers where that stands; at an error the map is as it was.
+            /// Puts the key in with a value, and answers where that stands.
+            ///
+            /// # Errors
+            ///
+            /// Those of an insert of the map, which is as it was then.
             ///
             /// ```
             #[doc = concat!("use sellumaq::", stringify!($module), "::Entry;\n", $sample)]

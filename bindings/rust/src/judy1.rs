@@ -46,7 +46,7 @@ at_once!(
     "assert!(sellumaq::Judy1::from_sorted([1, 2, 2]).is_err());"
 );
 
-walks!(Judy1<K: Key = u64> through Way<u64>; K);
+walks!(Judy1<K: Key = u64> through Way<u64>; K; "let array = sellumaq::Judy1::from([1, 2, 10]);");
 
 /// How many keys [`Judy1::contains_many`] hands to C at a time.
 const GROUP: usize = 64;
@@ -85,8 +85,11 @@ impl<K: Key> Judy1<K> {
         self.try_insert(key).unwrap_or_else(no_room)
     }
 
-    /// Puts a key in, and answers whether it was absent; at the error the set is as it was. A key that is there is never
-    /// refused.
+    /// Puts a key in, and answers whether it was absent.
+    ///
+    /// # Errors
+    ///
+    /// [`NoMemory`] where there is none for a new key, and the set is as it was. A key that is there is never refused.
     ///
     /// ```
     /// let mut set = sellumaq::Judy1::new();
@@ -191,6 +194,7 @@ impl<K: Key> Judy1<K> {
     /// let set = sellumaq::Judy1::from([3, 7]);
     /// assert_eq!((set.at_or_after(4), set.at_or_after(8)), (Some(7), None));
     /// ```
+    #[must_use]
     pub fn at_or_after(&self, from: K) -> Option<K> {
         self.least(from.word()).map(K::of_word)
     }
@@ -201,6 +205,7 @@ impl<K: Key> Judy1<K> {
     /// let set = sellumaq::Judy1::from([3, 7]);
     /// assert_eq!((set.at_or_before(6), set.at_or_before(2)), (Some(3), None));
     /// ```
+    #[must_use]
     pub fn at_or_before(&self, from: K) -> Option<K> {
         self.greatest(from.word()).map(K::of_word)
     }
@@ -211,6 +216,7 @@ impl<K: Key> Judy1<K> {
     /// let set = sellumaq::Judy1::from([3, 7]);
     /// assert_eq!((set.nth(1), set.nth(2)), (Some(7), None));
     /// ```
+    #[must_use]
     pub fn nth(&self, n: usize) -> Option<K> {
         self.nth_word(n).map(K::of_word)
     }
@@ -220,6 +226,7 @@ impl<K: Key> Judy1<K> {
     /// ```
     /// assert_eq!(sellumaq::Judy1::from([7, 3]).first(), Some(3));
     /// ```
+    #[must_use]
     pub fn first(&self) -> Option<K> {
         self.least(0).map(K::of_word)
     }
@@ -229,6 +236,7 @@ impl<K: Key> Judy1<K> {
     /// ```
     /// assert_eq!(sellumaq::Judy1::from([7, 3]).last(), Some(7));
     /// ```
+    #[must_use]
     pub fn last(&self) -> Option<K> {
         self.greatest(u64::MAX).map(K::of_word)
     }

@@ -220,7 +220,13 @@ macro_rules! pairs {
 }
 
 /// The pairs of a [`JudyHs`].
+///
+/// ```
+/// let map = sellumaq::JudyHs::from([("a", 10), ("b", 20)]);
+/// assert_eq!(map.iter().next(), Some((b"a".to_vec(), 10)));
+/// ```
 #[derive(Clone)]
+#[must_use = "iterators are lazy and do nothing unless consumed"]
 pub struct Iter<'a, V: Value = u64> {
     list: List,
     map: PhantomData<&'a JudyHs<V>>,
@@ -229,6 +235,15 @@ pub struct Iter<'a, V: Value = u64> {
 pairs!(Iter<'a, V>; self, key, value: Some((key.to_vec(), V::of_bits(value))) => (Vec<u8>, V));
 
 /// The keys of a [`JudyHs`], each beside its value, to change.
+///
+/// ```
+/// let mut map = sellumaq::JudyHs::from([("a", 10), ("b", 20)]);
+/// for (_, value) in &mut map {
+///     *value += 1;
+/// }
+/// assert_eq!(map["b"], 21);
+/// ```
+#[must_use = "iterators are lazy and do nothing unless consumed"]
 pub struct IterMut<'a, V: Value = u64> {
     list: List,
     map: &'a JudyHs<V>,
@@ -243,6 +258,11 @@ pairs!(IterMut<'a, V>; self, key, _value: {
 } => (Vec<u8>, &'a mut V));
 
 /// The pairs that a [`JudyHs`] held, which the iterator owns.
+///
+/// ```
+/// let map = sellumaq::JudyHs::from([("a", 10), ("b", 20)]);
+/// assert_eq!(map.into_iter().next_back(), Some((b"b".to_vec(), 20)));
+/// ```
 #[derive(Clone)]
 pub struct IntoIter<V: Value = u64> {
     list: List,
@@ -253,24 +273,50 @@ pairs!(IntoIter<V>; self, key, value: Some((key.to_vec(), V::of_bits(value))) =>
 
 halves!(
     /// The keys of a map.
+    ///
+    /// ```
+    /// let map = sellumaq::JudyHs::from([("a", 10), ("b", 20)]);
+    /// assert_eq!(map.keys().next(), Some(b"a".to_vec()));
+    /// ```
     #[derive(Clone)]
     Keys<'a, V: Value = u64> of Iter<'a, V>; 0: Vec<u8>
 );
 halves!(
     /// The values of a map.
+    ///
+    /// ```
+    /// let map = sellumaq::JudyHs::from([("a", 10), ("b", 20)]);
+    /// assert_eq!(map.values().next(), Some(10));
+    /// ```
     #[derive(Clone)]
     Values<'a, V: Value = u64> of Iter<'a, V>; 1: V
 );
 halves!(
     /// The values of a map, to change.
+    ///
+    /// ```
+    /// let mut map = sellumaq::JudyHs::from([("a", 10), ("b", 20)]);
+    /// *map.values_mut().next().unwrap() += 1;
+    /// assert_eq!(map["a"], 11);
+    /// ```
     ValuesMut<'a, V: Value = u64> of IterMut<'a, V>; 1: &'a mut V
 );
 halves!(
     /// The keys of a map, which the iterator owns.
+    ///
+    /// ```
+    /// let map = sellumaq::JudyHs::from([("a", 10), ("b", 20)]);
+    /// assert_eq!(map.into_keys().next(), Some(b"a".to_vec()));
+    /// ```
     IntoKeys<V: Value = u64> of IntoIter<V>; 0: Vec<u8>
 );
 halves!(
     /// The values of a map, which the iterator owns.
+    ///
+    /// ```
+    /// let map = sellumaq::JudyHs::from([("a", 10), ("b", 20)]);
+    /// assert_eq!(map.into_values().next(), Some(10));
+    /// ```
     IntoValues<V: Value = u64> of IntoIter<V>; 1: V
 );
 

@@ -51,9 +51,9 @@ at_once!(
     "assert!(sellumaq::JudyL::from_sorted([(2, 20), (1, 10)]).is_err());"
 );
 
-walks!(JudyL<V: Value = u64, K: Key = u64> through Way<sys::sellumaq_pair>; (K, V));
+walks!(JudyL<V: Value = u64, K: Key = u64> through Way<sys::sellumaq_pair>; (K, V); "let array = sellumaq::JudyL::from([(1, 10), (2, 20), (10, 30)]);");
 
-slot_walks!(JudyL<V: Value = u64, K: Key = u64> through SlotSteps; K);
+slot_walks!(JudyL<V: Value = u64, K: Key = u64> through SlotSteps; K; "let mut map = sellumaq::JudyL::from([(1, 10), (2, 20)]);");
 
 ordered_map!(
     JudyL<V: Value = u64, K: Key = u64>; K, Borrow<K>;
@@ -212,8 +212,11 @@ impl<V: Value, K: Key> JudyL<V, K> {
         self.try_insert(key, value).unwrap_or_else(no_room)
     }
 
-    /// Gives a key a value, and answers the one it had; at the error the map is as it was. A key that is there is never
-    /// refused. It is one way down the map.
+    /// Gives a key a value, and answers the one it had. It is one way down the map.
+    ///
+    /// # Errors
+    ///
+    /// [`NoMemory`] where there is none for a new key, and the map is as it was. A key that is there is never refused.
     ///
     /// ```
     /// let mut map = sellumaq::JudyL::new();
@@ -240,8 +243,11 @@ impl<V: Value, K: Key> JudyL<V, K> {
         self.try_put(key, value).unwrap_or_else(no_room)
     }
 
-    /// Gives a key a value, and answers whether the key is new; at the error the map is as it was. A key that is there is
-    /// never refused.
+    /// Gives a key a value, and answers whether the key is new.
+    ///
+    /// # Errors
+    ///
+    /// As those of [`try_insert`](Self::try_insert).
     ///
     /// ```
     /// let mut map = sellumaq::JudyL::new();
@@ -256,8 +262,12 @@ impl<V: Value, K: Key> JudyL<V, K> {
         }
     }
 
-    /// The value of a key, to read and to change; the key is put in with the default value where it is absent. By this an absent key takes a
-    /// way down the map less than by [`entry`](Self::entry), and one that is there a way more.
+    /// The value of a key, to read and to change; the key is put in with the default value where it is absent. By this an absent
+    /// key takes a way down the map less than by [`entry`](Self::entry), and one that is there a way more.
+    ///
+    /// # Errors
+    ///
+    /// As those of [`try_insert`](Self::try_insert).
     ///
     /// ```
     /// let mut map = sellumaq::JudyL::new();
@@ -364,6 +374,7 @@ impl<V: Value, K: Key> JudyL<V, K> {
     /// let map = sellumaq::JudyL::from([(3, 30), (7, 70)]);
     /// assert_eq!((map.at_or_after(4), map.at_or_after(8)), (Some((7, 70)), None));
     /// ```
+    #[must_use]
     pub fn at_or_after(&self, from: K) -> Option<(K, V)> {
         self.least(from.word()).map(Self::item)
     }
@@ -374,6 +385,7 @@ impl<V: Value, K: Key> JudyL<V, K> {
     /// let map = sellumaq::JudyL::from([(3, 30), (7, 70)]);
     /// assert_eq!((map.at_or_before(6), map.at_or_before(2)), (Some((3, 30)), None));
     /// ```
+    #[must_use]
     pub fn at_or_before(&self, from: K) -> Option<(K, V)> {
         self.greatest(from.word()).map(Self::item)
     }
@@ -384,6 +396,7 @@ impl<V: Value, K: Key> JudyL<V, K> {
     /// let map = sellumaq::JudyL::from([(3, 30), (7, 70)]);
     /// assert_eq!((map.nth(1), map.nth(2)), (Some((7, 70)), None));
     /// ```
+    #[must_use]
     pub fn nth(&self, n: usize) -> Option<(K, V)> {
         let place = (n as u64).checked_add(1)?;
         let found = self.search_entry(sys::sellumaq_judyl_by_count_entry, place);
@@ -395,6 +408,7 @@ impl<V: Value, K: Key> JudyL<V, K> {
     /// ```
     /// assert_eq!(sellumaq::JudyL::from([(3, 30), (7, 70)]).first_key_value(), Some((3, 30)));
     /// ```
+    #[must_use]
     pub fn first_key_value(&self) -> Option<(K, V)> {
         self.least(0).map(Self::item)
     }
@@ -404,6 +418,7 @@ impl<V: Value, K: Key> JudyL<V, K> {
     /// ```
     /// assert_eq!(sellumaq::JudyL::from([(3, 30), (7, 70)]).last_key_value(), Some((7, 70)));
     /// ```
+    #[must_use]
     pub fn last_key_value(&self) -> Option<(K, V)> {
         self.greatest(u64::MAX).map(Self::item)
     }

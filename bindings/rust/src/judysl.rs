@@ -23,7 +23,7 @@ use way::{SlotSteps, Steps, Way};
 pub use crate::edge::StringRange;
 
 array!(
-    /// An ordered map from strings to words, or to other values that fit one, as those of a `JudySl<char>` are. A key is a string of at most [`MAX_KEY`](crate::MAX_KEY) bytes, none of them
+    /// An ordered map from strings to words, or to other values that fit one, as those of a `JudySl<char>` are. A key is a string of at most [`MAX_KEY`] bytes, none of them
     /// zero; keys are ordered by their bytes, as text in UTF-8 is by its characters.
     ///
     /// ```
@@ -40,9 +40,9 @@ keyed_map!(
     "let mut map = sellumaq::JudySl::from([(\"a\", 10)]);"
 );
 
-walks!(JudySl<V: Value = u64> through Way; (Vec<u8>, V));
+walks!(JudySl<V: Value = u64> through Way; (Vec<u8>, V); "let array = sellumaq::JudySl::from([(\"a\", 10), (\"b\", 20), (\"c\", 30)]);");
 
-slot_walks!(JudySl<V: Value = u64> through SlotSteps; Vec<u8>);
+slot_walks!(JudySl<V: Value = u64> through SlotSteps; Vec<u8>; "let mut map = sellumaq::JudySl::from([(\"a\", 10), (\"b\", 20)]);");
 
 ordered_map!(
     JudySl<V: Value = u64>; Vec<u8>, AsRef<[u8]>;
@@ -70,6 +70,7 @@ impl<V: Value> JudySl<V> {
     /// let map = sellumaq::JudySl::from([("a", 10), ("b", 20)]);
     /// assert_eq!(map.first_key_value(), Some((b"a".to_vec(), 10)));
     /// ```
+    #[must_use]
     pub fn first_key_value(&self) -> Option<(Vec<u8>, V)> {
         Steps::of(&(..)).next(self).map(Self::item)
     }
@@ -80,6 +81,7 @@ impl<V: Value> JudySl<V> {
     /// let map = sellumaq::JudySl::from([("a", 10), ("b", 20)]);
     /// assert_eq!(map.last_key_value(), Some((b"b".to_vec(), 20)));
     /// ```
+    #[must_use]
     pub fn last_key_value(&self) -> Option<(Vec<u8>, V)> {
         Steps::of(&(..)).next_back(self).map(Self::item)
     }
@@ -120,6 +122,7 @@ impl<V: Value> JudySl<V> {
     /// let map = sellumaq::JudySl::from([("a", 10), ("b", 20)]);
     /// assert_eq!(map.at_or_after("aa"), Some((b"b".to_vec(), 20)));
     /// ```
+    #[must_use]
     pub fn at_or_after(&self, from: impl AsRef<[u8]>) -> Option<(Vec<u8>, V)> {
         let mut steps = Steps::of(&(Bound::Included(from.as_ref()), Bound::Unbounded));
         steps.next(self).map(Self::item)
@@ -131,6 +134,7 @@ impl<V: Value> JudySl<V> {
     /// let map = sellumaq::JudySl::from([("a", 10), ("b", 20)]);
     /// assert_eq!(map.at_or_before("aa"), Some((b"a".to_vec(), 10)));
     /// ```
+    #[must_use]
     pub fn at_or_before(&self, from: impl AsRef<[u8]>) -> Option<(Vec<u8>, V)> {
         let mut steps = Steps::of(&(Bound::Unbounded, Bound::Included(from.as_ref())));
         steps.next_back(self).map(Self::item)
@@ -191,6 +195,7 @@ impl<V: Value> JudySl<V> {
     /// let map = sellumaq::JudySl::from([("a", 10), ("b", 20), ("c", 30)]);
     /// assert_eq!((map.count("b"..), map.count("a".."b"), map.count("c".."a")), (2, 1, 0));
     /// ```
+    #[must_use]
     pub fn count(&self, range: impl StringRange) -> usize {
         self.count_within(&range)
     }
@@ -208,6 +213,7 @@ impl<V: Value> JudySl<V> {
     /// let map = sellumaq::JudySl::from([("a", 10), ("b", 20)]);
     /// assert_eq!((map.rank("b"), map.rank("bb")), (1, 2));
     /// ```
+    #[must_use]
     pub fn rank(&self, string: impl AsRef<[u8]>) -> usize {
         self.count_up_to(&Edge::upper(Bound::Excluded(string.as_ref())))
     }
@@ -218,6 +224,7 @@ impl<V: Value> JudySl<V> {
     /// let map = sellumaq::JudySl::from([("a", 10), ("b", 20)]);
     /// assert_eq!((map.nth(1), map.nth(2)), (Some((b"b".to_vec(), 20)), None));
     /// ```
+    #[must_use]
     pub fn nth(&self, n: usize) -> Option<(Vec<u8>, V)> {
         let place = (n as u64).checked_add(1)?;
         let (handle, mut key, mut length, mut value) = (self.handle, [0; MAX_KEY], 0, 0);

@@ -89,10 +89,11 @@ macro_rules! keyed_map {
         }
 
         impl<V: Value> $map<V> {
-            /// Gives a key a value, and answers the one it had.
+            /// Gives a key a value, and answers the one it had. It ends the program where there is no memory, as std's maps do.
             ///
-            /// It panics where [`try_insert`](Self::try_insert) answers that the key is none or the map full, and ends the
-            /// program where there is no memory, as std's maps do.
+            /// # Panics
+            ///
+            /// Where the bytes are no key, or the map is full.
             ///
             /// ```
             #[doc = $sample]
@@ -102,7 +103,11 @@ macro_rules! keyed_map {
                 self.try_insert(key, value).unwrap_or_else(InsertError::end)
             }
 
-            /// Gives a key a value, and answers the one it had; at an error the map is as it was. A key that is there is
+            /// Gives a key a value, and answers the one it had.
+            ///
+            /// # Errors
+            ///
+            /// [`InsertError`](crate::InsertError) tells why the key can't be put in, and the map is as it was. A key that is there is
             /// never refused.
             ///
             /// ```
@@ -126,6 +131,10 @@ macro_rules! keyed_map {
 
             /// The value of a key, to read and to change; the key is put in with the default value where it is absent. By this an
             /// absent key takes a way down the map less than by [`entry`](Self::entry).
+            ///
+            /// # Errors
+            ///
+            /// As those of [`try_insert`](Self::try_insert).
             ///
             /// ```
             #[doc = $sample]

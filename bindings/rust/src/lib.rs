@@ -23,8 +23,14 @@
 //! its proofs. An insert without memory ends the program by `handle_alloc_error`; `try_insert` answers an error.
 //!
 //! With the feature `serde` arrays have Serde's two traits: a set is a sequence, a map is a map, and strings are bytes.
-#![warn(missing_docs, clippy::undocumented_unsafe_blocks)]
+#![warn(missing_docs, clippy::undocumented_unsafe_blocks, clippy::pedantic)]
 #![deny(unsafe_op_in_unsafe_fn)]
+// A count of the library fits, since the machine has 64 bits.
+#![allow(clippy::cast_possible_truncation)]
+// A range is given by value, as to std's calls; entries and sets that are split off may be left as std's may.
+#![allow(clippy::needless_pass_by_value, clippy::return_self_not_must_use)]
+// Keys of words are handed on by the same macros as those of strings, which are lent.
+#![allow(clippy::trivially_copy_pass_by_ref)]
 
 mod array;
 mod edge;

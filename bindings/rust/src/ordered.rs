@@ -113,24 +113,44 @@ macro_rules! ordered_map {
 
         crate::walk::halves!(
             /// The keys of a map in ascending order.
+            ///
+            /// ```
+            #[doc = concat!($sample, "\nassert_eq!(map.keys().next(), Some(", $own_a, "));")]
+            /// ```
             #[derive(Clone)]
             Keys<'a, $($param: $bound = $default),+> of Iter<'a, $($param),+>; 0: $key
         );
         crate::walk::halves!(
             /// The values of a map by ascending key.
+            ///
+            /// ```
+            #[doc = concat!($sample, "\nassert_eq!(map.values().next_back(), Some(20));")]
+            /// ```
             #[derive(Clone)]
             Values<'a, $($param: $bound = $default),+> of Iter<'a, $($param),+>; 1: V
         );
         crate::walk::halves!(
             /// The values of a map by ascending key, to change.
+            ///
+            /// ```
+            #[doc = concat!($sample, "\n*map.values_mut().next().unwrap() += 1;\nassert!(map.values().eq([11, 20]));")]
+            /// ```
             ValuesMut<'a, $($param: $bound = $default),+> of IterMut<'a, $($param),+>; 1: &'a mut V
         );
         crate::walk::halves!(
             /// The keys of a map in ascending order, which the iterator owns.
+            ///
+            /// ```
+            #[doc = concat!($sample, "\nassert_eq!(map.into_keys().next_back(), Some(", $own_b, "));")]
+            /// ```
             IntoKeys<$($param: $bound = $default),+> of IntoIter<$($param),+>; 0: $key
         );
         crate::walk::halves!(
             /// The values of a map by ascending key, which the iterator owns.
+            ///
+            /// ```
+            #[doc = concat!($sample, "\nassert_eq!(map.into_values().next(), Some(10));")]
+            /// ```
             IntoValues<$($param: $bound = $default),+> of IntoIter<$($param),+>; 1: V
         );
     };

@@ -1,9 +1,17 @@
 //! Iterators over an ordered map that lend its values to be changed.
 
-/// Writes `RangeMut` and `IterMut` of a `$map` with values of the type `V`, whose keys come as `$key`.
+/// Writes `RangeMut` and `IterMut` of a `$map` with values of the type `V`, whose keys come as `$key`. `$sample` is a line of an example that
+/// makes `map` with the values 10 and 20.
 macro_rules! slot_walks {
-    ($map:ident<$($param:ident: $bound:path = $default:ty),+> through $way:ty; $key:ty) => {
+    ($map:ident<$($param:ident: $bound:path = $default:ty),+> through $way:ty; $key:ty; $sample:literal) => {
         #[doc = concat!("Keys of a [`", stringify!($map), "`] in a range, each beside its value, to change, from both ends.")]
+        ///
+        /// ```
+        #[doc = $sample]
+        /// *map.range_mut(..).next_back().unwrap().1 += 1;
+        /// assert!(map.values().eq([10, 21]));
+        /// ```
+        #[must_use = "iterators are lazy and do nothing unless consumed"]
         pub struct RangeMut<'a, $($param: $bound = $default),+> {
             map: &'a $map<$($param),+>,
             way: $way,
@@ -56,7 +64,16 @@ macro_rules! slot_walks {
         }
 
         #[doc = concat!("The keys of a [`", stringify!($map), "`], each beside its value, to change, from both ends.")]
+        ///
+        /// ```
+        #[doc = $sample]
+        /// for (_, value) in &mut map {
+        ///     *value += 1;
+        /// }
+        /// assert!(map.values().eq([11, 21]));
+        /// ```
         #[derive(Debug)]
+        #[must_use = "iterators are lazy and do nothing unless consumed"]
         pub struct IterMut<'a, $($param: $bound = $default),+> {
             range: RangeMut<'a, $($param),+>,
             left: usize,

@@ -74,9 +74,12 @@ macro_rules! at_once {
                 }
             }
 
-            /// Makes an array of keys that strictly ascend, in a part of the time of an insert for each. The error tells
-            /// the first key that isn't above the one before it. It ends the program where there is no memory, as std's
-            /// collections do.
+            /// Makes an array of keys that strictly ascend, in a part of the time of an insert for each. It ends the program
+            /// where there is no memory, as std's collections do.
+            ///
+            /// # Errors
+            ///
+            /// [`NotAscending`](crate::NotAscending) tells the first key that isn't above the one before it.
             ///
             /// ```
             #[doc = $sample]

@@ -1,4 +1,11 @@
 //! What keys and values may be: what fits a word of 64 bits.
+// Integers of all sizes are cast by the same lines. What a cast cuts off are zeros, and a sign that it turns is turned back.
+#![allow(
+    clippy::cast_lossless,
+    clippy::cast_possible_wrap,
+    clippy::cast_sign_loss
+)]
+
 use std::fmt::Debug;
 use std::hash::Hash;
 use std::mem::{align_of, size_of};

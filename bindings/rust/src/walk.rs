@@ -1,11 +1,20 @@
 //! Iterators over an ordered array that change nothing in it.
 
 /// Writes the iterators `Range`, `Iter` and `IntoIter` of an `$array` over its way through a range, a `$way`, which has
-/// `next`, `next_back`, `fold` and `rfold`, each given the array. What these tell the array's `item` makes an `$item` of.
+/// `next`, `next_back`, `fold` and `rfold`, each given the array. What these tell the array's `item` makes an `$item` of. `$sample`
+/// is a line of an example that makes `array` with three keys.
 macro_rules! walks {
-    ($array:ident<$($param:ident: $bound:path = $default:ty),+> through $way:ty; $item:ty) => {
+    ($array:ident<$($param:ident: $bound:path = $default:ty),+> through $way:ty; $item:ty; $sample:literal) => {
         #[doc = concat!("What a [`", stringify!($array), "`] holds in a range, by ascending key, from both ends.")]
+        ///
+        /// ```
+        #[doc = $sample]
+        /// let mut range = array.range(..);
+        /// assert!(range.next_back() > range.next());
+        /// assert_eq!(range.count(), 1);
+        /// ```
         #[derive(Clone)]
+        #[must_use = "iterators are lazy and do nothing unless consumed"]
         pub struct Range<'a, $($param: $bound = $default),+> {
             array: &'a $array<$($param),+>,
             way: $way,
@@ -60,7 +69,15 @@ macro_rules! walks {
         }
 
         #[doc = concat!("All that a [`", stringify!($array), "`] holds, by ascending key, from both ends.")]
+        ///
+        /// ```
+        #[doc = $sample]
+        /// let mut items = array.iter();
+        /// assert!(items.next_back() > items.next());
+        /// assert_eq!(items.len(), 1);
+        /// ```
         #[derive(Clone)]
+        #[must_use = "iterators are lazy and do nothing unless consumed"]
         pub struct Iter<'a, $($param: $bound = $default),+> {
             range: Range<'a, $($param),+>,
             left: usize,
@@ -121,6 +138,13 @@ macro_rules! walks {
         }
 
         #[doc = concat!("All that a [`", stringify!($array), "`] held, which the iterator owns, by ascending key, from both ends.")]
+        ///
+        /// ```
+        #[doc = $sample]
+        /// let mut items = array.into_iter();
+        /// assert!(items.next_back() > items.next());
+        /// assert_eq!(items.len(), 1);
+        /// ```
         pub struct IntoIter<$($param: $bound = $default),+> {
             array: $array<$($param),+>,
             way: $way,
@@ -205,6 +229,7 @@ macro_rules! halves {
         $name:ident<$($life:lifetime,)? $($param:ident: $bound:path = $default:ty),+> of $pairs:ty; $half:tt: $item:ty
     ) => {
         $(#[$about])*
+        #[must_use = "iterators are lazy and do nothing unless consumed"]
         pub struct $name<$($life,)? $($param: $bound = $default),+> {
             pairs: $pairs,
         }

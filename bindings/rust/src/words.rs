@@ -26,6 +26,7 @@ macro_rules! word_array {
             #[doc = $sample]
             /// assert_eq!(array.absent_at_or_after(1), Some(3));
             /// ```
+            #[must_use]
             pub fn absent_at_or_after(&self, from: K) -> Option<K> {
                 self.search_absent(sellumaq_sys::$first_empty, from)
             }
@@ -36,6 +37,7 @@ macro_rules! word_array {
             #[doc = $sample]
             /// assert_eq!(array.absent_at_or_before(2), Some(0));
             /// ```
+            #[must_use]
             pub fn absent_at_or_before(&self, from: K) -> Option<K> {
                 self.search_absent(sellumaq_sys::$last_empty, from)
             }
@@ -53,6 +55,7 @@ macro_rules! word_array {
             #[doc = $sample]
             /// assert_eq!((array.count(2..), array.count(..=1), array.count(3..10)), (2, 1, 0));
             /// ```
+            #[must_use]
             pub fn count(&self, range: impl std::ops::RangeBounds<K>) -> usize {
                 let ends = Span::of(range).ends();
                 ends.map_or(0, |(from, to)| self.count_words(from, to))
@@ -64,6 +67,7 @@ macro_rules! word_array {
             #[doc = $sample]
             /// assert_eq!((array.rank(2), array.rank(11)), (1, 3));
             /// ```
+            #[must_use]
             pub fn rank(&self, below: K) -> usize {
                 self.count(..below)
             }

@@ -59,6 +59,7 @@ impl<K: Key> Judy1<K> {
     /// let a = sellumaq::Judy1::from([1, 2]);
     /// assert!(a.is_disjoint(&[3].into()) && !a.is_disjoint(&[2, 3].into()));
     /// ```
+    #[must_use]
     pub fn is_disjoint(&self, other: &Judy1<K>) -> bool {
         self.intersection(other).next().is_none()
     }
@@ -69,6 +70,7 @@ impl<K: Key> Judy1<K> {
     /// let a = sellumaq::Judy1::from([1, 2]);
     /// assert!(a.is_subset(&[1, 2, 3].into()) && !a.is_subset(&[2, 3].into()));
     /// ```
+    #[must_use]
     pub fn is_subset(&self, other: &Judy1<K>) -> bool {
         self.len() <= other.len() && self.iter().all(|key| other.contains(key))
     }
@@ -79,6 +81,7 @@ impl<K: Key> Judy1<K> {
     /// let a = sellumaq::Judy1::from([1, 2]);
     /// assert!(a.is_superset(&[2].into()) && !a.is_superset(&[2, 3].into()));
     /// ```
+    #[must_use]
     pub fn is_superset(&self, other: &Judy1<K>) -> bool {
         other.is_subset(self)
     }
@@ -110,7 +113,13 @@ impl<'a, K: Key> Both<'a, K> {
 }
 
 /// The keys of either of two sets, by ascending key.
+///
+/// ```
+/// let (a, b) = (sellumaq::Judy1::from([1, 2]), sellumaq::Judy1::from([2, 3]));
+/// assert_eq!(a.union(&b).last(), Some(3));
+/// ```
 #[derive(Clone, Debug)]
+#[must_use = "this is an iterator over the keys, and changes neither set"]
 pub struct Union<'a, K: Key = u64>(Both<'a, K>);
 
 impl<K: Key> Iterator for Union<'_, K> {
@@ -122,7 +131,13 @@ impl<K: Key> Iterator for Union<'_, K> {
 }
 
 /// The keys of one of two sets alone, by ascending key.
+///
+/// ```
+/// let (a, b) = (sellumaq::Judy1::from([1, 2]), sellumaq::Judy1::from([2, 3]));
+/// assert_eq!(a.symmetric_difference(&b).last(), Some(3));
+/// ```
 #[derive(Clone, Debug)]
+#[must_use = "this is an iterator over the keys, and changes neither set"]
 pub struct SymmetricDifference<'a, K: Key = u64>(Both<'a, K>);
 
 impl<K: Key> Iterator for SymmetricDifference<'_, K> {
@@ -139,7 +154,13 @@ impl<K: Key> Iterator for SymmetricDifference<'_, K> {
 }
 
 /// The keys of two sets both, by ascending key.
+///
+/// ```
+/// let (a, b) = (sellumaq::Judy1::from([1, 2]), sellumaq::Judy1::from([2, 3]));
+/// assert_eq!(a.intersection(&b).last(), Some(2));
+/// ```
 #[derive(Clone, Debug)]
+#[must_use = "this is an iterator over the keys, and changes neither set"]
 pub struct Intersection<'a, K: Key = u64> {
     sets: [&'a Judy1<K>; 2],
     // The word to go on from.
@@ -163,7 +184,13 @@ impl<K: Key> Iterator for Intersection<'_, K> {
 }
 
 /// The keys of a set that are none of another's, by ascending key.
+///
+/// ```
+/// let (a, b) = (sellumaq::Judy1::from([1, 2]), sellumaq::Judy1::from([2, 3]));
+/// assert_eq!(a.difference(&b).last(), Some(1));
+/// ```
 #[derive(Clone, Debug)]
+#[must_use = "this is an iterator over the keys, and changes neither set"]
 pub struct Difference<'a, K: Key = u64> {
     keys: Iter<'a, K>,
     other: &'a Judy1<K>,

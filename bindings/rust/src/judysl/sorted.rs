@@ -54,8 +54,12 @@ impl List {
 }
 
 impl<V: Value> JudySl<V> {
-    /// Makes a map at once of strings that strictly ascend, which are copied to one list first. The error tells the first key
-    /// that is none, or isn't above the one before it. It ends the program where there is no memory, as std's collections do.
+    /// Makes a map at once of strings that strictly ascend, which are copied to one list first. It ends the program where there is no
+    /// memory, as std's collections do.
+    ///
+    /// # Errors
+    ///
+    /// [`FromSortedError`] tells the first key that is none, or isn't above the one before it.
     ///
     /// ```
     /// use sellumaq::{FromSortedError, JudySl};
