@@ -19,6 +19,17 @@
 //! assert!(squares.range(10..).eq([(16, 4), (25, 5)]));
 //! ```
 //!
+//! [`Judy1<K>`](Judy1) and [`JudyL<V, K>`](JudyL) have keys of any integer type, in their own order, and the maps have values of any type
+//! that fits a word: see [`Key`] and [`Value`]. `new` and `from` make arrays of `u64`, so that numbers without a type are words; those of
+//! other types are made by `collect`, `from_sorted`, `default` or `empty`.
+//!
+//! ```
+//! use sellumaq::JudyL;
+//!
+//! let letters: JudyL<char, i32> = [(1, 'b'), (-1, 'a')].into_iter().collect();
+//! assert!(letters.iter().eq([(-1, 'a'), (1, 'b')]));
+//! ```
+//!
 //! Arrays may be sent to other threads and be read by several at a time, which is read off the library's code and tested, and no part of
 //! its proofs. An insert without memory ends the program by `handle_alloc_error`; `try_insert` answers an error.
 //!
