@@ -51,9 +51,15 @@ at_once!(
     "assert!(sellumaq::JudyL::from_sorted([(2, 20), (1, 10)]).is_err());"
 );
 
-walks!(JudyL<V: Value = u64, K: Key = u64> through Way<sys::sellumaq_pair>; (K, V); "let array = sellumaq::JudyL::from([(1, 10), (2, 20), (10, 30)]);");
+walks!(
+    JudyL<V: Value = u64, K: Key = u64> through Way<sys::sellumaq_pair>; (K, V);
+    "let array = sellumaq::JudyL::from([(1, 10), (2, 20), (10, 30)]);"
+);
 
-slot_walks!(JudyL<V: Value = u64, K: Key = u64> through SlotSteps; K; "let mut map = sellumaq::JudyL::from([(1, 10), (2, 20)]);");
+slot_walks!(
+    JudyL<V: Value = u64, K: Key = u64> through SlotSteps; K;
+    "let mut map = sellumaq::JudyL::from([(1, 10), (2, 20)]);"
+);
 
 ordered_map!(
     JudyL<V: Value = u64, K: Key = u64>; K, Borrow<K>;

@@ -23,8 +23,9 @@ use way::{SlotSteps, Steps, Way};
 pub use crate::edge::StringRange;
 
 array!(
-    /// An ordered map from strings to words, or to other values that fit one, as those of a `JudySl<char>` are. A key is a string of at most [`MAX_KEY`] bytes, none of them
-    /// zero; keys are ordered by their bytes, as text in UTF-8 is by its characters.
+    /// An ordered map from strings to words, or to other values that fit one, as those of a `JudySl<char>` are. A key is a
+    /// string of at most [`MAX_KEY`] bytes, none of them zero; keys are ordered by their bytes, as text in UTF-8 is by its
+    /// characters.
     ///
     /// ```
     /// let ages = sellumaq::JudySl::from([("Ada", 36), ("Alan", 41), ("Grace", 85)]);
@@ -40,9 +41,15 @@ keyed_map!(
     "let mut map = sellumaq::JudySl::from([(\"a\", 10)]);"
 );
 
-walks!(JudySl<V: Value = u64> through Way; (Vec<u8>, V); "let array = sellumaq::JudySl::from([(\"a\", 10), (\"b\", 20), (\"c\", 30)]);");
+walks!(
+    JudySl<V: Value = u64> through Way; (Vec<u8>, V);
+    "let array = sellumaq::JudySl::from([(\"a\", 10), (\"b\", 20), (\"c\", 30)]);"
+);
 
-slot_walks!(JudySl<V: Value = u64> through SlotSteps; Vec<u8>; "let mut map = sellumaq::JudySl::from([(\"a\", 10), (\"b\", 20)]);");
+slot_walks!(
+    JudySl<V: Value = u64> through SlotSteps; Vec<u8>;
+    "let mut map = sellumaq::JudySl::from([(\"a\", 10), (\"b\", 20)]);"
+);
 
 ordered_map!(
     JudySl<V: Value = u64>; Vec<u8>, AsRef<[u8]>;

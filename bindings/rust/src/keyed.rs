@@ -58,8 +58,8 @@ impl fmt::Display for InsertError {
 
 impl std::error::Error for InsertError {}
 
-/// Writes the calls of a `$map` with values of the type `V` that need no order of its keys, over the calls of C named. `$sample` is a line of an example
-/// that makes `map` with the key `"a"` of the value 10.
+/// Writes the calls of a `$map` with values of the type `V` that need no order of its keys, over the calls of C named. `$sample`
+/// is a line of an example that makes `map` with the key `"a"` of the value 10.
 macro_rules! keyed_map {
     ($map:ident; $ins:ident, $insert:ident, $get:ident, $slot:ident, $del:ident, $remove:ident; $sample:literal) => {
         // What takes the library's pointers.
