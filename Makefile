@@ -37,7 +37,8 @@ KEYS = 10000 1000000
 LIB := out/lib
 C_SOURCES := $(wildcard bindings/c/*.h bindings/c/hp/*)
 RUST_FILES := $(patsubst bindings/rust/%,%,$(wildcard bindings/rust/Cargo.toml bindings/rust/README.md bindings/rust/src/*.rs bindings/rust/src/*/*.rs \
-	bindings/rust/serde/Cargo.toml bindings/rust/sellumaq-sys/Cargo.toml bindings/rust/sellumaq-sys/build.rs bindings/rust/sellumaq-sys/src/*.rs))
+	bindings/rust/sellumaq-sys/Cargo.toml bindings/rust/sellumaq-sys/README.md bindings/rust/sellumaq-sys/build.rs bindings/rust/sellumaq-sys/src/*.rs \
+	bindings/rust/serde/stand-in/Cargo.toml bindings/rust/serde/stand-in/src/*.rs))
 C_FLAGS = -std=c11 -D_DEFAULT_SOURCE -O2 -Wall -Wextra
 LIBRARIES := $(addprefix $(LIB)/,libsellumaq.a libsellumaq.so libJudy.a libJudy.so)
 
@@ -202,6 +203,7 @@ install-library: lib python
 		ln -sf $$page.3 "$(DESTDIR)$(MAN)/man3/$$call.3" || exit 1; \
 	done
 	for file in $(RUST_FILES); do install -D -m 644 bindings/rust/$$file "$(DESTDIR)$(PREFIX)/share/sellumaq/rust/$$file" || exit 1; done
+	for file in sellumaq.s system.c; do install -D -m 644 compiled/$$file "$(DESTDIR)$(PREFIX)/share/sellumaq/rust/sellumaq-sys/compiled/$$file" || exit 1; done
 	install -m 644 out/python/sellumaq/*.* "$(DESTDIR)$(PYTHON_DIR)/sellumaq"
 
 # Links this project's libJudy into the linker's own folder, where programs that were linked against HP's find it once ldconfig has

@@ -3,31 +3,53 @@
 /// Writes the type of a kind of array over its handle in C, `$handle`, and the calls by which C tells its length and
 /// gives it back. `$sample` is a line of an example that makes `array` with three keys.
 macro_rules! array {
-    ($(#[$about:meta])* $array:ident over $handle:ident, $len:ident, $free:ident; $sample:literal) => {
+    (
+        $(#[$about:meta])*
+        $array:ident<$($param:ident: $bound:path = $default:ty),+> over $handle:ident, $len:ident, $free:ident; $sample:literal
+    ) => {
         $(#[$about])*
-        pub struct $array {
+        pub struct $array<$($param: $bound = $default),+> {
             handle: sellumaq_sys::$handle,
+            of: std::marker::PhantomData<($($param,)+)>,
         }
 
         // SAFETY: an array is reached by its handle alone, which has one owner, and its memory is malloc's, which any
         // thread may give back.
-        unsafe impl Send for $array {}
+        unsafe impl<$($param: $bound),+> Send for $array<$($param),+> {}
 
         // SAFETY: by a shared reference only calls that read are made, each with a copy of the handle's word. They
         // store nothing in the array: the library reaches it by shared references, or, where it finds a slot, by ones
         // that it only hands on. This rests on reading its source, and on a run of threads under helgrind; its proofs
         // speak of what a call leaves, not of what it stores meanwhile.
-        unsafe impl Sync for $array {}
+        unsafe impl<$($param: $bound),+> Sync for $array<$($param),+> {}
 
         impl $array {
-            /// The empty array, which takes no memory.
+            /// The empty array, which takes no memory. An array of other types than `u64` is made by [`empty`](Self::empty),
+            /// by `default` or by `collect`.
             ///
             /// ```
             #[doc = concat!("let array = sellumaq::", stringify!($array), "::new();")]
             /// assert!(array.is_empty());
             /// ```
+            #[must_use]
             pub const fn new() -> Self {
-                $array { handle: sellumaq_sys::$handle { array: std::ptr::null_mut() } }
+                Self::empty()
+            }
+        }
+
+        impl<$($param: $bound),+> $array<$($param),+> {
+            /// The empty array of any types.
+            ///
+            /// ```
+            #[doc = concat!("static ARRAY: sellumaq::", stringify!($array), "<i32> = sellumaq::", stringify!($array), "::empty();")]
+            /// assert!(ARRAY.is_empty());
+            /// ```
+            #[must_use]
+            pub const fn empty() -> Self {
+                $array {
+                    handle: sellumaq_sys::$handle { array: std::ptr::null_mut() },
+                    of: std::marker::PhantomData,
+                }
             }
 
             /// How many keys there are. No way through them is made.
@@ -36,6 +58,7 @@ macro_rules! array {
             #[doc = $sample]
             /// assert_eq!(array.len(), 3);
             /// ```
+            #[must_use]
             pub fn len(&self) -> usize {
                 let handle = self.handle;
                 // SAFETY: the handle is this array's, lent for this call alone, which only reads.
@@ -49,6 +72,7 @@ macro_rules! array {
             #[doc = $sample]
             /// assert!(!array.is_empty());
             /// ```
+            #[must_use]
             pub fn is_empty(&self) -> bool {
                 self.len() == 0
             }
@@ -66,15 +90,15 @@ macro_rules! array {
             }
         }
 
-        impl Drop for $array {
+        impl<$($param: $bound),+> Drop for $array<$($param),+> {
             fn drop(&mut self) {
                 self.clear();
             }
         }
 
-        impl Default for $array {
+        impl<$($param: $bound),+> Default for $array<$($param),+> {
             fn default() -> Self {
-                $array::new()
+                Self::empty()
             }
         }
     };

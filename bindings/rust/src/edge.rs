@@ -11,8 +11,20 @@ pub type Scan<T> =
 
 /// A range of strings, whose ends are anything that has bytes: `..`, `"a"..`, `.."b"`, `"a"..="b"` and so on, or a pair of
 /// [`Bound`]s.
+///
+/// ```
+/// let map = sellumaq::JudySl::from([("a", 10), ("b", 20), ("c", 30)]);
+/// assert_eq!((map.count("b"..), map.count("a"..="b"), map.count(..)), (2, 2, 3));
+/// ```
 pub trait StringRange {
     /// Where it begins and ends.
+    ///
+    /// ```
+    /// use sellumaq::judysl::StringRange;
+    /// use std::ops::Bound::{Included, Unbounded};
+    ///
+    /// assert_eq!(StringRange::bounds(&("a"..)), (Included(&b"a"[..]), Unbounded));
+    /// ```
     fn bounds(&self) -> (Bound<&[u8]>, Bound<&[u8]>);
 }
 

@@ -1,11 +1,13 @@
 //! Entries: the places of keys in maps, whether they are there or not.
 
-/// Writes the `Entry` of a `$map` and its two kinds, for a key held as `$held` and shown as `$shown` by `$show`.
+/// Writes the `Entry` of a `$map` with values of the type `V` and its two kinds, for a key held as `$held` and shown as `$shown` by `$show`.
 /// `$sample` is a line of an example that makes `map` with the keys `$a` and `$b` and the values 10 and 20, and `$c` is
 /// no key of it. `$error` is the error of an insert and `$end` what ends the program for it.
 macro_rules! entries {
     (
-        $map:ident, $module:ident, $error:ty, $end:path; [$($k:ident: $bound:path)?]; $held:ty, $show:expr => $shown:ty;
+        $map:ident<$($of:ident: $of_bound:path),+> with [$($k:ident: $k_bound:path)?],
+        Entry<$($param:ident: $bound:path $(= $default:ty)?),+>;
+        $module:ident, $error:ty, $end:path; $held:ty, $show:expr => $shown:ty;
         $sample:literal, $a:literal, $c:literal, $own:literal, $own_c:literal
     ) => {
         /// The place of a key in a map.
@@ -14,33 +16,49 @@ macro_rules! entries {
         #[doc = concat!($sample, "\n*map.entry(", $a, ").or_insert(5) += 1;\n*map.entry(", $c, ").or_insert(5) += 1;")]
         #[doc = concat!("assert_eq!((map.get(", $a, "), map.get(", $c, ")), (Some(11), Some(6)));")]
         /// ```
-        pub enum Entry<'a $(, $k: $bound)?> {
+        pub enum Entry<'a, $($param: $bound $(= $default)?),+> {
             /// The key is there.
-            Occupied(OccupiedEntry<'a $(, $k)?>),
+            Occupied(OccupiedEntry<'a, $($param),+>),
             /// The key is absent.
-            Vacant(VacantEntry<'a $(, $k)?>),
+            Vacant(VacantEntry<'a, $($param),+>),
         }
 
         /// The place of a key that is there.
-        pub struct OccupiedEntry<'a $(, $k: $bound)?> {
-            map: &'a mut $map,
+        ///
+        /// ```
+        #[doc = concat!("use sellumaq::", stringify!($module), "::Entry;\n", $sample)]
+        #[doc = concat!("if let Entry::Occupied(entry) = map.entry(", $a, ") {")]
+        ///     assert_eq!(entry.remove(), 10);
+        /// }
+        #[doc = concat!("assert!(!map.contains_key(", $a, "));")]
+        /// ```
+        pub struct OccupiedEntry<'a, $($param: $bound $(= $default)?),+> {
+            map: &'a mut $map<$($of),+>,
             key: $held,
-            slot: std::ptr::NonNull<u64>,
+            slot: std::ptr::NonNull<V>,
         }
 
         /// The place of a key that is absent.
-        pub struct VacantEntry<'a $(, $k: $bound)?> {
-            map: &'a mut $map,
+        ///
+        /// ```
+        #[doc = concat!("use sellumaq::", stringify!($module), "::Entry;\n", $sample)]
+        #[doc = concat!("if let Entry::Vacant(entry) = map.entry(", $c, ") {")]
+        ///     entry.insert(5);
+        /// }
+        #[doc = concat!("assert_eq!(map.get(", $c, "), Some(5));")]
+        /// ```
+        pub struct VacantEntry<'a, $($param: $bound $(= $default)?),+> {
+            map: &'a mut $map<$($of),+>,
             key: $held,
         }
 
-        // SAFETY: the slot is one of the map, which is borrowed to be changed as by a `&mut u64`.
-        unsafe impl<$($k: $bound + Send)?> Send for OccupiedEntry<'_ $(, $k)?> {}
+        // SAFETY: the slot is one of the map, which is borrowed to be changed as by a `&mut V`.
+        unsafe impl<$($param: $bound),+> Send for OccupiedEntry<'_, $($param),+> where $held: Send {}
 
         // SAFETY: as above; a shared entry only reads its slot.
-        unsafe impl<$($k: $bound + Sync)?> Sync for OccupiedEntry<'_ $(, $k)?> {}
+        unsafe impl<$($param: $bound),+> Sync for OccupiedEntry<'_, $($param),+> where $held: Sync {}
 
-        impl $map {
+        impl<$($of: $of_bound),+> $map<$($of),+> {
             /// The place of a key, to be looked at and filled. A key that is there takes one way down the map, and an absent
             /// one more when it is put in.
             ///
@@ -48,7 +66,7 @@ macro_rules! entries {
             #[doc = concat!($sample, "\nassert_eq!(*map.entry(", $c, ").or_default(), 0);")]
             /// assert_eq!(map.len(), 3);
             /// ```
-            pub fn entry $(<$k: $bound>)? (&mut self, key: $held) -> Entry<'_ $(, $k)?> {
+            pub fn entry $(<$k: $k_bound>)? (&mut self, key: $held) -> Entry<'_, $($param),+> {
                 match self.find_slot($show(&key)) {
                     Some(slot) => Entry::Occupied(OccupiedEntry { map: self, key, slot }),
                     None => Entry::Vacant(VacantEntry { map: self, key }),
@@ -56,7 +74,7 @@ macro_rules! entries {
             }
         }
 
-        impl<'a $(, $k: $bound)?> Entry<'a $(, $k)?> {
+        impl<'a, $($param: $bound),+> Entry<'a, $($param),+> {
             /// The key.
             ///
             /// ```
@@ -75,7 +93,7 @@ macro_rules! entries {
             #[doc = concat!($sample, "\nmap.entry(", $a, ").and_modify(|value| *value += 1).or_insert(5);")]
             #[doc = concat!("assert_eq!(map.get(", $a, "), Some(11));")]
             /// ```
-            pub fn and_modify(mut self, change: impl FnOnce(&mut u64)) -> Self {
+            pub fn and_modify(mut self, change: impl FnOnce(&mut V)) -> Self {
                 if let Entry::Occupied(entry) = &mut self {
                     change(entry.get_mut());
                 }
@@ -87,7 +105,7 @@ macro_rules! entries {
             /// ```
             #[doc = concat!($sample, "\nassert_eq!(*map.entry(", $c, ").or_insert(5), 5);")]
             /// ```
-            pub fn or_insert(self, value: u64) -> &'a mut u64 {
+            pub fn or_insert(self, value: V) -> &'a mut V {
                 self.or_insert_with(|| value)
             }
 
@@ -96,7 +114,7 @@ macro_rules! entries {
             /// ```
             #[doc = concat!($sample, "\nassert_eq!(*map.entry(", $c, ").or_insert_with(|| 5), 5);")]
             /// ```
-            pub fn or_insert_with(self, make: impl FnOnce() -> u64) -> &'a mut u64 {
+            pub fn or_insert_with(self, make: impl FnOnce() -> V) -> &'a mut V {
                 self.or_insert_with_key(|_| make())
             }
 
@@ -105,7 +123,7 @@ macro_rules! entries {
             /// ```
             #[doc = concat!($sample, "\nassert_eq!(*map.entry(", $c, ").or_insert_with_key(|_| 5), 5);")]
             /// ```
-            pub fn or_insert_with_key(self, make: impl FnOnce($shown) -> u64) -> &'a mut u64 {
+            pub fn or_insert_with_key(self, make: impl FnOnce($shown) -> V) -> &'a mut V {
                 match self {
                     Entry::Occupied(entry) => entry.into_mut(),
                     Entry::Vacant(entry) => {
@@ -115,13 +133,16 @@ macro_rules! entries {
                 }
             }
 
-            /// The value, which is 0 where the key was absent.
+            /// The value, which is the default where the key was absent.
             ///
             /// ```
             #[doc = concat!($sample, "\nassert_eq!(*map.entry(", $c, ").or_default(), 0);")]
             /// ```
-            pub fn or_default(self) -> &'a mut u64 {
-                self.or_insert(0)
+            pub fn or_default(self) -> &'a mut V
+            where
+                V: Default,
+            {
+                self.or_insert_with(V::default)
             }
 
             /// Gives the key a value, and answers its entry.
@@ -129,7 +150,7 @@ macro_rules! entries {
             /// ```
             #[doc = concat!($sample, "\nassert_eq!(map.entry(", $c, ").insert_entry(5).remove(), 5);")]
             /// ```
-            pub fn insert_entry(self, value: u64) -> OccupiedEntry<'a $(, $k)?> {
+            pub fn insert_entry(self, value: V) -> OccupiedEntry<'a, $($param),+> {
                 match self {
                     Entry::Occupied(mut entry) => {
                         entry.insert(value);
@@ -140,7 +161,7 @@ macro_rules! entries {
             }
         }
 
-        impl<'a $(, $k: $bound)?> OccupiedEntry<'a $(, $k)?> {
+        impl<'a, $($param: $bound),+> OccupiedEntry<'a, $($param),+> {
             /// The key.
             ///
             /// ```
@@ -157,7 +178,7 @@ macro_rules! entries {
             #[doc = concat!($sample, "\nlet entry = map.entry(", $a, ").insert_entry(7);")]
             /// assert_eq!(*entry.get(), 7);
             /// ```
-            pub fn get(&self) -> &u64 {
+            pub fn get(&self) -> &V {
                 // SAFETY: a slot lives until the map is changed, and the entry has the map borrowed.
                 unsafe { self.slot.as_ref() }
             }
@@ -169,7 +190,7 @@ macro_rules! entries {
             /// *entry.get_mut() += 1;
             /// assert_eq!(*entry.get(), 8);
             /// ```
-            pub fn get_mut(&mut self) -> &mut u64 {
+            pub fn get_mut(&mut self) -> &mut V {
                 // SAFETY: as in `get`.
                 unsafe { self.slot.as_mut() }
             }
@@ -182,7 +203,7 @@ macro_rules! entries {
             /// *value += 1;
             #[doc = concat!("assert_eq!(map.get(", $a, "), Some(8));")]
             /// ```
-            pub fn into_mut(self) -> &'a mut u64 {
+            pub fn into_mut(self) -> &'a mut V {
                 // SAFETY: as in `get`; the entry, which alone could change the map meanwhile, is gone.
                 unsafe { &mut *self.slot.as_ptr() }
             }
@@ -193,7 +214,7 @@ macro_rules! entries {
             #[doc = concat!($sample, "\nlet mut entry = map.entry(", $a, ").insert_entry(7);")]
             /// assert_eq!((entry.insert(8), *entry.get()), (7, 8));
             /// ```
-            pub fn insert(&mut self, value: u64) -> u64 {
+            pub fn insert(&mut self, value: V) -> V {
                 std::mem::replace(self.get_mut(), value)
             }
 
@@ -204,7 +225,7 @@ macro_rules! entries {
             /// assert_eq!(entry.remove(), 7);
             /// assert_eq!(map.len(), 1);
             /// ```
-            pub fn remove(self) -> u64 {
+            pub fn remove(self) -> V {
                 self.remove_entry().1
             }
 
@@ -215,14 +236,14 @@ macro_rules! entries {
             /// assert_eq!(entry.remove_entry().1, 7);
             /// assert_eq!(map.len(), 1);
             /// ```
-            pub fn remove_entry(self) -> ($held, u64) {
+            pub fn remove_entry(self) -> ($held, V) {
                 let value = *self.get();
                 self.map.delete($show(&self.key));
                 (self.key, value)
             }
         }
 
-        impl<'a $(, $k: $bound)?> VacantEntry<'a $(, $k)?> {
+        impl<'a, $($param: $bound),+> VacantEntry<'a, $($param),+> {
             /// The key.
             ///
             /// ```
@@ -257,11 +278,15 @@ macro_rules! entries {
             /// }
             #[doc = concat!("assert_eq!(map.get(", $c, "), Some(6));")]
             /// ```
-            pub fn insert(self, value: u64) -> &'a mut u64 {
+            pub fn insert(self, value: V) -> &'a mut V {
                 self.try_insert(value).unwrap_or_else($end)
             }
 
-            /// Puts the key in with a value, and answers where that stands; at an error the map is as it was.
+            /// Puts the key in with a value, and answers where that stands.
+            ///
+            /// # Errors
+            ///
+            /// Those of an insert of the map, which is as it was then.
             ///
             /// ```
             #[doc = concat!("use sellumaq::", stringify!($module), "::Entry;\n", $sample)]
@@ -269,12 +294,14 @@ macro_rules! entries {
             ///     assert_eq!(entry.try_insert(5), Ok(&mut 5));
             /// }
             /// ```
-            pub fn try_insert(self, value: u64) -> Result<&'a mut u64, $error> {
+            pub fn try_insert(self, value: V) -> Result<&'a mut V, $error> {
                 let slot = self.map.make_slot($show(&self.key))?;
-                // SAFETY: a slot lives until the map is changed, which stays borrowed as long as the reference.
-                let slot = unsafe { &mut *slot.as_ptr() };
-                *slot = value;
-                Ok(slot)
+                // SAFETY: a slot lives until the map is changed, which stays borrowed as long as the reference. It has room for a value, and
+                // holds one before it is lent.
+                Ok(unsafe {
+                    slot.as_ptr().write(value);
+                    &mut *slot.as_ptr()
+                })
             }
 
             /// Puts the key in with a value, and answers its entry.
@@ -285,15 +312,15 @@ macro_rules! entries {
             ///     assert_eq!(*entry.insert_entry(5).get(), 5);
             /// }
             /// ```
-            pub fn insert_entry(self, value: u64) -> OccupiedEntry<'a $(, $k)?> {
+            pub fn insert_entry(self, value: V) -> OccupiedEntry<'a, $($param),+> {
                 let slot = self.map.make_slot($show(&self.key)).unwrap_or_else($end);
-                let mut entry = OccupiedEntry { map: self.map, key: self.key, slot };
-                entry.insert(value);
-                entry
+                // SAFETY: as in `try_insert`.
+                unsafe { slot.as_ptr().write(value) };
+                OccupiedEntry { map: self.map, key: self.key, slot }
             }
         }
 
-        impl $(<$k: $bound>)? std::fmt::Debug for Entry<'_ $(, $k)?> {
+        impl<$($param: $bound),+> std::fmt::Debug for Entry<'_, $($param),+> {
             fn fmt(&self, to: &mut std::fmt::Formatter<'_>) -> std::fmt::Result {
                 match self {
                     Entry::Occupied(entry) => entry.fmt(to),
@@ -302,13 +329,13 @@ macro_rules! entries {
             }
         }
 
-        impl $(<$k: $bound>)? std::fmt::Debug for OccupiedEntry<'_ $(, $k)?> {
+        impl<$($param: $bound),+> std::fmt::Debug for OccupiedEntry<'_, $($param),+> {
             fn fmt(&self, to: &mut std::fmt::Formatter<'_>) -> std::fmt::Result {
                 to.debug_struct("OccupiedEntry").field("key", &self.key()).field("value", self.get()).finish()
             }
         }
 
-        impl $(<$k: $bound>)? std::fmt::Debug for VacantEntry<'_ $(, $k)?> {
+        impl<$($param: $bound),+> std::fmt::Debug for VacantEntry<'_, $($param),+> {
             fn fmt(&self, to: &mut std::fmt::Formatter<'_>) -> std::fmt::Result {
                 to.debug_tuple("VacantEntry").field(&self.key()).finish()
             }

@@ -2,6 +2,7 @@
 use crate::array::array;
 use crate::sorted::at_once;
 use crate::span::{Found, Span};
+use crate::types::Key;
 use crate::walk::walks;
 use crate::way::Way;
 use crate::words::{collected, word_array};
@@ -15,37 +16,64 @@ mod algebra;
 pub use algebra::{Difference, Intersection, SymmetricDifference, Union};
 
 array!(
-    /// An ordered set of words.
+    /// An ordered set of words, or of other integers: a `Judy1` is a set of `u64`, and a `Judy1<i32>` one of `i32`.
     ///
     /// ```
-    /// let mut set = sellumaq::Judy1::from([5, 3, 1]);
+    /// use sellumaq::Judy1;
+    ///
+    /// let mut set = Judy1::from([5, 3, 1]);
     /// assert!(set.insert(4) && !set.insert(3));
     /// assert_eq!(format!("{set:?}"), "{1, 3, 4, 5}");
+    ///
+    /// let degrees: Judy1<i32> = [20, -5, 0].into_iter().collect();
+    /// assert!(degrees.range(..0).eq([-5]));
     /// ```
-    Judy1 over sellumaq_judy1, sellumaq_judy1_len, sellumaq_judy1_free;
+    Judy1<K: Key = u64> over sellumaq_judy1, sellumaq_judy1_len, sellumaq_judy1_free;
     "let array = sellumaq::Judy1::from([1, 2, 10]);"
 );
 
 word_array!(
-    Judy1; u64; u64, sellumaq_judy1_walk;
+    Judy1<K: Key>; u64, sellumaq_judy1_walk;
     sellumaq_judy1_count, sellumaq_judy1_by_count, sellumaq_judy1_first_empty, sellumaq_judy1_last_empty;
     "let array = sellumaq::Judy1::from([1, 2, 10]);"
 );
 
-collected!(Judy1; u64; "let array = sellumaq::Judy1::from([1, 2, 10]);");
+collected!(Judy1<K: Key>; u64; "let array = sellumaq::Judy1::from([1, 2, 10]);");
 
 at_once!(
-    Judy1; u64; u64, sellumaq_judy1_from_sorted;
+    Judy1<K: Key>; K; u64, sellumaq_judy1_from_sorted;
     "let array = sellumaq::Judy1::from_sorted([1, 2, 10]);",
     "assert!(sellumaq::Judy1::from_sorted([1, 2, 2]).is_err());"
 );
 
-walks!(Judy1 through Way<u64>; u64);
+walks!(Judy1<K: Key = u64> through Way<u64>; K; "let array = sellumaq::Judy1::from([1, 2, 10]);");
+
+/// How many keys [`Judy1::contains_many`] hands to C at a time.
+const GROUP: usize = 64;
 
 /// A search of C from a word for another.
 type Search = unsafe extern "C" fn(*const sys::sellumaq_judy1, u64, *mut u64) -> bool;
 
-impl Judy1 {
+// Keys as the library knows them.
+impl<K: Key> Judy1<K> {
+    fn item(word: u64) -> K {
+        K::of_word(word)
+    }
+
+    fn told(key: K) -> u64 {
+        key.word()
+    }
+
+    fn least(&self, from: u64) -> Option<u64> {
+        self.search(sys::sellumaq_judy1_first, from)
+    }
+
+    fn greatest(&self, up_to: u64) -> Option<u64> {
+        self.search(sys::sellumaq_judy1_last, up_to)
+    }
+}
+
+impl<K: Key> Judy1<K> {
     /// Puts a key in, and answers whether it was absent. It ends the program where there is no memory, as std's sets do.
     ///
     /// ```
@@ -53,20 +81,23 @@ impl Judy1 {
     /// assert!(set.insert(7));
     /// assert!(!set.insert(7));
     /// ```
-    pub fn insert(&mut self, key: u64) -> bool {
+    pub fn insert(&mut self, key: K) -> bool {
         self.try_insert(key).unwrap_or_else(no_room)
     }
 
-    /// Puts a key in, and answers whether it was absent; at the error the set is as it was. A key that is there is never
-    /// refused.
+    /// Puts a key in, and answers whether it was absent.
+    ///
+    /// # Errors
+    ///
+    /// [`NoMemory`] where there is none for a new key, and the set is as it was. A key that is there is never refused.
     ///
     /// ```
     /// let mut set = sellumaq::Judy1::new();
     /// assert_eq!(set.try_insert(7), Ok(true));
     /// ```
-    pub fn try_insert(&mut self, key: u64) -> Result<bool, NoMemory> {
+    pub fn try_insert(&mut self, key: K) -> Result<bool, NoMemory> {
         // SAFETY: the handle is this set's, lent for this call alone.
-        match unsafe { sys::sellumaq_judy1_set(&mut self.handle, key) } {
+        match unsafe { sys::sellumaq_judy1_set(&mut self.handle, key.word()) } {
             sys::SELLUMAQ_NO_MEMORY => Err(NoMemory),
             told => Ok(told == sys::SELLUMAQ_ADDED),
         }
@@ -78,9 +109,9 @@ impl Judy1 {
     /// let mut set = sellumaq::Judy1::from([7]);
     /// assert!(set.remove(&7) && !set.remove(7));
     /// ```
-    pub fn remove(&mut self, key: impl Borrow<u64>) -> bool {
+    pub fn remove(&mut self, key: impl Borrow<K>) -> bool {
         // SAFETY: the handle is this set's, lent for this call alone.
-        unsafe { sys::sellumaq_judy1_unset(&mut self.handle, *key.borrow()) }
+        unsafe { sys::sellumaq_judy1_unset(&mut self.handle, key.borrow().word()) }
     }
 
     /// Whether a key is there.
@@ -89,10 +120,10 @@ impl Judy1 {
     /// let set = sellumaq::Judy1::from([7]);
     /// assert!(set.contains(7) && set.contains(&7) && !set.contains(8));
     /// ```
-    pub fn contains(&self, key: impl Borrow<u64>) -> bool {
+    pub fn contains(&self, key: impl Borrow<K>) -> bool {
         let handle = self.handle;
         // SAFETY: the handle is this set's, lent for this call alone, which only reads.
-        unsafe { sys::sellumaq_judy1_test(&handle, *key.borrow()) }
+        unsafe { sys::sellumaq_judy1_test(&handle, key.borrow().word()) }
     }
 
     /// Looks up many keys, as many as both slices have, and writes whether each is there to its place. Up to 16 keys go down the set side by
@@ -105,18 +136,23 @@ impl Judy1 {
     /// set.contains_many(&[5, 4, 3], &mut there);
     /// assert_eq!(there, [true, false, true]);
     /// ```
-    pub fn contains_many(&self, keys: &[u64], there: &mut [bool]) {
-        let handle = self.handle;
-        // SAFETY: the handle is this set's, lent for this call alone, which only reads; as many keys are there as are told, and room for
-        // as many answers. Each that is written is 0 or 1.
-        unsafe {
-            sys::sellumaq_judy1_test_many(
-                &handle,
-                keys.as_ptr(),
-                keys.len(),
-                there.as_mut_ptr(),
-                there.len(),
-            );
+    pub fn contains_many(&self, keys: &[K], there: &mut [bool]) {
+        let (handle, mut words) = (self.handle, [0; GROUP]);
+        for (keys, there) in keys.chunks(GROUP).zip(there.chunks_mut(GROUP)) {
+            for (word, key) in words.iter_mut().zip(keys) {
+                *word = key.word();
+            }
+            // SAFETY: the handle is this set's, lent for this call alone, which only reads; as many words are there as are told, and room for
+            // as many answers. Each that is written is 0 or 1.
+            unsafe {
+                sys::sellumaq_judy1_test_many(
+                    &handle,
+                    words.as_ptr(),
+                    keys.len(),
+                    there.as_mut_ptr(),
+                    there.len(),
+                );
+            }
         }
     }
 
@@ -126,7 +162,7 @@ impl Judy1 {
     /// let set = sellumaq::Judy1::from([7]);
     /// assert_eq!((set.get(7), set.get(8)), (Some(7), None));
     /// ```
-    pub fn get(&self, key: impl Borrow<u64>) -> Option<u64> {
+    pub fn get(&self, key: impl Borrow<K>) -> Option<K> {
         let key = *key.borrow();
         self.contains(key).then_some(key)
     }
@@ -137,7 +173,7 @@ impl Judy1 {
     /// let mut set = sellumaq::Judy1::from([7]);
     /// assert_eq!((set.take(7), set.take(7)), (Some(7), None));
     /// ```
-    pub fn take(&mut self, key: impl Borrow<u64>) -> Option<u64> {
+    pub fn take(&mut self, key: impl Borrow<K>) -> Option<K> {
         let key = *key.borrow();
         self.remove(key).then_some(key)
     }
@@ -148,28 +184,30 @@ impl Judy1 {
     /// let mut set = sellumaq::Judy1::from([7]);
     /// assert_eq!((set.replace(7), set.replace(8)), (Some(7), None));
     /// ```
-    pub fn replace(&mut self, key: u64) -> Option<u64> {
+    pub fn replace(&mut self, key: K) -> Option<K> {
         (!self.insert(key)).then_some(key)
     }
 
-    /// The least key from a word on.
+    /// The least key from a number on.
     ///
     /// ```
     /// let set = sellumaq::Judy1::from([3, 7]);
     /// assert_eq!((set.at_or_after(4), set.at_or_after(8)), (Some(7), None));
     /// ```
-    pub fn at_or_after(&self, from: u64) -> Option<u64> {
-        self.search(sys::sellumaq_judy1_first, from)
+    #[must_use]
+    pub fn at_or_after(&self, from: K) -> Option<K> {
+        self.least(from.word()).map(K::of_word)
     }
 
-    /// The greatest key up to a word.
+    /// The greatest key up to a number.
     ///
     /// ```
     /// let set = sellumaq::Judy1::from([3, 7]);
     /// assert_eq!((set.at_or_before(6), set.at_or_before(2)), (Some(3), None));
     /// ```
-    pub fn at_or_before(&self, from: u64) -> Option<u64> {
-        self.search(sys::sellumaq_judy1_last, from)
+    #[must_use]
+    pub fn at_or_before(&self, from: K) -> Option<K> {
+        self.greatest(from.word()).map(K::of_word)
     }
 
     /// The n-th key in ascending order, counted from 0. No way through the keys before it is made.
@@ -178,8 +216,9 @@ impl Judy1 {
     /// let set = sellumaq::Judy1::from([3, 7]);
     /// assert_eq!((set.nth(1), set.nth(2)), (Some(7), None));
     /// ```
-    pub fn nth(&self, n: usize) -> Option<u64> {
-        self.nth_key(n)
+    #[must_use]
+    pub fn nth(&self, n: usize) -> Option<K> {
+        self.nth_word(n).map(K::of_word)
     }
 
     /// The least key.
@@ -187,8 +226,9 @@ impl Judy1 {
     /// ```
     /// assert_eq!(sellumaq::Judy1::from([7, 3]).first(), Some(3));
     /// ```
-    pub fn first(&self) -> Option<u64> {
-        self.at_or_after(0)
+    #[must_use]
+    pub fn first(&self) -> Option<K> {
+        self.least(0).map(K::of_word)
     }
 
     /// The greatest key.
@@ -196,8 +236,9 @@ impl Judy1 {
     /// ```
     /// assert_eq!(sellumaq::Judy1::from([7, 3]).last(), Some(7));
     /// ```
-    pub fn last(&self) -> Option<u64> {
-        self.at_or_before(u64::MAX)
+    #[must_use]
+    pub fn last(&self) -> Option<K> {
+        self.greatest(u64::MAX).map(K::of_word)
     }
 
     /// Takes the least key out.
@@ -206,7 +247,7 @@ impl Judy1 {
     /// let mut set = sellumaq::Judy1::from([7, 3]);
     /// assert_eq!((set.pop_first(), set.len()), (Some(3), 1));
     /// ```
-    pub fn pop_first(&mut self) -> Option<u64> {
+    pub fn pop_first(&mut self) -> Option<K> {
         self.first().and_then(|key| self.take(key))
     }
 
@@ -216,7 +257,7 @@ impl Judy1 {
     /// let mut set = sellumaq::Judy1::from([7, 3]);
     /// assert_eq!((set.pop_last(), set.len()), (Some(7), 1));
     /// ```
-    pub fn pop_last(&mut self) -> Option<u64> {
+    pub fn pop_last(&mut self) -> Option<K> {
         self.last().and_then(|key| self.take(key))
     }
 
@@ -227,10 +268,10 @@ impl Judy1 {
     /// set.retain(|key| key % 3 == 0);
     /// assert!(set.iter().eq([0, 3, 6, 9]));
     /// ```
-    pub fn retain(&mut self, mut keep: impl FnMut(&u64) -> bool) {
+    pub fn retain(&mut self, mut keep: impl FnMut(&K) -> bool) {
         // what was brought beyond a key is there still when the key was taken out
-        let mut way = Way::of(Span::of(..));
-        while let Some(key) = way.next(self) {
+        let mut way = Way::of(Span::ALL);
+        while let Some(key) = way.next(self).map(K::of_word) {
             if !keep(&key) {
                 self.remove(key);
             }
@@ -238,21 +279,21 @@ impl Judy1 {
     }
 }
 
-impl Extend<u64> for Judy1 {
-    fn extend<I: IntoIterator<Item = u64>>(&mut self, keys: I) {
+impl<K: Key> Extend<K> for Judy1<K> {
+    fn extend<I: IntoIterator<Item = K>>(&mut self, keys: I) {
         for key in keys {
             self.insert(key);
         }
     }
 }
 
-impl<'a> Extend<&'a u64> for Judy1 {
-    fn extend<I: IntoIterator<Item = &'a u64>>(&mut self, keys: I) {
+impl<'a, K: Key> Extend<&'a K> for Judy1<K> {
+    fn extend<I: IntoIterator<Item = &'a K>>(&mut self, keys: I) {
         self.extend(keys.into_iter().copied());
     }
 }
 
-impl fmt::Debug for Judy1 {
+impl<K: Key> fmt::Debug for Judy1<K> {
     fn fmt(&self, to: &mut fmt::Formatter<'_>) -> fmt::Result {
         to.debug_set().entries(self).finish()
     }

@@ -3,6 +3,7 @@ use crate::array::array;
 use crate::entry::entries;
 use crate::keyed::{keyed_map, InsertError};
 use crate::list::List;
+use crate::types::{Value, ZeroValue};
 use crate::walk::halves;
 use sellumaq_sys as sys;
 use std::fmt;
@@ -13,7 +14,7 @@ use std::ops::Index;
 use std::ptr::{null_mut, NonNull};
 
 array!(
-    /// A map from byte strings to words, in no order. A key has any number of bytes, of any value.
+    /// A map from byte strings to words, or to other values that fit one, in no order. A key has any number of bytes, of any value.
     ///
     /// Its iterators list all pairs at first, by the lengths of the keys, and those of one length by their bytes. That takes the
     /// time and the memory of a sorted `Vec` of them; where there is none it ends the program, as std's collections do.
@@ -25,7 +26,7 @@ array!(
     /// assert_eq!(seen.insert("text", 5), None);
     /// assert!(seen.keys().eq([vec![0, 255], b"text".to_vec()]));
     /// ```
-    JudyHs over sellumaq_judyhs, sellumaq_judyhs_len, sellumaq_judyhs_free;
+    JudyHs<V: Value = u64> over sellumaq_judyhs, sellumaq_judyhs_len, sellumaq_judyhs_free;
     "let array = sellumaq::JudyHs::from([(\"a\", 10), (\"b\", 20), (\"c\", 30)]);"
 );
 
@@ -35,11 +36,12 @@ keyed_map!(
 );
 
 entries!(
-    JudyHs, judyhs, InsertError, InsertError::end; [K: AsRef<[u8]>]; K, K::as_ref => &[u8];
+    JudyHs<V: Value> with [K: AsRef<[u8]>], Entry<K: AsRef<[u8]>, V: Value = u64>;
+    judyhs, InsertError, InsertError::end; K, K::as_ref => &[u8];
     "let mut map = sellumaq::JudyHs::from([(\"a\", 10), (\"b\", 20)]);", "\"a\"", "\"c\"", "b\"a\"", "b\"c\""
 );
 
-impl JudyHs {
+impl<V: Value> JudyHs<V> {
     pub(crate) fn list(&self) -> List {
         // SAFETY: the map is borrowed.
         unsafe { List::of(self.handle, self.len()) }
@@ -51,7 +53,7 @@ impl JudyHs {
     /// let map = sellumaq::JudyHs::from([("bb", 20), ("c", 30)]);
     /// assert!(map.iter().eq([(b"c".to_vec(), 30), (b"bb".to_vec(), 20)]));
     /// ```
-    pub fn iter(&self) -> Iter<'_> {
+    pub fn iter(&self) -> Iter<'_, V> {
         Iter {
             list: self.list(),
             map: PhantomData,
@@ -65,7 +67,7 @@ impl JudyHs {
     /// map.iter_mut().for_each(|(_, value)| *value += 1);
     /// assert!(map.values().eq([11, 21]));
     /// ```
-    pub fn iter_mut(&mut self) -> IterMut<'_> {
+    pub fn iter_mut(&mut self) -> IterMut<'_, V> {
         IterMut {
             list: self.list(),
             map: self,
@@ -79,7 +81,7 @@ impl JudyHs {
     /// let map = sellumaq::JudyHs::from([("a", 10), ("b", 20)]);
     /// assert!(map.keys().eq([b"a".to_vec(), b"b".to_vec()]));
     /// ```
-    pub fn keys(&self) -> Keys<'_> {
+    pub fn keys(&self) -> Keys<'_, V> {
         Keys { pairs: self.iter() }
     }
 
@@ -89,7 +91,7 @@ impl JudyHs {
     /// let map = sellumaq::JudyHs::from([("a", 10), ("b", 20)]);
     /// assert_eq!(map.values().sum::<u64>(), 30);
     /// ```
-    pub fn values(&self) -> Values<'_> {
+    pub fn values(&self) -> Values<'_, V> {
         Values { pairs: self.iter() }
     }
 
@@ -100,7 +102,7 @@ impl JudyHs {
     /// map.values_mut().for_each(|value| *value += 1);
     /// assert!(map.values().eq([11, 21]));
     /// ```
-    pub fn values_mut(&mut self) -> ValuesMut<'_> {
+    pub fn values_mut(&mut self) -> ValuesMut<'_, V> {
         ValuesMut {
             pairs: self.iter_mut(),
         }
@@ -112,7 +114,7 @@ impl JudyHs {
     /// let map = sellumaq::JudyHs::from([("a", 10), ("b", 20)]);
     /// assert!(map.into_keys().eq([b"a".to_vec(), b"b".to_vec()]));
     /// ```
-    pub fn into_keys(self) -> IntoKeys {
+    pub fn into_keys(self) -> IntoKeys<V> {
         IntoKeys {
             pairs: self.into_iter(),
         }
@@ -124,7 +126,7 @@ impl JudyHs {
     /// let map = sellumaq::JudyHs::from([("a", 10), ("b", 20)]);
     /// assert!(map.into_values().eq([10, 20]));
     /// ```
-    pub fn into_values(self) -> IntoValues {
+    pub fn into_values(self) -> IntoValues<V> {
         IntoValues {
             pairs: self.into_iter(),
         }
@@ -137,7 +139,7 @@ impl JudyHs {
     /// assert_eq!(map.drain().count(), 2);
     /// assert!(map.is_empty());
     /// ```
-    pub fn drain(&mut self) -> IntoIter {
+    pub fn drain(&mut self) -> IntoIter<V> {
         take(self).into_iter()
     }
 
@@ -147,7 +149,7 @@ impl JudyHs {
     /// let map = sellumaq::JudyHs::from([("a", 10)]);
     /// assert_eq!(map.get_key_value("a"), Some((b"a".to_vec(), 10)));
     /// ```
-    pub fn get_key_value(&self, key: impl AsRef<[u8]>) -> Option<(Vec<u8>, u64)> {
+    pub fn get_key_value(&self, key: impl AsRef<[u8]>) -> Option<(Vec<u8>, V)> {
         let key = key.as_ref();
         self.get(key).map(|value| (key.to_vec(), value))
     }
@@ -158,7 +160,7 @@ impl JudyHs {
     /// let mut map = sellumaq::JudyHs::from([("a", 10)]);
     /// assert_eq!(map.remove_entry("a"), Some((b"a".to_vec(), 10)));
     /// ```
-    pub fn remove_entry(&mut self, key: impl AsRef<[u8]>) -> Option<(Vec<u8>, u64)> {
+    pub fn remove_entry(&mut self, key: impl AsRef<[u8]>) -> Option<(Vec<u8>, V)> {
         let key = key.as_ref();
         self.remove(key).map(|value| (key.to_vec(), value))
     }
@@ -171,7 +173,7 @@ impl JudyHs {
     /// map.retain(|key, _| key > &b"a"[..]);
     /// assert_eq!((map.len(), map["b"]), (1, 20));
     /// ```
-    pub fn retain(&mut self, mut keep: impl FnMut(&[u8], &mut u64) -> bool) {
+    pub fn retain(&mut self, mut keep: impl FnMut(&[u8], &mut V) -> bool) {
         let mut list = self.list();
         while let Some((key, _)) = list.next() {
             let kept = self.get_mut(key).map(|value| keep(key, value));
@@ -184,8 +186,8 @@ impl JudyHs {
 
 /// Writes what an iterator over a list of pairs has, each of which it answers by `$answer`.
 macro_rules! pairs {
-    ($name:ident $(<$life:lifetime>)?; $self:ident, $key:ident, $value:ident: $answer:expr => $item:ty) => {
-        impl $(<$life>)? Iterator for $name $(<$life>)? {
+    ($name:ident<$($life:lifetime,)? V>; $self:ident, $key:ident, $value:ident: $answer:expr => $item:ty) => {
+        impl<$($life,)? V: Value> Iterator for $name<$($life,)? V> {
             type Item = $item;
 
             fn next(&mut $self) -> Option<$item> {
@@ -198,18 +200,18 @@ macro_rules! pairs {
             }
         }
 
-        impl $(<$life>)? DoubleEndedIterator for $name $(<$life>)? {
+        impl<$($life,)? V: Value> DoubleEndedIterator for $name<$($life,)? V> {
             fn next_back(&mut $self) -> Option<$item> {
                 let ($key, $value) = $self.list.next_back()?;
                 $answer
             }
         }
 
-        impl $(<$life>)? ExactSizeIterator for $name $(<$life>)? {}
+        impl<$($life,)? V: Value> ExactSizeIterator for $name<$($life,)? V> {}
 
-        impl $(<$life>)? FusedIterator for $name $(<$life>)? {}
+        impl<$($life,)? V: Value> FusedIterator for $name<$($life,)? V> {}
 
-        impl $(<$life>)? fmt::Debug for $name $(<$life>)? {
+        impl<$($life,)? V: Value> fmt::Debug for $name<$($life,)? V> {
             fn fmt(&self, to: &mut fmt::Formatter<'_>) -> fmt::Result {
                 self.list.fmt(to)
             }
@@ -218,97 +220,147 @@ macro_rules! pairs {
 }
 
 /// The pairs of a [`JudyHs`].
+///
+/// ```
+/// let map = sellumaq::JudyHs::from([("a", 10), ("b", 20)]);
+/// assert_eq!(map.iter().next(), Some((b"a".to_vec(), 10)));
+/// ```
 #[derive(Clone)]
-pub struct Iter<'a> {
+#[must_use = "iterators are lazy and do nothing unless consumed"]
+pub struct Iter<'a, V: Value = u64> {
     list: List,
-    map: PhantomData<&'a JudyHs>,
+    map: PhantomData<&'a JudyHs<V>>,
 }
 
-pairs!(Iter<'a>; self, key, value: Some((key.to_vec(), value)) => (Vec<u8>, u64));
+pairs!(Iter<'a, V>; self, key, value: Some((key.to_vec(), V::of_bits(value))) => (Vec<u8>, V));
 
 /// The keys of a [`JudyHs`], each beside its value, to change.
-pub struct IterMut<'a> {
+///
+/// ```
+/// let mut map = sellumaq::JudyHs::from([("a", 10), ("b", 20)]);
+/// for (_, value) in &mut map {
+///     *value += 1;
+/// }
+/// assert_eq!(map["b"], 21);
+/// ```
+#[must_use = "iterators are lazy and do nothing unless consumed"]
+pub struct IterMut<'a, V: Value = u64> {
     list: List,
-    map: &'a JudyHs,
-    lent: PhantomData<&'a mut u64>,
+    map: &'a JudyHs<V>,
+    lent: PhantomData<&'a mut V>,
 }
 
-pairs!(IterMut<'a>; self, key, _value: {
+pairs!(IterMut<'a, V>; self, key, _value: {
     let slot = self.map.find_slot(key)?;
     // SAFETY: the map is borrowed to be changed for as long as the slot is lent, and isn't changed meanwhile, so the slot stays. No
     // key comes twice, so no slot is lent twice. To find the next slot the library decides by keys alone.
     Some((key.to_vec(), unsafe { &mut *slot.as_ptr() }))
-} => (Vec<u8>, &'a mut u64));
+} => (Vec<u8>, &'a mut V));
 
 /// The pairs that a [`JudyHs`] held, which the iterator owns.
+///
+/// ```
+/// let map = sellumaq::JudyHs::from([("a", 10), ("b", 20)]);
+/// assert_eq!(map.into_iter().next_back(), Some((b"b".to_vec(), 20)));
+/// ```
 #[derive(Clone)]
-pub struct IntoIter {
+pub struct IntoIter<V: Value = u64> {
     list: List,
+    of: PhantomData<V>,
 }
 
-pairs!(IntoIter; self, key, value: Some((key.to_vec(), value)) => (Vec<u8>, u64));
+pairs!(IntoIter<V>; self, key, value: Some((key.to_vec(), V::of_bits(value))) => (Vec<u8>, V));
 
 halves!(
     /// The keys of a map.
+    ///
+    /// ```
+    /// let map = sellumaq::JudyHs::from([("a", 10), ("b", 20)]);
+    /// assert_eq!(map.keys().next(), Some(b"a".to_vec()));
+    /// ```
     #[derive(Clone)]
-    Keys<'a> of Iter<'a>; 0: Vec<u8>
+    Keys<'a, V: Value = u64> of Iter<'a, V>; 0: Vec<u8>
 );
 halves!(
     /// The values of a map.
+    ///
+    /// ```
+    /// let map = sellumaq::JudyHs::from([("a", 10), ("b", 20)]);
+    /// assert_eq!(map.values().next(), Some(10));
+    /// ```
     #[derive(Clone)]
-    Values<'a> of Iter<'a>; 1: u64
+    Values<'a, V: Value = u64> of Iter<'a, V>; 1: V
 );
 halves!(
     /// The values of a map, to change.
-    ValuesMut<'a> of IterMut<'a>; 1: &'a mut u64
+    ///
+    /// ```
+    /// let mut map = sellumaq::JudyHs::from([("a", 10), ("b", 20)]);
+    /// *map.values_mut().next().unwrap() += 1;
+    /// assert_eq!(map["a"], 11);
+    /// ```
+    ValuesMut<'a, V: Value = u64> of IterMut<'a, V>; 1: &'a mut V
 );
 halves!(
     /// The keys of a map, which the iterator owns.
-    IntoKeys of IntoIter; 0: Vec<u8>
+    ///
+    /// ```
+    /// let map = sellumaq::JudyHs::from([("a", 10), ("b", 20)]);
+    /// assert_eq!(map.into_keys().next(), Some(b"a".to_vec()));
+    /// ```
+    IntoKeys<V: Value = u64> of IntoIter<V>; 0: Vec<u8>
 );
 halves!(
     /// The values of a map, which the iterator owns.
-    IntoValues of IntoIter; 1: u64
+    ///
+    /// ```
+    /// let map = sellumaq::JudyHs::from([("a", 10), ("b", 20)]);
+    /// assert_eq!(map.into_values().next(), Some(10));
+    /// ```
+    IntoValues<V: Value = u64> of IntoIter<V>; 1: V
 );
 
-impl IntoIterator for JudyHs {
-    type Item = (Vec<u8>, u64);
-    type IntoIter = IntoIter;
+impl<V: Value> IntoIterator for JudyHs<V> {
+    type Item = (Vec<u8>, V);
+    type IntoIter = IntoIter<V>;
 
-    fn into_iter(self) -> IntoIter {
-        IntoIter { list: self.list() }
+    fn into_iter(self) -> IntoIter<V> {
+        IntoIter {
+            list: self.list(),
+            of: PhantomData,
+        }
     }
 }
 
-impl<'a> IntoIterator for &'a JudyHs {
-    type Item = (Vec<u8>, u64);
-    type IntoIter = Iter<'a>;
+impl<'a, V: Value> IntoIterator for &'a JudyHs<V> {
+    type Item = (Vec<u8>, V);
+    type IntoIter = Iter<'a, V>;
 
-    fn into_iter(self) -> Iter<'a> {
+    fn into_iter(self) -> Iter<'a, V> {
         self.iter()
     }
 }
 
-impl<'a> IntoIterator for &'a mut JudyHs {
-    type Item = (Vec<u8>, &'a mut u64);
-    type IntoIter = IterMut<'a>;
+impl<'a, V: Value> IntoIterator for &'a mut JudyHs<V> {
+    type Item = (Vec<u8>, &'a mut V);
+    type IntoIter = IterMut<'a, V>;
 
-    fn into_iter(self) -> IterMut<'a> {
+    fn into_iter(self) -> IterMut<'a, V> {
         self.iter_mut()
     }
 }
 
-impl Clone for JudyHs {
+impl<V: Value> Clone for JudyHs<V> {
     fn clone(&self) -> Self {
-        let (mut copy, mut list) = (JudyHs::new(), self.list());
+        let (mut copy, mut list) = (Self::empty(), self.list());
         while let Some((key, value)) = list.next() {
-            copy.insert(key, value);
+            copy.insert(key, V::of_bits(value));
         }
         copy
     }
 }
 
-impl PartialEq for JudyHs {
+impl<V: Value> PartialEq for JudyHs<V> {
     fn eq(&self, other: &Self) -> bool {
         let mut list = if self.len() == other.len() {
             self.list()
@@ -316,7 +368,7 @@ impl PartialEq for JudyHs {
             return false;
         };
         while let Some((key, value)) = list.next() {
-            if other.get(key) != Some(value) {
+            if other.get(key) != Some(V::of_bits(value)) {
                 return false;
             }
         }
@@ -324,9 +376,9 @@ impl PartialEq for JudyHs {
     }
 }
 
-impl Eq for JudyHs {}
+impl<V: Value> Eq for JudyHs<V> {}
 
-impl fmt::Debug for JudyHs {
+impl<V: Value> fmt::Debug for JudyHs<V> {
     fn fmt(&self, to: &mut fmt::Formatter<'_>) -> fmt::Result {
         self.list().fmt(to)
     }

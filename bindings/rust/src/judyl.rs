@@ -5,6 +5,7 @@ use crate::ordered::ordered_map;
 use crate::slots::slot_walks;
 use crate::sorted::at_once;
 use crate::span::{Found, Span};
+use crate::types::{Key, Value, ZeroValue};
 use crate::walk::walks;
 use crate::way::{Room, Told, Walked, Way};
 use crate::words::{collected, word_array};
@@ -17,43 +18,57 @@ use std::ops::{Index, RangeBounds, RangeInclusive};
 use std::ptr::{null_mut, NonNull};
 
 array!(
-    /// An ordered map from words to words.
+    /// An ordered map from words to words, or to and from others that fit one: a `JudyL` has keys and values of `u64`, a
+    /// `JudyL<char>` values of `char`, and a `JudyL<char, i32>` keys of `i32` besides.
     ///
     /// ```
-    /// let mut map = sellumaq::JudyL::from([(5, 50), (3, 30)]);
+    /// use sellumaq::JudyL;
+    ///
+    /// let mut map = JudyL::from([(5, 50), (3, 30)]);
     /// *map.entry(3).or_insert(0) += 1;
     /// assert_eq!(map.insert(5, 51), Some(50));
     /// assert_eq!(format!("{map:?}"), "{3: 31, 5: 51}");
+    ///
+    /// let letters: JudyL<char, i32> = [(1, 'b'), (-1, 'a')].into_iter().collect();
+    /// assert_eq!(letters.first_key_value(), Some((-1, 'a')));
+    /// assert_eq!(letters[1], 'b');
     /// ```
-    JudyL over sellumaq_judyl, sellumaq_judyl_len, sellumaq_judyl_free;
+    JudyL<V: Value = u64, K: Key = u64> over sellumaq_judyl, sellumaq_judyl_len, sellumaq_judyl_free;
     "let array = sellumaq::JudyL::from([(1, 10), (2, 20), (10, 30)]);"
 );
 
 word_array!(
-    JudyL; (u64, u64); sys::sellumaq_pair, sellumaq_judyl_walk;
+    JudyL<V: Value, K: Key>; sys::sellumaq_pair, sellumaq_judyl_walk;
     sellumaq_judyl_count, sellumaq_judyl_by_count, sellumaq_judyl_first_empty, sellumaq_judyl_last_empty;
     "let array = sellumaq::JudyL::from([(1, 10), (2, 20), (10, 30)]);"
 );
 
-collected!(JudyL; (u64, u64); "let array = sellumaq::JudyL::from([(1, 10), (2, 20), (10, 30)]);");
+collected!(JudyL<V: Value, K: Key>; (u64, u64); "let array = sellumaq::JudyL::from([(1, 10), (2, 20), (10, 30)]);");
 
 at_once!(
-    JudyL; (u64, u64); sys::sellumaq_pair, sellumaq_judyl_from_sorted;
+    JudyL<V: Value, K: Key>; (K, V); sys::sellumaq_pair, sellumaq_judyl_from_sorted;
     "let array = sellumaq::JudyL::from_sorted([(1, 10), (2, 20), (10, 30)]);",
     "assert!(sellumaq::JudyL::from_sorted([(2, 20), (1, 10)]).is_err());"
 );
 
-walks!(JudyL through Way<sys::sellumaq_pair>; (u64, u64));
+walks!(
+    JudyL<V: Value = u64, K: Key = u64> through Way<sys::sellumaq_pair>; (K, V);
+    "let array = sellumaq::JudyL::from([(1, 10), (2, 20), (10, 30)]);"
+);
 
-slot_walks!(JudyL through SlotSteps; u64);
+slot_walks!(
+    JudyL<V: Value = u64, K: Key = u64> through SlotSteps; K;
+    "let mut map = sellumaq::JudyL::from([(1, 10), (2, 20)]);"
+);
 
 ordered_map!(
-    JudyL; u64, Borrow<u64>;
+    JudyL<V: Value = u64, K: Key = u64>; K, Borrow<K>;
     "let mut map = sellumaq::JudyL::from([(1, 10), (2, 20)]);", "1", "1", "2"
 );
 
 entries!(
-    JudyL, judyl, NoMemory, no_room; []; u64, std::convert::identity => &u64;
+    JudyL<V: Value, K: Key> with [], Entry<V: Value = u64, K: Key = u64>;
+    judyl, NoMemory, no_room; K, std::convert::identity => &K;
     "let mut map = sellumaq::JudyL::from([(1, 10), (2, 20)]);", "1", "3", "1", "3"
 );
 
@@ -73,9 +88,9 @@ type SlotSearch =
 
 /// A map whose slots are lent by a way, as that way asks it: to bring its next keys no value beyond them is read, since such a one may be
 /// lent already.
-struct Lending<'a>(&'a JudyL);
+struct Lending<'a, V: Value, K: Key>(&'a JudyL<V, K>);
 
-impl Lending<'_> {
+impl<V: Value, K: Key> Lending<'_, V, K> {
     // The one key that a search finds from one word up to another, where it finds one there. Its value isn't read.
     fn bring_one(
         &self,
@@ -89,14 +104,14 @@ impl Lending<'_> {
     }
 }
 
-impl Walked for Lending<'_> {
+impl<V: Value, K: Key> Walked for Lending<'_, V, K> {
     type Told = sys::sellumaq_pair;
 
     fn walk(&self, from: u64, to: u64, room: &mut Room<sys::sellumaq_pair>) -> usize {
         if let [only] = room {
             return self.bring_one(sys::sellumaq_judyl_first, from, from..=to, only);
         }
-        let count = self.0.count(from..=to).min(room.len());
+        let count = self.0.count_words(from, to).min(room.len());
         self.0.walk(from, to, &mut room[..count])
     }
 
@@ -117,19 +132,35 @@ impl Walked for Lending<'_> {
 struct SlotSteps(Way<sys::sellumaq_pair>);
 
 impl SlotSteps {
-    fn next(&mut self, map: &JudyL) -> Option<(u64, NonNull<u64>)> {
-        let (key, _) = self.0.next(&Lending(map))?;
+    fn next<V: Value, K: Key>(&mut self, map: &JudyL<V, K>) -> Option<(K, NonNull<V>)> {
+        let key = K::of_word(self.0.next(&Lending(map))?.0);
         Some((key, map.find_slot(&key)?))
     }
 
-    fn next_back(&mut self, map: &JudyL) -> Option<(u64, NonNull<u64>)> {
-        let (key, _) = self.0.next_back(&Lending(map))?;
+    fn next_back<V: Value, K: Key>(&mut self, map: &JudyL<V, K>) -> Option<(K, NonNull<V>)> {
+        let key = K::of_word(self.0.next_back(&Lending(map))?.0);
         Some((key, map.find_slot(&key)?))
     }
 }
 
-// What takes the library's pointers.
-impl JudyL {
+// Keys and values as the library knows them, and what takes its pointers.
+impl<V: Value, K: Key> JudyL<V, K> {
+    fn item((word, bits): (u64, u64)) -> (K, V) {
+        (K::of_word(word), V::of_bits(bits))
+    }
+
+    fn told((key, value): (K, V)) -> (u64, u64) {
+        (key.word(), value.bits())
+    }
+
+    fn least(&self, from: u64) -> Option<(u64, u64)> {
+        self.search_entry(sys::sellumaq_judyl_first_entry, from)
+    }
+
+    fn greatest(&self, up_to: u64) -> Option<(u64, u64)> {
+        self.search_entry(sys::sellumaq_judyl_last_entry, up_to)
+    }
+
     fn search_entry(&self, call: EntrySearch, from: u64) -> Option<(u64, u64)> {
         let (handle, mut key, mut value) = (self.handle, 0, 0);
         // SAFETY: the call is one of `sellumaq_sys` for maps of words, which only reads; the handle is this map's, lent for
@@ -137,69 +168,73 @@ impl JudyL {
         unsafe { call(&handle, from, &mut key, &mut value) }.then_some((key, value))
     }
 
-    fn search_slot(&mut self, call: SlotSearch, from: u64) -> Option<OccupiedEntry<'_>> {
+    fn search_slot(&mut self, call: SlotSearch, from: u64) -> Option<OccupiedEntry<'_, V, K>> {
         let (mut key, mut slot) = (0, null_mut());
         // SAFETY: as in `search_entry`.
         let found = unsafe { call(&self.handle, from, &mut key, &mut slot) };
-        let slot = found.then_some(slot).and_then(NonNull::new)?;
+        let slot = found.then_some(slot.cast()).and_then(NonNull::new)?;
         Some(OccupiedEntry {
             map: self,
-            key,
+            key: K::of_word(key),
             slot,
         })
     }
 
     /// The slot of a key. It may be written to where the map is borrowed to be changed.
-    fn find_slot(&self, key: &u64) -> Option<NonNull<u64>> {
+    fn find_slot(&self, key: &K) -> Option<NonNull<V>> {
         let (handle, mut slot) = (self.handle, null_mut());
         // SAFETY: the handle is this map's, lent for this call alone, which only reads.
-        let found = unsafe { sys::sellumaq_judyl_slot(&handle, *key, &mut slot) };
-        found.then_some(slot).and_then(NonNull::new)
+        let found = unsafe { sys::sellumaq_judyl_slot(&handle, key.word(), &mut slot) };
+        found.then_some(slot.cast()).and_then(NonNull::new)
     }
 
-    /// The slot of a key, which is put in where it is absent.
-    fn make_slot(&mut self, key: &u64) -> Result<NonNull<u64>, NoMemory> {
+    /// The slot of a key, which is put in where it is absent. Then the slot is all zeros, which need be no value.
+    fn make_slot(&mut self, key: &K) -> Result<NonNull<V>, NoMemory> {
         let mut slot = null_mut();
         // SAFETY: the handle is this map's, lent for this call alone.
-        let made = unsafe { sys::sellumaq_judyl_ins(&mut self.handle, *key, &mut slot) };
-        made.then_some(slot).and_then(NonNull::new).ok_or(NoMemory)
+        let made = unsafe { sys::sellumaq_judyl_ins(&mut self.handle, key.word(), &mut slot) };
+        let slot = made.then_some(slot.cast()).and_then(NonNull::new);
+        slot.ok_or(NoMemory)
     }
 
-    fn delete(&mut self, key: &u64) {
+    fn delete(&mut self, key: &K) {
         // SAFETY: the handle is this map's, lent for this call alone.
-        unsafe { sys::sellumaq_judyl_del(&mut self.handle, *key) };
+        unsafe { sys::sellumaq_judyl_del(&mut self.handle, key.word()) };
     }
 
-    fn owned(key: &impl Borrow<u64>) -> u64 {
+    fn owned(key: &impl Borrow<K>) -> K {
         *key.borrow()
     }
 }
 
-impl JudyL {
+impl<V: Value, K: Key> JudyL<V, K> {
     /// Gives a key a value, and answers the one it had. It ends the program where there is no memory, as std's maps do.
     ///
     /// ```
     /// let mut map = sellumaq::JudyL::new();
     /// assert_eq!((map.insert(3, 30), map.insert(3, 31)), (None, Some(30)));
     /// ```
-    pub fn insert(&mut self, key: u64, value: u64) -> Option<u64> {
+    pub fn insert(&mut self, key: K, value: V) -> Option<V> {
         self.try_insert(key, value).unwrap_or_else(no_room)
     }
 
-    /// Gives a key a value, and answers the one it had; at the error the map is as it was. A key that is there is never
-    /// refused. It is one way down the map.
+    /// Gives a key a value, and answers the one it had. It is one way down the map.
+    ///
+    /// # Errors
+    ///
+    /// [`NoMemory`] where there is none for a new key, and the map is as it was. A key that is there is never refused.
     ///
     /// ```
     /// let mut map = sellumaq::JudyL::new();
     /// assert_eq!(map.try_insert(3, 30), Ok(None));
     /// ```
-    pub fn try_insert(&mut self, key: u64, value: u64) -> Result<Option<u64>, NoMemory> {
-        let mut was = 0;
+    pub fn try_insert(&mut self, key: K, value: V) -> Result<Option<V>, NoMemory> {
+        let (key, value, mut was) = (key.word(), value.bits(), 0);
         // SAFETY: the handle is this map's, lent for this call alone.
         match unsafe { sys::sellumaq_judyl_insert(&mut self.handle, key, value, &mut was) } {
             sys::SELLUMAQ_NO_MEMORY => Err(NoMemory),
             sys::SELLUMAQ_ADDED => Ok(None),
-            _ => Ok(Some(was)),
+            _ => Ok(Some(V::of_bits(was))),
         }
     }
 
@@ -210,18 +245,22 @@ impl JudyL {
     /// let mut map = sellumaq::JudyL::new();
     /// assert!(map.put(3, 30) && !map.put(3, 31));
     /// ```
-    pub fn put(&mut self, key: u64, value: u64) -> bool {
+    pub fn put(&mut self, key: K, value: V) -> bool {
         self.try_put(key, value).unwrap_or_else(no_room)
     }
 
-    /// Gives a key a value, and answers whether the key is new; at the error the map is as it was. A key that is there is
-    /// never refused.
+    /// Gives a key a value, and answers whether the key is new.
+    ///
+    /// # Errors
+    ///
+    /// As those of [`try_insert`](Self::try_insert).
     ///
     /// ```
     /// let mut map = sellumaq::JudyL::new();
     /// assert_eq!(map.try_put(3, 30), Ok(true));
     /// ```
-    pub fn try_put(&mut self, key: u64, value: u64) -> Result<bool, NoMemory> {
+    pub fn try_put(&mut self, key: K, value: V) -> Result<bool, NoMemory> {
+        let (key, value) = (key.word(), value.bits());
         // SAFETY: the handle is this map's, lent for this call alone.
         match unsafe { sys::sellumaq_judyl_put(&mut self.handle, key, value) } {
             sys::SELLUMAQ_NO_MEMORY => Err(NoMemory),
@@ -229,17 +268,25 @@ impl JudyL {
         }
     }
 
-    /// The value of a key, to read and to change; the key is put in with the value 0 where it is absent. By this an absent key takes a
-    /// way down the map less than by [`entry`](Self::entry), and one that is there a way more.
+    /// The value of a key, to read and to change; the key is put in with the default value where it is absent. By this an absent
+    /// key takes a way down the map less than by [`entry`](Self::entry), and one that is there a way more.
+    ///
+    /// # Errors
+    ///
+    /// As those of [`try_insert`](Self::try_insert).
     ///
     /// ```
     /// let mut map = sellumaq::JudyL::new();
     /// *map.slot(3).unwrap() += 1;
     /// assert_eq!(map.get(3), Some(1));
     /// ```
-    pub fn slot(&mut self, key: u64) -> Result<&mut u64, NoMemory> {
+    pub fn slot(&mut self, key: K) -> Result<&mut V, NoMemory>
+    where
+        V: ZeroValue,
+    {
         let slot = self.make_slot(&key)?;
-        // SAFETY: a slot lives until the map is changed, which stays borrowed as long as the reference.
+        // SAFETY: a slot lives until the map is changed, which stays borrowed as long as the reference. It holds a value, also where it is all
+        // zeros.
         Ok(unsafe { &mut *slot.as_ptr() })
     }
 
@@ -249,10 +296,11 @@ impl JudyL {
     /// let map = sellumaq::JudyL::from([(3, 30)]);
     /// assert_eq!((map.get(3), map.get(&4)), (Some(30), None));
     /// ```
-    pub fn get(&self, key: impl Borrow<u64>) -> Option<u64> {
-        let (handle, mut value) = (self.handle, 0);
+    pub fn get(&self, key: impl Borrow<K>) -> Option<V> {
+        let (handle, key, mut value) = (self.handle, key.borrow().word(), 0);
         // SAFETY: the handle is this map's, lent for this call alone, which only reads; the word is this function's.
-        unsafe { sys::sellumaq_judyl_get(&handle, *key.borrow(), &mut value) }.then_some(value)
+        let found = unsafe { sys::sellumaq_judyl_get(&handle, key, &mut value) };
+        found.then(|| V::of_bits(value))
     }
 
     /// Looks up many keys, as many as both slices have, and writes the value of each to its place; `None` where a key is absent. Up to
@@ -265,23 +313,26 @@ impl JudyL {
     /// map.get_many(&[5, 4, 3], &mut values);
     /// assert_eq!(values, [Some(50), None, Some(30)]);
     /// ```
-    pub fn get_many(&self, keys: &[u64], values: &mut [Option<u64>]) {
-        let handle = self.handle;
+    pub fn get_many(&self, keys: &[K], values: &mut [Option<V>]) {
+        let (handle, mut words) = (self.handle, [0; GROUP]);
         let mut found = [sys::sellumaq_found { value: 0, there: 0 }; GROUP];
         for (keys, values) in keys.chunks(GROUP).zip(values.chunks_mut(GROUP)) {
-            // SAFETY: the handle is this map's, lent for this call alone, which only reads; as many keys are there as are told, and there
+            for (word, key) in words.iter_mut().zip(keys) {
+                *word = key.word();
+            }
+            // SAFETY: the handle is this map's, lent for this call alone, which only reads; as many words are there as are told, and there
             // is room for as many answers.
             let told = unsafe {
                 sys::sellumaq_judyl_get_many(
                     &handle,
-                    keys.as_ptr(),
+                    words.as_ptr(),
                     keys.len(),
                     found.as_mut_ptr(),
                     GROUP,
                 )
             };
             for (value, told) in values.iter_mut().zip(&found[..told]) {
-                *value = (told.there == 1).then_some(told.value);
+                *value = (told.there == 1).then(|| V::of_bits(told.value));
             }
         }
     }
@@ -293,10 +344,11 @@ impl JudyL {
     /// *map.get_mut(3).unwrap() += 1;
     /// assert_eq!(map[3], 31);
     /// ```
-    pub fn get_mut(&mut self, key: impl Borrow<u64>) -> Option<&mut u64> {
-        // SAFETY: as in `slot`.
-        self.find_slot(key.borrow())
-            .map(|slot| unsafe { &mut *slot.as_ptr() })
+    pub fn get_mut(&mut self, key: impl Borrow<K>) -> Option<&mut V> {
+        let slot = self.find_slot(key.borrow())?;
+        // SAFETY: a slot lives until the map is changed, which stays borrowed as long as the reference. That of a key that is there holds a
+        // value.
+        Some(unsafe { &mut *slot.as_ptr() })
     }
 
     /// Whether a key is there.
@@ -305,7 +357,7 @@ impl JudyL {
     /// let map = sellumaq::JudyL::from([(3, 30)]);
     /// assert!(map.contains_key(3) && !map.contains_key(&4));
     /// ```
-    pub fn contains_key(&self, key: impl Borrow<u64>) -> bool {
+    pub fn contains_key(&self, key: impl Borrow<K>) -> bool {
         self.get(key).is_some()
     }
 
@@ -315,32 +367,33 @@ impl JudyL {
     /// let mut map = sellumaq::JudyL::from([(3, 30)]);
     /// assert_eq!((map.remove(3), map.remove(&3)), (Some(30), None));
     /// ```
-    pub fn remove(&mut self, key: impl Borrow<u64>) -> Option<u64> {
-        let mut was = 0;
+    pub fn remove(&mut self, key: impl Borrow<K>) -> Option<V> {
+        let (key, mut was) = (key.borrow().word(), 0);
         // SAFETY: the handle is this map's, lent for this call alone.
-        let found =
-            unsafe { sys::sellumaq_judyl_remove(&mut self.handle, *key.borrow(), &mut was) };
-        found.then_some(was)
+        let found = unsafe { sys::sellumaq_judyl_remove(&mut self.handle, key, &mut was) };
+        found.then(|| V::of_bits(was))
     }
 
-    /// The pair of the least key from a word on.
+    /// The pair of the least key from a number on.
     ///
     /// ```
     /// let map = sellumaq::JudyL::from([(3, 30), (7, 70)]);
     /// assert_eq!((map.at_or_after(4), map.at_or_after(8)), (Some((7, 70)), None));
     /// ```
-    pub fn at_or_after(&self, from: u64) -> Option<(u64, u64)> {
-        self.search_entry(sys::sellumaq_judyl_first_entry, from)
+    #[must_use]
+    pub fn at_or_after(&self, from: K) -> Option<(K, V)> {
+        self.least(from.word()).map(Self::item)
     }
 
-    /// The pair of the greatest key up to a word.
+    /// The pair of the greatest key up to a number.
     ///
     /// ```
     /// let map = sellumaq::JudyL::from([(3, 30), (7, 70)]);
     /// assert_eq!((map.at_or_before(6), map.at_or_before(2)), (Some((3, 30)), None));
     /// ```
-    pub fn at_or_before(&self, from: u64) -> Option<(u64, u64)> {
-        self.search_entry(sys::sellumaq_judyl_last_entry, from)
+    #[must_use]
+    pub fn at_or_before(&self, from: K) -> Option<(K, V)> {
+        self.greatest(from.word()).map(Self::item)
     }
 
     /// The pair of the n-th key in ascending order, counted from 0. No way through the keys before it is made.
@@ -349,11 +402,11 @@ impl JudyL {
     /// let map = sellumaq::JudyL::from([(3, 30), (7, 70)]);
     /// assert_eq!((map.nth(1), map.nth(2)), (Some((7, 70)), None));
     /// ```
-    pub fn nth(&self, n: usize) -> Option<(u64, u64)> {
-        self.search_entry(
-            sys::sellumaq_judyl_by_count_entry,
-            (n as u64).checked_add(1)?,
-        )
+    #[must_use]
+    pub fn nth(&self, n: usize) -> Option<(K, V)> {
+        let place = (n as u64).checked_add(1)?;
+        let found = self.search_entry(sys::sellumaq_judyl_by_count_entry, place);
+        found.map(Self::item)
     }
 
     /// The pair of the least key.
@@ -361,8 +414,9 @@ impl JudyL {
     /// ```
     /// assert_eq!(sellumaq::JudyL::from([(3, 30), (7, 70)]).first_key_value(), Some((3, 30)));
     /// ```
-    pub fn first_key_value(&self) -> Option<(u64, u64)> {
-        self.at_or_after(0)
+    #[must_use]
+    pub fn first_key_value(&self) -> Option<(K, V)> {
+        self.least(0).map(Self::item)
     }
 
     /// The pair of the greatest key.
@@ -370,8 +424,9 @@ impl JudyL {
     /// ```
     /// assert_eq!(sellumaq::JudyL::from([(3, 30), (7, 70)]).last_key_value(), Some((7, 70)));
     /// ```
-    pub fn last_key_value(&self) -> Option<(u64, u64)> {
-        self.at_or_before(u64::MAX)
+    #[must_use]
+    pub fn last_key_value(&self) -> Option<(K, V)> {
+        self.greatest(u64::MAX).map(Self::item)
     }
 
     /// The entry of the least key.
@@ -380,7 +435,7 @@ impl JudyL {
     /// let mut map = sellumaq::JudyL::from([(3, 30), (7, 70)]);
     /// assert_eq!(map.first_entry().unwrap().remove_entry(), (3, 30));
     /// ```
-    pub fn first_entry(&mut self) -> Option<OccupiedEntry<'_>> {
+    pub fn first_entry(&mut self) -> Option<OccupiedEntry<'_, V, K>> {
         self.search_slot(sys::sellumaq_judyl_first_slot, 0)
     }
 
@@ -390,7 +445,7 @@ impl JudyL {
     /// let mut map = sellumaq::JudyL::from([(3, 30), (7, 70)]);
     /// assert_eq!(map.last_entry().unwrap().insert(71), 70);
     /// ```
-    pub fn last_entry(&mut self) -> Option<OccupiedEntry<'_>> {
+    pub fn last_entry(&mut self) -> Option<OccupiedEntry<'_, V, K>> {
         self.search_slot(sys::sellumaq_judyl_last_slot, u64::MAX)
     }
 
@@ -401,7 +456,7 @@ impl JudyL {
     /// map.range_mut(5..).for_each(|(_, value)| *value += 1);
     /// assert!(map.values().eq([30, 71]));
     /// ```
-    pub fn range_mut(&mut self, range: impl RangeBounds<u64>) -> RangeMut<'_> {
+    pub fn range_mut(&mut self, range: impl RangeBounds<K>) -> RangeMut<'_, V, K> {
         RangeMut::of(self, SlotSteps(Way::of(Span::of(range))))
     }
 
@@ -416,10 +471,11 @@ impl JudyL {
     /// });
     /// assert!(map.iter().eq([(0, 0), (5, 10)]));
     /// ```
-    pub fn retain(&mut self, mut keep: impl FnMut(&u64, &mut u64) -> bool) {
+    pub fn retain(&mut self, mut keep: impl FnMut(&K, &mut V) -> bool) {
         // what was brought beyond a key is there still when the key was taken out
-        let mut way = Way::of(Span::of(..));
+        let mut way = Way::of(Span::ALL);
         while let Some((key, _)) = way.next(self) {
+            let key = K::of_word(key);
             let kept = self.get_mut(key).map(|value| keep(&key, value));
             if kept == Some(false) {
                 self.delete(&key);
@@ -429,33 +485,33 @@ impl JudyL {
 }
 
 /// Where the key is absent it panics, as std's maps do.
-impl<K: Borrow<u64>> Index<K> for JudyL {
-    type Output = u64;
+impl<V: Value, K: Key, Q: Borrow<K>> Index<Q> for JudyL<V, K> {
+    type Output = V;
 
-    fn index(&self, key: K) -> &u64 {
+    fn index(&self, key: Q) -> &V {
         let slot = self
             .find_slot(key.borrow())
             .expect("no entry found for key");
-        // SAFETY: a slot lives until the map is changed, which stays borrowed as long as the reference.
+        // SAFETY: as in `get_mut`.
         unsafe { &*slot.as_ptr() }
     }
 }
 
-impl Extend<(u64, u64)> for JudyL {
-    fn extend<I: IntoIterator<Item = (u64, u64)>>(&mut self, pairs: I) {
+impl<V: Value, K: Key> Extend<(K, V)> for JudyL<V, K> {
+    fn extend<I: IntoIterator<Item = (K, V)>>(&mut self, pairs: I) {
         for (key, value) in pairs {
             self.put(key, value);
         }
     }
 }
 
-impl<'a> Extend<(&'a u64, &'a u64)> for JudyL {
-    fn extend<I: IntoIterator<Item = (&'a u64, &'a u64)>>(&mut self, pairs: I) {
+impl<'a, V: Value, K: Key> Extend<(&'a K, &'a V)> for JudyL<V, K> {
+    fn extend<I: IntoIterator<Item = (&'a K, &'a V)>>(&mut self, pairs: I) {
         self.extend(pairs.into_iter().map(|(key, value)| (*key, *value)));
     }
 }
 
-impl fmt::Debug for JudyL {
+impl<V: Value, K: Key> fmt::Debug for JudyL<V, K> {
     fn fmt(&self, to: &mut fmt::Formatter<'_>) -> fmt::Result {
         to.debug_map().entries(self).finish()
     }

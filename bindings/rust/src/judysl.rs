@@ -5,6 +5,7 @@ use crate::entry::entries;
 use crate::keyed::{keyed_map, InsertError, MAX_KEY};
 use crate::ordered::ordered_map;
 use crate::slots::slot_walks;
+use crate::types::{Value, ZeroValue};
 use crate::walk::walks;
 use sellumaq_sys as sys;
 use std::cmp::Ordering;
@@ -22,15 +23,16 @@ use way::{SlotSteps, Steps, Way};
 pub use crate::edge::StringRange;
 
 array!(
-    /// An ordered map from strings to words. A key is a string of at most [`MAX_KEY`](crate::MAX_KEY) bytes, none of them
-    /// zero; keys are ordered by their bytes, as text in UTF-8 is by its characters.
+    /// An ordered map from strings to words, or to other values that fit one, as those of a `JudySl<char>` are. A key is a
+    /// string of at most [`MAX_KEY`] bytes, none of them zero; keys are ordered by their bytes, as text in UTF-8 is by its
+    /// characters.
     ///
     /// ```
     /// let ages = sellumaq::JudySl::from([("Ada", 36), ("Alan", 41), ("Grace", 85)]);
     /// assert_eq!(ages["Alan"], 41);
     /// assert_eq!(ages.range("B"..).next(), Some((b"Grace".to_vec(), 85)));
     /// ```
-    JudySl over sellumaq_judysl, sellumaq_judysl_len, sellumaq_judysl_free;
+    JudySl<V: Value = u64> over sellumaq_judysl, sellumaq_judysl_len, sellumaq_judysl_free;
     "let array = sellumaq::JudySl::from([(\"a\", 10), (\"b\", 20), (\"c\", 30)]);"
 );
 
@@ -39,21 +41,32 @@ keyed_map!(
     "let mut map = sellumaq::JudySl::from([(\"a\", 10)]);"
 );
 
-walks!(JudySl through Way; (Vec<u8>, u64));
+walks!(
+    JudySl<V: Value = u64> through Way; (Vec<u8>, V);
+    "let array = sellumaq::JudySl::from([(\"a\", 10), (\"b\", 20), (\"c\", 30)]);"
+);
 
-slot_walks!(JudySl through SlotSteps; Vec<u8>);
+slot_walks!(
+    JudySl<V: Value = u64> through SlotSteps; Vec<u8>;
+    "let mut map = sellumaq::JudySl::from([(\"a\", 10), (\"b\", 20)]);"
+);
 
 ordered_map!(
-    JudySl; Vec<u8>, AsRef<[u8]>;
+    JudySl<V: Value = u64>; Vec<u8>, AsRef<[u8]>;
     "let mut map = sellumaq::JudySl::from([(\"a\", 10), (\"b\", 20)]);", "\"a\"", "b\"a\".to_vec()", "b\"b\".to_vec()"
 );
 
 entries!(
-    JudySl, judysl, InsertError, InsertError::end; [K: AsRef<[u8]>]; K, K::as_ref => &[u8];
+    JudySl<V: Value> with [K: AsRef<[u8]>], Entry<K: AsRef<[u8]>, V: Value = u64>;
+    judysl, InsertError, InsertError::end; K, K::as_ref => &[u8];
     "let mut map = sellumaq::JudySl::from([(\"a\", 10), (\"b\", 20)]);", "\"a\"", "\"c\"", "b\"a\"", "b\"c\""
 );
 
-impl JudySl {
+impl<V: Value> JudySl<V> {
+    fn item((key, bits): (Vec<u8>, u64)) -> (Vec<u8>, V) {
+        (key, V::of_bits(bits))
+    }
+
     fn owned(key: &impl AsRef<[u8]>) -> Vec<u8> {
         key.as_ref().to_vec()
     }
@@ -64,8 +77,9 @@ impl JudySl {
     /// let map = sellumaq::JudySl::from([("a", 10), ("b", 20)]);
     /// assert_eq!(map.first_key_value(), Some((b"a".to_vec(), 10)));
     /// ```
-    pub fn first_key_value(&self) -> Option<(Vec<u8>, u64)> {
-        Steps::of(&(..)).next(self)
+    #[must_use]
+    pub fn first_key_value(&self) -> Option<(Vec<u8>, V)> {
+        Steps::of(&(..)).next(self).map(Self::item)
     }
 
     /// The pair of the greatest key.
@@ -74,8 +88,9 @@ impl JudySl {
     /// let map = sellumaq::JudySl::from([("a", 10), ("b", 20)]);
     /// assert_eq!(map.last_key_value(), Some((b"b".to_vec(), 20)));
     /// ```
-    pub fn last_key_value(&self) -> Option<(Vec<u8>, u64)> {
-        Steps::of(&(..)).next_back(self)
+    #[must_use]
+    pub fn last_key_value(&self) -> Option<(Vec<u8>, V)> {
+        Steps::of(&(..)).next_back(self).map(Self::item)
     }
 
     /// The entry of the least key.
@@ -84,7 +99,7 @@ impl JudySl {
     /// let mut map = sellumaq::JudySl::from([("a", 10), ("b", 20)]);
     /// assert_eq!(map.first_entry().unwrap().remove(), 10);
     /// ```
-    pub fn first_entry(&mut self) -> Option<OccupiedEntry<'_, Vec<u8>>> {
+    pub fn first_entry(&mut self) -> Option<OccupiedEntry<'_, Vec<u8>, V>> {
         let (key, slot) = Steps::of(&(..)).next_slot(self)?;
         Some(OccupiedEntry {
             map: self,
@@ -99,7 +114,7 @@ impl JudySl {
     /// let mut map = sellumaq::JudySl::from([("a", 10), ("b", 20)]);
     /// assert_eq!(map.last_entry().unwrap().insert(21), 20);
     /// ```
-    pub fn last_entry(&mut self) -> Option<OccupiedEntry<'_, Vec<u8>>> {
+    pub fn last_entry(&mut self) -> Option<OccupiedEntry<'_, Vec<u8>, V>> {
         let (key, slot) = Steps::of(&(..)).next_back_slot(self)?;
         Some(OccupiedEntry {
             map: self,
@@ -114,8 +129,10 @@ impl JudySl {
     /// let map = sellumaq::JudySl::from([("a", 10), ("b", 20)]);
     /// assert_eq!(map.at_or_after("aa"), Some((b"b".to_vec(), 20)));
     /// ```
-    pub fn at_or_after(&self, from: impl AsRef<[u8]>) -> Option<(Vec<u8>, u64)> {
-        Steps::of(&(Bound::Included(from.as_ref()), Bound::Unbounded)).next(self)
+    #[must_use]
+    pub fn at_or_after(&self, from: impl AsRef<[u8]>) -> Option<(Vec<u8>, V)> {
+        let mut steps = Steps::of(&(Bound::Included(from.as_ref()), Bound::Unbounded));
+        steps.next(self).map(Self::item)
     }
 
     /// The pair of the greatest key up to a string, which may be any.
@@ -124,8 +141,10 @@ impl JudySl {
     /// let map = sellumaq::JudySl::from([("a", 10), ("b", 20)]);
     /// assert_eq!(map.at_or_before("aa"), Some((b"a".to_vec(), 10)));
     /// ```
-    pub fn at_or_before(&self, from: impl AsRef<[u8]>) -> Option<(Vec<u8>, u64)> {
-        Steps::of(&(Bound::Unbounded, Bound::Included(from.as_ref()))).next_back(self)
+    #[must_use]
+    pub fn at_or_before(&self, from: impl AsRef<[u8]>) -> Option<(Vec<u8>, V)> {
+        let mut steps = Steps::of(&(Bound::Unbounded, Bound::Included(from.as_ref())));
+        steps.next_back(self).map(Self::item)
     }
 
     /// The pairs by ascending key.
@@ -134,7 +153,7 @@ impl JudySl {
     /// let map = sellumaq::JudySl::from([("b", 20), ("a", 10)]);
     /// assert!(map.iter().eq([(b"a".to_vec(), 10), (b"b".to_vec(), 20)]));
     /// ```
-    pub fn iter(&self) -> Iter<'_> {
+    pub fn iter(&self) -> Iter<'_, V> {
         Iter {
             range: self.range(..),
             left: self.len(),
@@ -149,7 +168,7 @@ impl JudySl {
     /// assert_eq!(map.range("aa"..="b").next(), Some((b"b".to_vec(), 20)));
     /// assert_eq!(map.range(.."b").count(), 1);
     /// ```
-    pub fn range(&self, range: impl StringRange) -> Range<'_> {
+    pub fn range(&self, range: impl StringRange) -> Range<'_, V> {
         Range {
             array: self,
             way: Way::of(&range),
@@ -163,7 +182,7 @@ impl JudySl {
     /// map.range_mut("b"..).for_each(|(_, value)| *value += 1);
     /// assert_eq!(map["b"], 21);
     /// ```
-    pub fn range_mut(&mut self, range: impl StringRange) -> RangeMut<'_> {
+    pub fn range_mut(&mut self, range: impl StringRange) -> RangeMut<'_, V> {
         let way = SlotSteps::of(self, &range);
         RangeMut::of(self, way)
     }
@@ -183,6 +202,7 @@ impl JudySl {
     /// let map = sellumaq::JudySl::from([("a", 10), ("b", 20), ("c", 30)]);
     /// assert_eq!((map.count("b"..), map.count("a".."b"), map.count("c".."a")), (2, 1, 0));
     /// ```
+    #[must_use]
     pub fn count(&self, range: impl StringRange) -> usize {
         self.count_within(&range)
     }
@@ -200,6 +220,7 @@ impl JudySl {
     /// let map = sellumaq::JudySl::from([("a", 10), ("b", 20)]);
     /// assert_eq!((map.rank("b"), map.rank("bb")), (1, 2));
     /// ```
+    #[must_use]
     pub fn rank(&self, string: impl AsRef<[u8]>) -> usize {
         self.count_up_to(&Edge::upper(Bound::Excluded(string.as_ref())))
     }
@@ -210,7 +231,8 @@ impl JudySl {
     /// let map = sellumaq::JudySl::from([("a", 10), ("b", 20)]);
     /// assert_eq!((map.nth(1), map.nth(2)), (Some((b"b".to_vec(), 20)), None));
     /// ```
-    pub fn nth(&self, n: usize) -> Option<(Vec<u8>, u64)> {
+    #[must_use]
+    pub fn nth(&self, n: usize) -> Option<(Vec<u8>, V)> {
         let place = (n as u64).checked_add(1)?;
         let (handle, mut key, mut length, mut value) = (self.handle, [0; MAX_KEY], 0, 0);
         let buffer = key.as_mut_ptr();
@@ -219,7 +241,7 @@ impl JudySl {
         let told = unsafe {
             sys::sellumaq_judysl_by_count(&handle, place, buffer, MAX_KEY, &mut length, &mut value)
         };
-        (told == sys::SELLUMAQ_FOUND).then(|| (key[..length].to_vec(), value))
+        (told == sys::SELLUMAQ_FOUND).then(|| (key[..length].to_vec(), V::of_bits(value)))
     }
 
     /// Takes out each key that isn't to be kept, by ascending key; `keep` may change the values. Where it panics, the keys
@@ -230,7 +252,7 @@ impl JudySl {
     /// map.retain(|key, _| key > &b"a"[..]);
     /// assert_eq!((map.len(), map["b"]), (1, 20));
     /// ```
-    pub fn retain(&mut self, mut keep: impl FnMut(&[u8], &mut u64) -> bool) {
+    pub fn retain(&mut self, mut keep: impl FnMut(&[u8], &mut V) -> bool) {
         // what was brought beyond a key is there still when the key was taken out
         let mut way = Way::of(&(..));
         while let Some((key, _)) = way.next_entry(self) {
@@ -255,7 +277,7 @@ impl JudySl {
         }
         let mut entries = take(other).into_iter();
         while let Some((key, value)) = entries.way.next_entry(&entries.array) {
-            self.insert(key, value);
+            self.insert(key, V::of_bits(value));
         }
     }
 
@@ -269,24 +291,25 @@ impl JudySl {
     pub fn split_off(&mut self, key: impl AsRef<[u8]>) -> Self {
         // as in `retain`
         let mut way = Way::of(&(Bound::Included(key.as_ref()), Bound::Unbounded));
-        let mut upper = JudySl::new();
+        let mut upper = Self::empty();
         while let Some((key, value)) = way.next_entry(self) {
-            upper.insert(key, value);
+            upper.insert(key, V::of_bits(value));
             self.delete(key);
         }
         upper
     }
 }
 
-impl Range<'_> {
+impl<V: Value> Range<'_, V> {
     /// The next pair, its key lent until the next call. No memory is asked for, as it is for the keys that `next` gives away.
     ///
     /// ```
     /// let map = sellumaq::JudySl::from([("a", 10)]);
     /// assert_eq!(map.range("a"..).next_entry(), Some((&b"a"[..], 10)));
     /// ```
-    pub fn next_entry(&mut self) -> Option<(&[u8], u64)> {
-        self.way.next_entry(self.array)
+    pub fn next_entry(&mut self) -> Option<(&[u8], V)> {
+        let (key, value) = self.way.next_entry(self.array)?;
+        Some((key, V::of_bits(value)))
     }
 
     /// The same from the upper end.
@@ -295,19 +318,20 @@ impl Range<'_> {
     /// let map = sellumaq::JudySl::from([("a", 10)]);
     /// assert_eq!(map.range("a"..).next_back_entry(), Some((&b"a"[..], 10)));
     /// ```
-    pub fn next_back_entry(&mut self) -> Option<(&[u8], u64)> {
-        self.way.next_back_entry(self.array)
+    pub fn next_back_entry(&mut self) -> Option<(&[u8], V)> {
+        let (key, value) = self.way.next_back_entry(self.array)?;
+        Some((key, V::of_bits(value)))
     }
 }
 
-impl Iter<'_> {
+impl<V: Value> Iter<'_, V> {
     /// The next pair, its key lent until the next call. No memory is asked for, as it is for the keys that `next` gives away.
     ///
     /// ```
     /// let map = sellumaq::JudySl::from([("a", 10)]);
     /// assert_eq!(map.iter().next_entry(), Some((&b"a"[..], 10)));
     /// ```
-    pub fn next_entry(&mut self) -> Option<(&[u8], u64)> {
+    pub fn next_entry(&mut self) -> Option<(&[u8], V)> {
         self.left = self.left.checked_sub(1)?;
         self.range.next_entry()
     }
@@ -318,15 +342,15 @@ impl Iter<'_> {
     /// let map = sellumaq::JudySl::from([("a", 10)]);
     /// assert_eq!(map.iter().next_back_entry(), Some((&b"a"[..], 10)));
     /// ```
-    pub fn next_back_entry(&mut self) -> Option<(&[u8], u64)> {
+    pub fn next_back_entry(&mut self) -> Option<(&[u8], V)> {
         self.left = self.left.checked_sub(1)?;
         self.range.next_back_entry()
     }
 }
 
-impl Clone for JudySl {
+impl<V: Value> Clone for JudySl<V> {
     fn clone(&self) -> Self {
-        let (mut copy, mut entries) = (JudySl::new(), self.iter());
+        let (mut copy, mut entries) = (Self::empty(), self.iter());
         while let Some((key, value)) = entries.next_entry() {
             copy.insert(key, value);
         }
@@ -334,21 +358,21 @@ impl Clone for JudySl {
     }
 }
 
-impl PartialEq for JudySl {
+impl<V: Value> PartialEq for JudySl<V> {
     fn eq(&self, other: &Self) -> bool {
         self.len() == other.len() && self.cmp(other) == Ordering::Equal
     }
 }
 
-impl Eq for JudySl {}
+impl<V: Value> Eq for JudySl<V> {}
 
-impl PartialOrd for JudySl {
+impl<V: Value> PartialOrd for JudySl<V> {
     fn partial_cmp(&self, other: &Self) -> Option<Ordering> {
         Some(self.cmp(other))
     }
 }
 
-impl Ord for JudySl {
+impl<V: Value> Ord for JudySl<V> {
     fn cmp(&self, other: &Self) -> Ordering {
         let (mut mine, mut others) = (self.iter(), other.iter());
         loop {
@@ -361,7 +385,7 @@ impl Ord for JudySl {
     }
 }
 
-impl Hash for JudySl {
+impl<V: Value> Hash for JudySl<V> {
     fn hash<H: Hasher>(&self, to: &mut H) {
         to.write_usize(self.len());
         let mut entries = self.iter();
@@ -372,7 +396,7 @@ impl Hash for JudySl {
 }
 
 /// Shows the keys as text, bytes that are no ASCII text as `\x` and two digits.
-impl fmt::Debug for JudySl {
+impl<V: Value> fmt::Debug for JudySl<V> {
     fn fmt(&self, to: &mut fmt::Formatter<'_>) -> fmt::Result {
         let (mut shown, mut entries) = (to.debug_map(), self.iter());
         while let Some((key, value)) = entries.next_entry() {

@@ -58,26 +58,26 @@ impl fmt::Display for InsertError {
 
 impl std::error::Error for InsertError {}
 
-/// Writes the calls of a `$map` that need no order of its keys, over the calls of C named. `$sample` is a line of an example
-/// that makes `map` with the key `"a"` of the value 10.
+/// Writes the calls of a `$map` with values of the type `V` that need no order of its keys, over the calls of C named. `$sample`
+/// is a line of an example that makes `map` with the key `"a"` of the value 10.
 macro_rules! keyed_map {
     ($map:ident; $ins:ident, $insert:ident, $get:ident, $slot:ident, $del:ident, $remove:ident; $sample:literal) => {
         // What takes the library's pointers.
-        impl $map {
+        impl<V: Value> $map<V> {
             /// The slot of a key. It may be written to where the map is borrowed to be changed.
-            fn find_slot(&self, key: &[u8]) -> Option<NonNull<u64>> {
+            fn find_slot(&self, key: &[u8]) -> Option<NonNull<V>> {
                 let (handle, mut slot) = (self.handle, null_mut());
                 // SAFETY: the handle is this map's, lent for this call alone, which only reads; the key is a slice's.
                 let found = unsafe { sys::$slot(&handle, key.as_ptr(), key.len(), &mut slot) };
-                found.then_some(slot).and_then(NonNull::new)
+                found.then_some(slot.cast()).and_then(NonNull::new)
             }
 
-            /// The slot of a key, which is put in where it is absent.
-            fn make_slot(&mut self, key: &[u8]) -> Result<NonNull<u64>, InsertError> {
+            /// The slot of a key, which is put in where it is absent. Then the slot is all zeros, which need be no value.
+            fn make_slot(&mut self, key: &[u8]) -> Result<NonNull<V>, InsertError> {
                 let mut slot = null_mut();
                 // SAFETY: the handle is this map's, lent for this call alone; the key is a slice's.
                 match unsafe { sys::$ins(&mut self.handle, key.as_ptr(), key.len(), &mut slot) } {
-                    sys::SELLUMAQ_FOUND => NonNull::new(slot).ok_or(InsertError::NoMemory),
+                    sys::SELLUMAQ_FOUND => NonNull::new(slot.cast()).ok_or(InsertError::NoMemory),
                     told => Err(InsertError::of(told)),
                 }
             }
@@ -88,21 +88,26 @@ macro_rules! keyed_map {
             }
         }
 
-        impl $map {
-            /// Gives a key a value, and answers the one it had.
+        impl<V: Value> $map<V> {
+            /// Gives a key a value, and answers the one it had. It ends the program where there is no memory, as std's maps do.
             ///
-            /// It panics where [`try_insert`](Self::try_insert) answers that the key is none or the map full, and ends the
-            /// program where there is no memory, as std's maps do.
+            /// # Panics
+            ///
+            /// Where the bytes are no key, or the map is full.
             ///
             /// ```
             #[doc = $sample]
             /// assert_eq!((map.insert("a", 11), map.insert("b", 20)), (Some(10), None));
             /// ```
-            pub fn insert(&mut self, key: impl AsRef<[u8]>, value: u64) -> Option<u64> {
+            pub fn insert(&mut self, key: impl AsRef<[u8]>, value: V) -> Option<V> {
                 self.try_insert(key, value).unwrap_or_else(InsertError::end)
             }
 
-            /// Gives a key a value, and answers the one it had; at an error the map is as it was. A key that is there is
+            /// Gives a key a value, and answers the one it had.
+            ///
+            /// # Errors
+            ///
+            /// [`InsertError`](crate::InsertError) tells why the key can't be put in, and the map is as it was. A key that is there is
             /// never refused.
             ///
             /// ```
@@ -112,28 +117,37 @@ macro_rules! keyed_map {
             pub fn try_insert(
                 &mut self,
                 key: impl AsRef<[u8]>,
-                value: u64,
-            ) -> Result<Option<u64>, InsertError> {
+                value: V,
+            ) -> Result<Option<V>, InsertError> {
                 let (handle, key, mut had) = (&mut self.handle, key.as_ref(), 0);
+                let value = value.bits();
                 // SAFETY: the handle is this map's, lent for this call alone; the key is a slice's.
                 match unsafe { sys::$insert(handle, key.as_ptr(), key.len(), value, &mut had) } {
-                    sys::SELLUMAQ_PRESENT => Ok(Some(had)),
+                    sys::SELLUMAQ_PRESENT => Ok(Some(V::of_bits(had))),
                     sys::SELLUMAQ_ADDED => Ok(None),
                     told => Err(InsertError::of(told)),
                 }
             }
 
-            /// The value of a key, to read and to change; the key is put in with the value 0 where it is absent. By this an
+            /// The value of a key, to read and to change; the key is put in with the default value where it is absent. By this an
             /// absent key takes a way down the map less than by [`entry`](Self::entry).
+            ///
+            /// # Errors
+            ///
+            /// As those of [`try_insert`](Self::try_insert).
             ///
             /// ```
             #[doc = $sample]
             /// *map.slot("a").unwrap() += 1;
             /// assert_eq!(map["a"], 11);
             /// ```
-            pub fn slot(&mut self, key: impl AsRef<[u8]>) -> Result<&mut u64, InsertError> {
+            pub fn slot(&mut self, key: impl AsRef<[u8]>) -> Result<&mut V, InsertError>
+            where
+                V: ZeroValue,
+            {
                 let slot = self.make_slot(key.as_ref())?;
-                // SAFETY: a slot lives until the map is changed, which stays borrowed as long as the reference.
+                // SAFETY: a slot lives until the map is changed, which stays borrowed as long as the reference. It holds a value, also where it
+                // is all zeros.
                 Ok(unsafe { &mut *slot.as_ptr() })
             }
 
@@ -143,10 +157,11 @@ macro_rules! keyed_map {
             #[doc = $sample]
             /// assert_eq!((map.get("a"), map.get(b"b")), (Some(10), None));
             /// ```
-            pub fn get(&self, key: impl AsRef<[u8]>) -> Option<u64> {
+            pub fn get(&self, key: impl AsRef<[u8]>) -> Option<V> {
                 let (handle, key, mut value) = (self.handle, key.as_ref(), 0);
                 // SAFETY: the handle is this map's, lent for this call alone, which only reads; the key is a slice's.
-                unsafe { sys::$get(&handle, key.as_ptr(), key.len(), &mut value) }.then_some(value)
+                let found = unsafe { sys::$get(&handle, key.as_ptr(), key.len(), &mut value) };
+                found.then(|| V::of_bits(value))
             }
 
             /// The value of a key, to change.
@@ -156,9 +171,10 @@ macro_rules! keyed_map {
             /// *map.get_mut("a").unwrap() += 1;
             /// assert_eq!(map["a"], 11);
             /// ```
-            pub fn get_mut(&mut self, key: impl AsRef<[u8]>) -> Option<&mut u64> {
+            pub fn get_mut(&mut self, key: impl AsRef<[u8]>) -> Option<&mut V> {
                 let slot = self.find_slot(key.as_ref())?;
-                // SAFETY: as in `slot`.
+                // SAFETY: a slot lives until the map is changed, which stays borrowed as long as the reference. That of a key that is there
+                // holds a value.
                 Some(unsafe { &mut *slot.as_ptr() })
             }
 
@@ -178,43 +194,44 @@ macro_rules! keyed_map {
             #[doc = $sample]
             /// assert_eq!((map.remove("a"), map.remove("a")), (Some(10), None));
             /// ```
-            pub fn remove(&mut self, key: impl AsRef<[u8]>) -> Option<u64> {
+            pub fn remove(&mut self, key: impl AsRef<[u8]>) -> Option<V> {
                 let (handle, key, mut had) = (&mut self.handle, key.as_ref(), 0);
                 // SAFETY: the handle is this map's, lent for this call alone; the key is a slice's.
                 let found = unsafe { sys::$remove(handle, key.as_ptr(), key.len(), &mut had) };
-                found.then_some(had)
+                found.then(|| V::of_bits(had))
             }
         }
 
         /// Where the key is absent it panics, as std's maps do.
-        impl<K: AsRef<[u8]>> Index<K> for $map {
-            type Output = u64;
+        impl<V: Value, K: AsRef<[u8]>> Index<K> for $map<V> {
+            type Output = V;
 
-            fn index(&self, key: K) -> &u64 {
+            fn index(&self, key: K) -> &V {
                 let slot = self
                     .find_slot(key.as_ref())
                     .expect("no entry found for key");
-                // SAFETY: a slot lives until the map is changed, which stays borrowed as long as the reference.
+                // SAFETY: as in `get_mut`.
                 unsafe { &*slot.as_ptr() }
             }
         }
 
-        impl<K: AsRef<[u8]>> Extend<(K, u64)> for $map {
-            fn extend<I: IntoIterator<Item = (K, u64)>>(&mut self, pairs: I) {
+        impl<V: Value, K: AsRef<[u8]>> Extend<(K, V)> for $map<V> {
+            fn extend<I: IntoIterator<Item = (K, V)>>(&mut self, pairs: I) {
                 for (key, value) in pairs {
                     self.insert(key, value);
                 }
             }
         }
 
-        impl<K: AsRef<[u8]>> FromIterator<(K, u64)> for $map {
-            fn from_iter<I: IntoIterator<Item = (K, u64)>>(pairs: I) -> Self {
-                let mut map = $map::new();
+        impl<V: Value, K: AsRef<[u8]>> FromIterator<(K, V)> for $map<V> {
+            fn from_iter<I: IntoIterator<Item = (K, V)>>(pairs: I) -> Self {
+                let mut map = Self::empty();
                 map.extend(pairs);
                 map
             }
         }
 
+        /// A map to other values than `u64` is made of pairs by `from_iter` or `collect`.
         impl<K: AsRef<[u8]>, const N: usize> From<[(K, u64); N]> for $map {
             fn from(pairs: [(K, u64); N]) -> Self {
                 pairs.into_iter().collect()

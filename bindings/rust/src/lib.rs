@@ -19,14 +19,29 @@
 //! assert!(squares.range(10..).eq([(16, 4), (25, 5)]));
 //! ```
 //!
+//! [`Judy1<K>`](Judy1) and [`JudyL<V, K>`](JudyL) have keys of any integer type, in their own order, and the maps have values of any type
+//! that fits a word: see [`Key`] and [`Value`]. `new` and `from` make arrays of `u64`, so that numbers without a type are words; those of
+//! other types are made by `collect`, `from_sorted`, `default` or `empty`.
+//!
+//! ```
+//! use sellumaq::JudyL;
+//!
+//! let letters: JudyL<char, i32> = [(1, 'b'), (-1, 'a')].into_iter().collect();
+//! assert!(letters.iter().eq([(-1, 'a'), (1, 'b')]));
+//! ```
+//!
 //! Arrays may be sent to other threads and be read by several at a time, which is read off the library's code and tested, and no part of
 //! its proofs. An insert without memory ends the program by `handle_alloc_error`; `try_insert` answers an error.
 //!
-//! With the manifest in the folder `serde` arrays have Serde's two traits: a set is a sequence, a map is a map, and strings are bytes.
-#![warn(missing_docs, clippy::undocumented_unsafe_blocks)]
+//! With the feature `serde` arrays have Serde's two traits: a set is a sequence, a map is a map, and strings are bytes.
+#![warn(missing_docs, clippy::undocumented_unsafe_blocks, clippy::pedantic)]
 #![deny(unsafe_op_in_unsafe_fn)]
-// The feature `serde` stands in the manifest of the folder serde alone.
-#![allow(unexpected_cfgs)]
+// A count of the library fits, since the machine has 64 bits.
+#![allow(clippy::cast_possible_truncation)]
+// A range is given by value, as to std's calls; entries and sets that are split off may be left as std's may.
+#![allow(clippy::needless_pass_by_value, clippy::return_self_not_must_use)]
+// Keys of words are handed on by the same macros as those of strings, which are lent.
+#![allow(clippy::trivially_copy_pass_by_ref)]
 
 mod array;
 mod edge;
@@ -43,6 +58,7 @@ mod serial;
 mod slots;
 mod sorted;
 mod span;
+mod types;
 mod walk;
 mod way;
 mod words;
@@ -55,6 +71,7 @@ pub use judyl::JudyL;
 pub use judysl::JudySl;
 pub use keyed::{InsertError, MAX_KEY};
 pub use sorted::{FromSortedError, NotAscending};
+pub use types::{Key, Value, ZeroValue};
 
 /// There was no memory for a new key; the array is as it was.
 ///

@@ -56,7 +56,7 @@ impl List {
         if !unsafe {
             sys::sellumaq_judyhs_walk(handle, behind, to, room, told, capacity, &mut count)
         } {
-            no_room(NoMemory)
+            no_room::<()>(NoMemory);
         }
         // SAFETY: the call wrote so many entries.
         unsafe { self.entries.set_len(behind + count) };

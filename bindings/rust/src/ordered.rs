@@ -1,17 +1,20 @@
 //! What ordered maps have alike.
 
-/// Writes the calls of a `$map` at the ends of its order, and its iterators over keys and values. Keys come as `$key` and
-/// are looked up by what is `$lookup`. `$sample` is a line of an example that makes `map` with the values 10 and 20 of the
+/// Writes the calls of a `$map` with values of the type `V` at the ends of its order, and its iterators over keys and values. Keys
+/// come as `$key` and are looked up by what is `$lookup`. `$sample` is a line of an example that makes `map` with the values 10 and 20 of the
 /// keys `$a` and `$b`; an `$owned` key is one that the map gives away.
 macro_rules! ordered_map {
-    ($map:ident; $key:ty, $lookup:path; $sample:literal, $a:literal, $own_a:literal, $own_b:literal) => {
-        impl $map {
+    (
+        $map:ident<$($param:ident: $bound:path = $default:ty),+>; $key:ty, $lookup:path;
+        $sample:literal, $a:literal, $own_a:literal, $own_b:literal
+    ) => {
+        impl<$($param: $bound),+> $map<$($param),+> {
             /// A key with its value, where it is there.
             ///
             /// ```
             #[doc = concat!($sample, "\nassert_eq!(map.get_key_value(", $a, "), Some((", $own_a, ", 10)));")]
             /// ```
-            pub fn get_key_value(&self, key: impl $lookup) -> Option<($key, u64)> {
+            pub fn get_key_value(&self, key: impl $lookup) -> Option<($key, V)> {
                 let key = Self::owned(&key);
                 self.get(&key).map(|value| (key, value))
             }
@@ -22,7 +25,7 @@ macro_rules! ordered_map {
             #[doc = concat!($sample, "\nassert_eq!(map.remove_entry(", $a, "), Some((", $own_a, ", 10)));")]
             /// assert_eq!(map.len(), 1);
             /// ```
-            pub fn remove_entry(&mut self, key: impl $lookup) -> Option<($key, u64)> {
+            pub fn remove_entry(&mut self, key: impl $lookup) -> Option<($key, V)> {
                 let key = Self::owned(&key);
                 self.remove(&key).map(|value| (key, value))
             }
@@ -33,7 +36,7 @@ macro_rules! ordered_map {
             #[doc = concat!($sample, "\nassert_eq!(map.pop_first(), Some((", $own_a, ", 10)));")]
             /// assert_eq!(map.len(), 1);
             /// ```
-            pub fn pop_first(&mut self) -> Option<($key, u64)> {
+            pub fn pop_first(&mut self) -> Option<($key, V)> {
                 let pair = self.first_key_value()?;
                 self.delete(&pair.0);
                 Some(pair)
@@ -45,7 +48,7 @@ macro_rules! ordered_map {
             #[doc = concat!($sample, "\nassert_eq!(map.pop_last(), Some((", $own_b, ", 20)));")]
             /// assert_eq!(map.len(), 1);
             /// ```
-            pub fn pop_last(&mut self) -> Option<($key, u64)> {
+            pub fn pop_last(&mut self) -> Option<($key, V)> {
                 let pair = self.last_key_value()?;
                 self.delete(&pair.0);
                 Some(pair)
@@ -56,7 +59,7 @@ macro_rules! ordered_map {
             /// ```
             #[doc = concat!($sample, "\nassert!(map.keys().rev().eq([", $own_b, ", ", $own_a, "]));")]
             /// ```
-            pub fn keys(&self) -> Keys<'_> {
+            pub fn keys(&self) -> Keys<'_, $($param),+> {
                 Keys { pairs: self.iter() }
             }
 
@@ -65,7 +68,7 @@ macro_rules! ordered_map {
             /// ```
             #[doc = concat!($sample, "\nassert_eq!(map.values().sum::<u64>(), 30);")]
             /// ```
-            pub fn values(&self) -> Values<'_> {
+            pub fn values(&self) -> Values<'_, $($param),+> {
                 Values { pairs: self.iter() }
             }
 
@@ -74,7 +77,7 @@ macro_rules! ordered_map {
             /// ```
             #[doc = concat!($sample, "\nassert!(map.into_keys().eq([", $own_a, ", ", $own_b, "]));")]
             /// ```
-            pub fn into_keys(self) -> IntoKeys {
+            pub fn into_keys(self) -> IntoKeys<$($param),+> {
                 IntoKeys { pairs: self.into_iter() }
             }
 
@@ -83,7 +86,7 @@ macro_rules! ordered_map {
             /// ```
             #[doc = concat!($sample, "\nassert!(map.into_values().eq([10, 20]));")]
             /// ```
-            pub fn into_values(self) -> IntoValues {
+            pub fn into_values(self) -> IntoValues<$($param),+> {
                 IntoValues { pairs: self.into_iter() }
             }
 
@@ -93,7 +96,7 @@ macro_rules! ordered_map {
             #[doc = concat!($sample, "\nmap.iter_mut().for_each(|(_, value)| *value += 1);")]
             /// assert!(map.values().eq([11, 21]));
             /// ```
-            pub fn iter_mut(&mut self) -> IterMut<'_> {
+            pub fn iter_mut(&mut self) -> IterMut<'_, $($param),+> {
                 self.all_mut()
             }
 
@@ -103,32 +106,52 @@ macro_rules! ordered_map {
             #[doc = concat!($sample, "\nmap.values_mut().for_each(|value| *value += 1);")]
             /// assert!(map.values().eq([11, 21]));
             /// ```
-            pub fn values_mut(&mut self) -> ValuesMut<'_> {
+            pub fn values_mut(&mut self) -> ValuesMut<'_, $($param),+> {
                 ValuesMut { pairs: self.all_mut() }
             }
         }
 
         crate::walk::halves!(
             /// The keys of a map in ascending order.
+            ///
+            /// ```
+            #[doc = concat!($sample, "\nassert_eq!(map.keys().next(), Some(", $own_a, "));")]
+            /// ```
             #[derive(Clone)]
-            Keys<'a> of Iter<'a>; 0: $key
+            Keys<'a, $($param: $bound = $default),+> of Iter<'a, $($param),+>; 0: $key
         );
         crate::walk::halves!(
             /// The values of a map by ascending key.
+            ///
+            /// ```
+            #[doc = concat!($sample, "\nassert_eq!(map.values().next_back(), Some(20));")]
+            /// ```
             #[derive(Clone)]
-            Values<'a> of Iter<'a>; 1: u64
+            Values<'a, $($param: $bound = $default),+> of Iter<'a, $($param),+>; 1: V
         );
         crate::walk::halves!(
             /// The values of a map by ascending key, to change.
-            ValuesMut<'a> of IterMut<'a>; 1: &'a mut u64
+            ///
+            /// ```
+            #[doc = concat!($sample, "\n*map.values_mut().next().unwrap() += 1;\nassert!(map.values().eq([11, 20]));")]
+            /// ```
+            ValuesMut<'a, $($param: $bound = $default),+> of IterMut<'a, $($param),+>; 1: &'a mut V
         );
         crate::walk::halves!(
             /// The keys of a map in ascending order, which the iterator owns.
-            IntoKeys of IntoIter; 0: $key
+            ///
+            /// ```
+            #[doc = concat!($sample, "\nassert_eq!(map.into_keys().next_back(), Some(", $own_b, "));")]
+            /// ```
+            IntoKeys<$($param: $bound = $default),+> of IntoIter<$($param),+>; 0: $key
         );
         crate::walk::halves!(
             /// The values of a map by ascending key, which the iterator owns.
-            IntoValues of IntoIter; 1: u64
+            ///
+            /// ```
+            #[doc = concat!($sample, "\nassert_eq!(map.into_values().next(), Some(10));")]
+            /// ```
+            IntoValues<$($param: $bound = $default),+> of IntoIter<$($param),+>; 1: V
         );
     };
 }

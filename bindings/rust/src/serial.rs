@@ -2,18 +2,19 @@
 //!
 //! What is read may be anything: no room is made for items that are only promised, a key comes again as of std's maps, with the
 //! last value, and bytes that are no key, a full map, and want of memory are errors.
-use crate::{Judy1, JudyHs, JudyL, JudySl};
+use crate::{Judy1, JudyHs, JudyL, JudySl, Key, Value};
 use serde::de::{Deserialize, DeserializeSeed, Deserializer, Error, MapAccess, SeqAccess, Visitor};
 use serde::ser::{Serialize, SerializeMap, Serializer};
 use std::fmt;
+use std::marker::PhantomData;
 
-impl Serialize for Judy1 {
+impl<K: Key + Serialize> Serialize for Judy1<K> {
     fn serialize<S: Serializer>(&self, to: S) -> Result<S::Ok, S::Error> {
         to.collect_seq(self)
     }
 }
 
-impl Serialize for JudyL {
+impl<V: Value + Serialize, K: Key + Serialize> Serialize for JudyL<V, K> {
     fn serialize<S: Serializer>(&self, to: S) -> Result<S::Ok, S::Error> {
         to.collect_map(self)
     }
@@ -28,7 +29,7 @@ impl Serialize for Bytes<'_> {
     }
 }
 
-impl Serialize for JudySl {
+impl<V: Value + Serialize> Serialize for JudySl<V> {
     fn serialize<S: Serializer>(&self, to: S) -> Result<S::Ok, S::Error> {
         let (mut told, mut entries) = (to.serialize_map(Some(self.len()))?, self.iter());
         while let Some((key, value)) = entries.next_entry() {
@@ -38,11 +39,11 @@ impl Serialize for JudySl {
     }
 }
 
-impl Serialize for JudyHs {
+impl<V: Value + Serialize> Serialize for JudyHs<V> {
     fn serialize<S: Serializer>(&self, to: S) -> Result<S::Ok, S::Error> {
         let (mut told, mut list) = (to.serialize_map(Some(self.len()))?, self.list());
         while let Some((key, value)) = list.next() {
-            told.serialize_entry(&Bytes(key), &value)?;
+            told.serialize_entry(&Bytes(key), &V::of_bits(value))?;
         }
         told.end()
     }
@@ -50,65 +51,68 @@ impl Serialize for JudyHs {
 
 /// Writes how an `$array` is read by a `$deserialize` of what it is said to be, item by item.
 macro_rules! deserialized {
-    ($array:ident by $deserialize:ident, $expected:literal; $visit:ident($items:ident: $access:ident) $read:block) => {
-        impl<'de> Deserialize<'de> for $array {
+    (
+        $array:ident<$($param:ident: $bound:path),+> by $deserialize:ident, $expected:literal;
+        $visit:ident($items:ident: $access:ident) $read:block
+    ) => {
+        impl<'de, $($param: $bound + Deserialize<'de>),+> Deserialize<'de> for $array<$($param),+> {
             fn deserialize<D: Deserializer<'de>>(from: D) -> Result<Self, D::Error> {
-                struct Items;
+                struct Items<$($param),+>(PhantomData<($($param,)+)>);
 
-                impl<'de> Visitor<'de> for Items {
-                    type Value = $array;
+                impl<'de, $($param: $bound + Deserialize<'de>),+> Visitor<'de> for Items<$($param),+> {
+                    type Value = $array<$($param),+>;
 
                     fn expecting(&self, to: &mut fmt::Formatter<'_>) -> fmt::Result {
                         to.write_str($expected)
                     }
 
-                    fn $visit<A: $access<'de>>(self, mut $items: A) -> Result<$array, A::Error> {
+                    fn $visit<A: $access<'de>>(self, mut $items: A) -> Result<Self::Value, A::Error> {
                         $read
                     }
                 }
 
-                from.$deserialize(Items)
+                from.$deserialize(Items(PhantomData))
             }
         }
     };
 }
 
-deserialized!(Judy1 by deserialize_seq, "a sequence of words"; visit_seq(keys: SeqAccess) {
-    let mut set = Judy1::new();
+deserialized!(Judy1<K: Key> by deserialize_seq, "a sequence of words"; visit_seq(keys: SeqAccess) {
+    let mut set = Judy1::empty();
     while let Some(key) = keys.next_element()? {
         set.try_insert(key).map_err(A::Error::custom)?;
     }
     Ok(set)
 });
 
-deserialized!(JudyL by deserialize_map, "a map from words to words"; visit_map(pairs: MapAccess) {
-    let mut map = JudyL::new();
+deserialized!(JudyL<V: Value, K: Key> by deserialize_map, "a map from words to words"; visit_map(pairs: MapAccess) {
+    let mut map = JudyL::empty();
     while let Some((key, value)) = pairs.next_entry()? {
         map.try_put(key, value).map_err(A::Error::custom)?;
     }
     Ok(map)
 });
 
-deserialized!(JudySl by deserialize_map, "a map from strings to words"; visit_map(pairs: MapAccess) {
-    let (mut map, mut key) = (JudySl::new(), Vec::new());
-    while pairs.next_key_seed(Key(&mut key))?.is_some() {
+deserialized!(JudySl<V: Value> by deserialize_map, "a map from strings to words"; visit_map(pairs: MapAccess) {
+    let (mut map, mut key) = (JudySl::empty(), Vec::new());
+    while pairs.next_key_seed(StringKey(&mut key))?.is_some() {
         map.try_insert(&key, pairs.next_value()?).map_err(A::Error::custom)?;
     }
     Ok(map)
 });
 
-deserialized!(JudyHs by deserialize_map, "a map from byte strings to words"; visit_map(pairs: MapAccess) {
-    let (mut map, mut key) = (JudyHs::new(), Vec::new());
-    while pairs.next_key_seed(Key(&mut key))?.is_some() {
+deserialized!(JudyHs<V: Value> by deserialize_map, "a map from byte strings to words"; visit_map(pairs: MapAccess) {
+    let (mut map, mut key) = (JudyHs::empty(), Vec::new());
+    while pairs.next_key_seed(StringKey(&mut key))?.is_some() {
         map.try_insert(&key, pairs.next_value()?).map_err(A::Error::custom)?;
     }
     Ok(map)
 });
 
 /// A key as it is read, in the place of the one before it: bytes, text, or a sequence of numbers.
-struct Key<'a>(&'a mut Vec<u8>);
+struct StringKey<'a>(&'a mut Vec<u8>);
 
-impl Key<'_> {
+impl StringKey<'_> {
     fn go_on<E: Error>(&mut self, bytes: &[u8]) -> Result<(), E> {
         self.0.try_reserve(bytes.len()).map_err(E::custom)?;
         self.0.extend_from_slice(bytes);
@@ -116,7 +120,7 @@ impl Key<'_> {
     }
 }
 
-impl<'de> DeserializeSeed<'de> for Key<'_> {
+impl<'de> DeserializeSeed<'de> for StringKey<'_> {
     type Value = ();
 
     fn deserialize<D: Deserializer<'de>>(self, from: D) -> Result<(), D::Error> {
@@ -125,7 +129,7 @@ impl<'de> DeserializeSeed<'de> for Key<'_> {
     }
 }
 
-impl<'de> Visitor<'de> for Key<'_> {
+impl<'de> Visitor<'de> for StringKey<'_> {
     type Value = ();
 
     fn expecting(&self, to: &mut fmt::Formatter<'_>) -> fmt::Result {

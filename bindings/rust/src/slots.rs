@@ -1,21 +1,29 @@
 //! Iterators over an ordered map that lend its values to be changed.
 
-/// Writes `RangeMut`, `IterMut` and `ValuesMut` of a `$map` whose keys come as `$key`.
+/// Writes `RangeMut` and `IterMut` of a `$map` with values of the type `V`, whose keys come as `$key`. `$sample` is a line of an example that
+/// makes `map` with the values 10 and 20.
 macro_rules! slot_walks {
-    ($map:ident through $way:ty; $key:ty) => {
+    ($map:ident<$($param:ident: $bound:path = $default:ty),+> through $way:ty; $key:ty; $sample:literal) => {
         #[doc = concat!("Keys of a [`", stringify!($map), "`] in a range, each beside its value, to change, from both ends.")]
-        pub struct RangeMut<'a> {
-            map: &'a $map,
+        ///
+        /// ```
+        #[doc = $sample]
+        /// *map.range_mut(..).next_back().unwrap().1 += 1;
+        /// assert!(map.values().eq([10, 21]));
+        /// ```
+        #[must_use = "iterators are lazy and do nothing unless consumed"]
+        pub struct RangeMut<'a, $($param: $bound = $default),+> {
+            map: &'a $map<$($param),+>,
             way: $way,
-            lent: std::marker::PhantomData<&'a mut u64>,
+            lent: std::marker::PhantomData<&'a mut V>,
         }
 
-        impl<'a> RangeMut<'a> {
-            fn of(map: &'a mut $map, way: $way) -> RangeMut<'a> {
+        impl<'a, $($param: $bound),+> RangeMut<'a, $($param),+> {
+            fn of(map: &'a mut $map<$($param),+>, way: $way) -> Self {
                 RangeMut { map, way, lent: std::marker::PhantomData }
             }
 
-            fn lend((key, slot): ($key, std::ptr::NonNull<u64>)) -> ($key, &'a mut u64) {
+            fn lend((key, slot): ($key, std::ptr::NonNull<V>)) -> ($key, &'a mut V) {
                 // SAFETY: the map is borrowed to be changed for as long as the slot is lent, and isn't changed meanwhile,
                 // so the slot stays. No key comes twice, so no slot is lent twice. On the way to the next slot no value is
                 // read that may be lent.
@@ -23,8 +31,8 @@ macro_rules! slot_walks {
             }
         }
 
-        impl<'a> Iterator for RangeMut<'a> {
-            type Item = ($key, &'a mut u64);
+        impl<'a, $($param: $bound),+> Iterator for RangeMut<'a, $($param),+> {
+            type Item = ($key, &'a mut V);
 
             fn next(&mut self) -> Option<Self::Item> {
                 self.way.next(self.map).map(Self::lend)
@@ -35,35 +43,44 @@ macro_rules! slot_walks {
             }
         }
 
-        impl DoubleEndedIterator for RangeMut<'_> {
+        impl<$($param: $bound),+> DoubleEndedIterator for RangeMut<'_, $($param),+> {
             fn next_back(&mut self) -> Option<Self::Item> {
                 self.way.next_back(self.map).map(Self::lend)
             }
         }
 
-        impl std::iter::FusedIterator for RangeMut<'_> {}
+        impl<$($param: $bound),+> std::iter::FusedIterator for RangeMut<'_, $($param),+> {}
 
-        impl std::fmt::Debug for RangeMut<'_> {
+        impl<$($param: $bound),+> std::fmt::Debug for RangeMut<'_, $($param),+> {
             fn fmt(&self, to: &mut std::fmt::Formatter<'_>) -> std::fmt::Result {
                 let mut way = self.way.clone();
                 let mut rest = to.debug_list();
                 while let Some((key, _)) = way.next(self.map) {
                     // what is shown hasn't been lent
-                    rest.entry(&(&key, self.map.get(&key).unwrap_or_default()));
+                    rest.entries(self.map.get(&key).map(|value| (&key, value)));
                 }
                 rest.finish()
             }
         }
 
         #[doc = concat!("The keys of a [`", stringify!($map), "`], each beside its value, to change, from both ends.")]
+        ///
+        /// ```
+        #[doc = $sample]
+        /// for (_, value) in &mut map {
+        ///     *value += 1;
+        /// }
+        /// assert!(map.values().eq([11, 21]));
+        /// ```
         #[derive(Debug)]
-        pub struct IterMut<'a> {
-            range: RangeMut<'a>,
+        #[must_use = "iterators are lazy and do nothing unless consumed"]
+        pub struct IterMut<'a, $($param: $bound = $default),+> {
+            range: RangeMut<'a, $($param),+>,
             left: usize,
         }
 
-        impl<'a> Iterator for IterMut<'a> {
-            type Item = ($key, &'a mut u64);
+        impl<'a, $($param: $bound),+> Iterator for IterMut<'a, $($param),+> {
+            type Item = ($key, &'a mut V);
 
             fn next(&mut self) -> Option<Self::Item> {
                 self.left = self.left.checked_sub(1)?;
@@ -79,29 +96,29 @@ macro_rules! slot_walks {
             }
         }
 
-        impl DoubleEndedIterator for IterMut<'_> {
+        impl<$($param: $bound),+> DoubleEndedIterator for IterMut<'_, $($param),+> {
             fn next_back(&mut self) -> Option<Self::Item> {
                 self.left = self.left.checked_sub(1)?;
                 self.range.next_back()
             }
         }
 
-        impl ExactSizeIterator for IterMut<'_> {}
+        impl<$($param: $bound),+> ExactSizeIterator for IterMut<'_, $($param),+> {}
 
-        impl std::iter::FusedIterator for IterMut<'_> {}
+        impl<$($param: $bound),+> std::iter::FusedIterator for IterMut<'_, $($param),+> {}
 
-        impl $map {
-            fn all_mut(&mut self) -> IterMut<'_> {
+        impl<$($param: $bound),+> $map<$($param),+> {
+            fn all_mut(&mut self) -> IterMut<'_, $($param),+> {
                 let left = self.len();
                 IterMut { range: self.range_mut(..), left }
             }
         }
 
-        impl<'a> IntoIterator for &'a mut $map {
-            type Item = ($key, &'a mut u64);
-            type IntoIter = IterMut<'a>;
+        impl<'a, $($param: $bound),+> IntoIterator for &'a mut $map<$($param),+> {
+            type Item = ($key, &'a mut V);
+            type IntoIter = IterMut<'a, $($param),+>;
 
-            fn into_iter(self) -> IterMut<'a> {
+            fn into_iter(self) -> IterMut<'a, $($param),+> {
                 self.all_mut()
             }
         }

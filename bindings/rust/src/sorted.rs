@@ -54,10 +54,13 @@ impl std::error::Error for FromSortedError {}
 
 /// Writes how an array of words is made of many items at once, by the call `$from_sorted` over a list of `$told`.
 macro_rules! at_once {
-    ($array:ident; $item:ty; $told:ty, $from_sorted:ident; $sample:literal, $wrong:literal) => {
-        impl $array {
+    (
+        $array:ident<$($param:ident: $bound:path),+>; $item:ty; $told:ty, $from_sorted:ident;
+        $sample:literal, $wrong:literal
+    ) => {
+        impl<$($param: $bound),+> $array<$($param),+> {
             fn at_once(told: &[$told]) -> Result<Self, crate::NotAscending> {
-                let (mut array, mut place) = ($array::new(), 0);
+                let (mut array, mut place) = (Self::empty(), 0);
                 // SAFETY: the handle is this array's, lent for this call alone, and the place this function's; the list
                 // is as long as is told.
                 let answer = unsafe {
@@ -71,9 +74,12 @@ macro_rules! at_once {
                 }
             }
 
-            /// Makes an array of keys that strictly ascend, in a part of the time of an insert for each. The error tells
-            /// the first key that isn't above the one before it. It ends the program where there is no memory, as std's
-            /// collections do.
+            /// Makes an array of keys that strictly ascend, in a part of the time of an insert for each. It ends the program
+            /// where there is no memory, as std's collections do.
+            ///
+            /// # Errors
+            ///
+            /// [`NotAscending`](crate::NotAscending) tells the first key that isn't above the one before it.
             ///
             /// ```
             #[doc = $sample]
@@ -83,18 +89,23 @@ macro_rules! at_once {
             pub fn from_sorted<I: IntoIterator<Item = $item>>(
                 items: I,
             ) -> Result<Self, crate::NotAscending> {
-                let told: Vec<$told> = items.into_iter().map(crate::way::Told::of).collect();
-                Self::at_once(&told)
+                Self::at_once(&Self::list(items))
+            }
+
+            fn list(items: impl IntoIterator<Item = $item>) -> Vec<$told> {
+                let told = items.into_iter().map(Self::told);
+                told.map(crate::way::Told::of).collect()
             }
         }
 
         /// Items whose keys strictly ascend make an array at once; others are put in one by one.
-        impl FromIterator<$item> for $array {
+        impl<$($param: $bound),+> FromIterator<$item> for $array<$($param),+> {
             fn from_iter<I: IntoIterator<Item = $item>>(items: I) -> Self {
-                let told: Vec<$told> = items.into_iter().map(crate::way::Told::of).collect();
+                let told = Self::list(items);
                 Self::at_once(&told).unwrap_or_else(|_| {
-                    let mut array = $array::new();
-                    array.extend(told.into_iter().map(crate::way::Told::item));
+                    let mut array = Self::empty();
+                    let items = told.into_iter().map(crate::way::Told::item);
+                    array.extend(items.map(Self::item));
                     array
                 })
             }

@@ -1,4 +1,5 @@
 //! The words of a range, and a way through the keys among them.
+use crate::types::Key;
 use std::ops::{Bound, RangeBounds};
 
 /// What a search finds: a key, or a key beside its value.
@@ -33,16 +34,20 @@ impl Span {
     /// No words.
     pub const NONE: Span = Span(None);
 
-    pub fn of(range: impl RangeBounds<u64>) -> Span {
+    /// All words.
+    pub const ALL: Span = Span(Some((0, u64::MAX)));
+
+    /// The words of a range of keys. Words that are no keys may be among them.
+    pub fn of<K: Key>(range: impl RangeBounds<K>) -> Span {
         let from = match range.start_bound() {
             Bound::Unbounded => Some(0),
-            Bound::Included(&word) => Some(word),
-            Bound::Excluded(&word) => word.checked_add(1),
+            Bound::Included(key) => Some(key.word()),
+            Bound::Excluded(key) => key.word().checked_add(1),
         };
         let to = match range.end_bound() {
             Bound::Unbounded => Some(u64::MAX),
-            Bound::Included(&word) => Some(word),
-            Bound::Excluded(&word) => word.checked_sub(1),
+            Bound::Included(key) => Some(key.word()),
+            Bound::Excluded(key) => key.word().checked_sub(1),
         };
         Span(from.zip(to).filter(|(from, to)| from <= to))
     }

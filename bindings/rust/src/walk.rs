@@ -1,27 +1,37 @@
 //! Iterators over an ordered array that change nothing in it.
 
 /// Writes the iterators `Range`, `Iter` and `IntoIter` of an `$array` over its way through a range, a `$way`, which has
-/// `next`, `next_back`, `fold` and `rfold`, each given the array, and answers an `$item`.
+/// `next`, `next_back`, `fold` and `rfold`, each given the array. What these tell the array's `item` makes an `$item` of. `$sample`
+/// is a line of an example that makes `array` with three keys.
 macro_rules! walks {
-    ($array:ident through $way:ty; $item:ty) => {
+    ($array:ident<$($param:ident: $bound:path = $default:ty),+> through $way:ty; $item:ty; $sample:literal) => {
         #[doc = concat!("What a [`", stringify!($array), "`] holds in a range, by ascending key, from both ends.")]
+        ///
+        /// ```
+        #[doc = $sample]
+        /// let mut range = array.range(..);
+        /// assert!(range.next_back() > range.next());
+        /// assert_eq!(range.count(), 1);
+        /// ```
         #[derive(Clone)]
-        pub struct Range<'a> {
-            array: &'a $array,
+        #[must_use = "iterators are lazy and do nothing unless consumed"]
+        pub struct Range<'a, $($param: $bound = $default),+> {
+            array: &'a $array<$($param),+>,
             way: $way,
         }
 
-        impl Iterator for Range<'_> {
+        impl<$($param: $bound),+> Iterator for Range<'_, $($param),+> {
             type Item = $item;
 
             #[inline]
             fn next(&mut self) -> Option<$item> {
-                self.way.next(self.array)
+                self.way.next(self.array).map($array::<$($param),+>::item)
             }
 
             #[inline]
-            fn fold<B, F: FnMut(B, $item) -> B>(self, start: B, act: F) -> B {
-                self.way.fold(self.array, start, act)
+            fn fold<B, F: FnMut(B, $item) -> B>(self, start: B, mut act: F) -> B {
+                let item = $array::<$($param),+>::item;
+                self.way.fold(self.array, start, |done, told| act(done, item(told)))
             }
 
             fn last(mut self) -> Option<$item> {
@@ -37,34 +47,43 @@ macro_rules! walks {
             }
         }
 
-        impl DoubleEndedIterator for Range<'_> {
+        impl<$($param: $bound),+> DoubleEndedIterator for Range<'_, $($param),+> {
             #[inline]
             fn next_back(&mut self) -> Option<$item> {
-                self.way.next_back(self.array)
+                self.way.next_back(self.array).map($array::<$($param),+>::item)
             }
 
             #[inline]
-            fn rfold<B, F: FnMut(B, $item) -> B>(self, start: B, act: F) -> B {
-                self.way.rfold(self.array, start, act)
+            fn rfold<B, F: FnMut(B, $item) -> B>(self, start: B, mut act: F) -> B {
+                let item = $array::<$($param),+>::item;
+                self.way.rfold(self.array, start, |done, told| act(done, item(told)))
             }
         }
 
-        impl std::iter::FusedIterator for Range<'_> {}
+        impl<$($param: $bound),+> std::iter::FusedIterator for Range<'_, $($param),+> {}
 
-        impl std::fmt::Debug for Range<'_> {
+        impl<$($param: $bound),+> std::fmt::Debug for Range<'_, $($param),+> {
             fn fmt(&self, to: &mut std::fmt::Formatter<'_>) -> std::fmt::Result {
                 to.debug_list().entries(self.clone()).finish()
             }
         }
 
         #[doc = concat!("All that a [`", stringify!($array), "`] holds, by ascending key, from both ends.")]
+        ///
+        /// ```
+        #[doc = $sample]
+        /// let mut items = array.iter();
+        /// assert!(items.next_back() > items.next());
+        /// assert_eq!(items.len(), 1);
+        /// ```
         #[derive(Clone)]
-        pub struct Iter<'a> {
-            range: Range<'a>,
+        #[must_use = "iterators are lazy and do nothing unless consumed"]
+        pub struct Iter<'a, $($param: $bound = $default),+> {
+            range: Range<'a, $($param),+>,
             left: usize,
         }
 
-        impl Iterator for Iter<'_> {
+        impl<$($param: $bound),+> Iterator for Iter<'_, $($param),+> {
             type Item = $item;
 
             #[inline]
@@ -95,7 +114,7 @@ macro_rules! walks {
             }
         }
 
-        impl DoubleEndedIterator for Iter<'_> {
+        impl<$($param: $bound),+> DoubleEndedIterator for Iter<'_, $($param),+> {
             #[inline]
             fn next_back(&mut self) -> Option<$item> {
                 self.left = self.left.checked_sub(1)?;
@@ -108,41 +127,49 @@ macro_rules! walks {
             }
         }
 
-        impl ExactSizeIterator for Iter<'_> {}
+        impl<$($param: $bound),+> ExactSizeIterator for Iter<'_, $($param),+> {}
 
-        impl std::iter::FusedIterator for Iter<'_> {}
+        impl<$($param: $bound),+> std::iter::FusedIterator for Iter<'_, $($param),+> {}
 
-        impl std::fmt::Debug for Iter<'_> {
+        impl<$($param: $bound),+> std::fmt::Debug for Iter<'_, $($param),+> {
             fn fmt(&self, to: &mut std::fmt::Formatter<'_>) -> std::fmt::Result {
                 to.debug_list().entries(self.clone()).finish()
             }
         }
 
         #[doc = concat!("All that a [`", stringify!($array), "`] held, which the iterator owns, by ascending key, from both ends.")]
-        pub struct IntoIter {
-            array: $array,
+        ///
+        /// ```
+        #[doc = $sample]
+        /// let mut items = array.into_iter();
+        /// assert!(items.next_back() > items.next());
+        /// assert_eq!(items.len(), 1);
+        /// ```
+        pub struct IntoIter<$($param: $bound = $default),+> {
+            array: $array<$($param),+>,
             way: $way,
             left: usize,
         }
 
-        impl IntoIter {
-            fn rest(&self) -> Iter<'_> {
+        impl<$($param: $bound),+> IntoIter<$($param),+> {
+            fn rest(&self) -> Iter<'_, $($param),+> {
                 Iter { range: Range { array: &self.array, way: self.way.clone() }, left: self.left }
             }
         }
 
-        impl Iterator for IntoIter {
+        impl<$($param: $bound),+> Iterator for IntoIter<$($param),+> {
             type Item = $item;
 
             #[inline]
             fn next(&mut self) -> Option<$item> {
                 self.left = self.left.checked_sub(1)?;
-                self.way.next(&self.array)
+                self.way.next(&self.array).map($array::<$($param),+>::item)
             }
 
             #[inline]
-            fn fold<B, F: FnMut(B, $item) -> B>(self, start: B, act: F) -> B {
-                self.way.fold(&self.array, start, act)
+            fn fold<B, F: FnMut(B, $item) -> B>(self, start: B, mut act: F) -> B {
+                let item = $array::<$($param),+>::item;
+                self.way.fold(&self.array, start, |done, told| act(done, item(told)))
             }
 
             fn size_hint(&self) -> (usize, Option<usize>) {
@@ -150,44 +177,45 @@ macro_rules! walks {
             }
         }
 
-        impl DoubleEndedIterator for IntoIter {
+        impl<$($param: $bound),+> DoubleEndedIterator for IntoIter<$($param),+> {
             #[inline]
             fn next_back(&mut self) -> Option<$item> {
                 self.left = self.left.checked_sub(1)?;
-                self.way.next_back(&self.array)
+                self.way.next_back(&self.array).map($array::<$($param),+>::item)
             }
 
             #[inline]
-            fn rfold<B, F: FnMut(B, $item) -> B>(self, start: B, act: F) -> B {
-                self.way.rfold(&self.array, start, act)
+            fn rfold<B, F: FnMut(B, $item) -> B>(self, start: B, mut act: F) -> B {
+                let item = $array::<$($param),+>::item;
+                self.way.rfold(&self.array, start, |done, told| act(done, item(told)))
             }
         }
 
-        impl ExactSizeIterator for IntoIter {}
+        impl<$($param: $bound),+> ExactSizeIterator for IntoIter<$($param),+> {}
 
-        impl std::iter::FusedIterator for IntoIter {}
+        impl<$($param: $bound),+> std::iter::FusedIterator for IntoIter<$($param),+> {}
 
-        impl std::fmt::Debug for IntoIter {
+        impl<$($param: $bound),+> std::fmt::Debug for IntoIter<$($param),+> {
             fn fmt(&self, to: &mut std::fmt::Formatter<'_>) -> std::fmt::Result {
                 to.debug_list().entries(self.rest()).finish()
             }
         }
 
-        impl IntoIterator for $array {
+        impl<$($param: $bound),+> IntoIterator for $array<$($param),+> {
             type Item = $item;
-            type IntoIter = IntoIter;
+            type IntoIter = IntoIter<$($param),+>;
 
-            fn into_iter(self) -> IntoIter {
+            fn into_iter(self) -> IntoIter<$($param),+> {
                 let (left, way) = (self.len(), self.iter().range.way);
                 IntoIter { array: self, way, left }
             }
         }
 
-        impl<'a> IntoIterator for &'a $array {
+        impl<'a, $($param: $bound),+> IntoIterator for &'a $array<$($param),+> {
             type Item = $item;
-            type IntoIter = Iter<'a>;
+            type IntoIter = Iter<'a, $($param),+>;
 
-            fn into_iter(self) -> Iter<'a> {
+            fn into_iter(self) -> Iter<'a, $($param),+> {
                 self.iter()
             }
         }
@@ -196,13 +224,17 @@ macro_rules! walks {
 
 /// Writes an iterator over a half of each pair of another, which it takes by `$half`.
 macro_rules! halves {
-    ($(#[$about:meta])* $name:ident $(<$life:lifetime>)? of $pairs:ty; $half:tt: $item:ty) => {
+    (
+        $(#[$about:meta])*
+        $name:ident<$($life:lifetime,)? $($param:ident: $bound:path = $default:ty),+> of $pairs:ty; $half:tt: $item:ty
+    ) => {
         $(#[$about])*
-        pub struct $name $(<$life>)? {
+        #[must_use = "iterators are lazy and do nothing unless consumed"]
+        pub struct $name<$($life,)? $($param: $bound = $default),+> {
             pairs: $pairs,
         }
 
-        impl $(<$life>)? Iterator for $name $(<$life>)? {
+        impl<$($life,)? $($param: $bound),+> Iterator for $name<$($life,)? $($param),+> {
             type Item = $item;
 
             #[inline]
@@ -224,7 +256,7 @@ macro_rules! halves {
             }
         }
 
-        impl $(<$life>)? DoubleEndedIterator for $name $(<$life>)? {
+        impl<$($life,)? $($param: $bound),+> DoubleEndedIterator for $name<$($life,)? $($param),+> {
             #[inline]
             fn next_back(&mut self) -> Option<$item> {
                 self.pairs.next_back().map(|pair| pair.$half)
@@ -236,11 +268,11 @@ macro_rules! halves {
             }
         }
 
-        impl $(<$life>)? ExactSizeIterator for $name $(<$life>)? {}
+        impl<$($life,)? $($param: $bound),+> ExactSizeIterator for $name<$($life,)? $($param),+> {}
 
-        impl $(<$life>)? std::iter::FusedIterator for $name $(<$life>)? {}
+        impl<$($life,)? $($param: $bound),+> std::iter::FusedIterator for $name<$($life,)? $($param),+> {}
 
-        impl $(<$life>)? std::fmt::Debug for $name $(<$life>)? {
+        impl<$($life,)? $($param: $bound),+> std::fmt::Debug for $name<$($life,)? $($param),+> {
             fn fmt(&self, to: &mut std::fmt::Formatter<'_>) -> std::fmt::Result {
                 self.pairs.fmt(to)
             }

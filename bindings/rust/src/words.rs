@@ -1,10 +1,13 @@
 //! What sets and maps of words have alike.
 
 /// Writes what a set and a map of words have alike: the calls that count, and the traits of std that go through what
-/// it holds, an `$item` a key. `$sample` is a line of an example that makes `array` with the keys 1, 2 and 10.
+/// it holds, of keys of the type `K`. `$sample` is a line of an example that makes `array` with the keys 1, 2 and 10.
 macro_rules! word_array {
-    ($array:ident; $item:ty; $told:ty, $walk:ident; $count:ident, $by_count:ident, $first_empty:ident, $last_empty:ident; $sample:literal) => {
-        impl $array {
+    (
+        $array:ident<$($param:ident: $bound:path),+>; $told:ty, $walk:ident;
+        $count:ident, $by_count:ident, $first_empty:ident, $last_empty:ident; $sample:literal
+    ) => {
+        impl<$($param: $bound),+> $array<$($param),+> {
             fn search(&self, call: Search, from: u64) -> Option<u64> {
                 let (handle, mut word) = (self.handle, 0);
                 // SAFETY: the call is one of `sellumaq_sys` for this kind, which only reads; the handle is this array's,
@@ -12,24 +15,38 @@ macro_rules! word_array {
                 unsafe { call(&handle, from, &mut word) }.then_some(word)
             }
 
-            /// The least word from one on that is no key.
+            fn search_absent(&self, call: Search, from: K) -> Option<K> {
+                let word = self.search(call, from.word())?;
+                (word <= K::LAST).then(|| K::of_word(word))
+            }
+
+            /// The least one from a number on that is no key.
             ///
             /// ```
             #[doc = $sample]
             /// assert_eq!(array.absent_at_or_after(1), Some(3));
             /// ```
-            pub fn absent_at_or_after(&self, from: u64) -> Option<u64> {
-                self.search(sellumaq_sys::$first_empty, from)
+            #[must_use]
+            pub fn absent_at_or_after(&self, from: K) -> Option<K> {
+                self.search_absent(sellumaq_sys::$first_empty, from)
             }
 
-            /// The greatest word up to one that is no key.
+            /// The greatest one up to a number that is no key.
             ///
             /// ```
             #[doc = $sample]
             /// assert_eq!(array.absent_at_or_before(2), Some(0));
             /// ```
-            pub fn absent_at_or_before(&self, from: u64) -> Option<u64> {
-                self.search(sellumaq_sys::$last_empty, from)
+            #[must_use]
+            pub fn absent_at_or_before(&self, from: K) -> Option<K> {
+                self.search_absent(sellumaq_sys::$last_empty, from)
+            }
+
+            fn count_words(&self, from: u64, to: u64) -> usize {
+                let handle = self.handle;
+                // SAFETY: as in `search`.
+                let keys = unsafe { sellumaq_sys::$count(&handle, from, to) };
+                keys as usize
             }
 
             /// How many keys there are in a range. No way through them is made.
@@ -38,26 +55,24 @@ macro_rules! word_array {
             #[doc = $sample]
             /// assert_eq!((array.count(2..), array.count(..=1), array.count(3..10)), (2, 1, 0));
             /// ```
-            pub fn count(&self, range: impl std::ops::RangeBounds<u64>) -> usize {
-                Span::of(range).ends().map_or(0, |(from, to)| {
-                    let handle = self.handle;
-                    // SAFETY: as in `search`.
-                    let keys = unsafe { sellumaq_sys::$count(&handle, from, to) };
-                    keys as usize
-                })
+            #[must_use]
+            pub fn count(&self, range: impl std::ops::RangeBounds<K>) -> usize {
+                let ends = Span::of(range).ends();
+                ends.map_or(0, |(from, to)| self.count_words(from, to))
             }
 
-            /// How many keys lie below a word. No way through them is made.
+            /// How many keys lie below a number. No way through them is made.
             ///
             /// ```
             #[doc = $sample]
             /// assert_eq!((array.rank(2), array.rank(11)), (1, 3));
             /// ```
-            pub fn rank(&self, word: u64) -> usize {
-                self.count(..word)
+            #[must_use]
+            pub fn rank(&self, below: K) -> usize {
+                self.count(..below)
             }
 
-            fn nth_key(&self, n: usize) -> Option<u64> {
+            fn nth_word(&self, n: usize) -> Option<u64> {
                 self.search(sellumaq_sys::$by_count, (n as u64).checked_add(1)?)
             }
 
@@ -68,7 +83,7 @@ macro_rules! word_array {
             /// assert_eq!(array.iter().len(), 3);
             /// assert_eq!(array.iter().next(), array.iter().rev().last());
             /// ```
-            pub fn iter(&self) -> Iter<'_> {
+            pub fn iter(&self) -> Iter<'_, $($param),+> {
                 Iter {
                     range: self.range(..),
                     left: self.len(),
@@ -82,7 +97,7 @@ macro_rules! word_array {
             /// assert_eq!(array.range(2..=10).count(), 2);
             /// assert!(array.range(3..10).next().is_none());
             /// ```
-            pub fn range(&self, range: impl std::ops::RangeBounds<u64>) -> Range<'_> {
+            pub fn range(&self, range: impl std::ops::RangeBounds<K>) -> Range<'_, $($param),+> {
                 Range {
                     array: self,
                     way: Way::of(Span::of(range)),
@@ -90,11 +105,11 @@ macro_rules! word_array {
             }
 
             /// Moves what lies in a range into an array that has no key of it.
-            fn move_range(&mut self, range: impl std::ops::RangeBounds<u64>, to: &mut Self) {
+            fn move_range(&mut self, range: impl std::ops::RangeBounds<K>, to: &mut Self) {
                 let mut span = Span::of(range);
-                while let Some(item) = span.next(|from| self.at_or_after(from)) {
-                    to.extend([item]);
-                    self.remove(item.key());
+                while let Some(told) = span.next(|from| self.least(from)) {
+                    to.extend([Self::item(told)]);
+                    self.remove(K::of_word(told.key()));
                 }
             }
 
@@ -105,8 +120,8 @@ macro_rules! word_array {
             /// let upper = array.split_off(2);
             /// assert_eq!((array.len(), upper.len()), (1, 2));
             /// ```
-            pub fn split_off(&mut self, key: impl std::borrow::Borrow<u64>) -> Self {
-                let (key, mut other) = (*key.borrow(), $array::new());
+            pub fn split_off(&mut self, key: impl std::borrow::Borrow<K>) -> Self {
+                let (key, mut other) = (*key.borrow(), Self::empty());
                 if self.rank(key) < self.len() / 2 {
                     self.move_range(..key, &mut other);
                     std::mem::swap(self, &mut other);
@@ -117,7 +132,7 @@ macro_rules! word_array {
             }
         }
 
-        impl crate::way::Walked for $array {
+        impl<$($param: $bound),+> crate::way::Walked for $array<$($param),+> {
             type Told = $told;
 
             fn walk(&self, from: u64, _to: u64, room: &mut crate::way::Room<$told>) -> usize {
@@ -128,42 +143,42 @@ macro_rules! word_array {
 
             fn walk_back(&self, from: u64, to: u64, room: &mut crate::way::Room<$told>) -> usize {
                 if let [only] = room {
-                    let found = self.at_or_before(to).filter(|item| item.key() >= from);
+                    let found = self.greatest(to).filter(|told| told.key() >= from);
                     return found
-                        .map(|item| only.write(crate::way::Told::of(item)))
+                        .map(|told| only.write(crate::way::Told::of(told)))
                         .iter()
                         .len();
                 }
-                let count = self.count(from..=to).min(room.len());
-                let first = self.nth_key(self.count(..=to) - count);
+                let count = self.count_words(from, to).min(room.len());
+                let first = self.nth_word(self.count_words(0, to) - count);
                 first.map_or(0, |first| self.walk(first, to, &mut room[..count]))
             }
 
             fn count_between(&self, from: u64, to: u64) -> u64 {
-                self.count(from..=to) as u64
+                self.count_words(from, to) as u64
             }
         }
 
-        impl std::hash::Hash for $array {
+        impl<$($param: $bound),+> std::hash::Hash for $array<$($param),+> {
             fn hash<H: std::hash::Hasher>(&self, to: &mut H) {
                 to.write_usize(self.len());
                 self.iter().for_each(|item| item.hash(to));
             }
         }
 
-        impl PartialEq for $array {
+        impl<$($param: $bound),+> PartialEq for $array<$($param),+> {
             fn eq(&self, other: &Self) -> bool {
                 self.len() == other.len() && self.iter().eq(other)
             }
         }
 
-        impl PartialOrd for $array {
+        impl<$($param: $bound),+> PartialOrd for $array<$($param),+> {
             fn partial_cmp(&self, other: &Self) -> Option<std::cmp::Ordering> {
                 Some(self.cmp(other))
             }
         }
 
-        impl Ord for $array {
+        impl<$($param: $bound),+> Ord for $array<$($param),+> {
             fn cmp(&self, other: &Self) -> std::cmp::Ordering {
                 self.iter().cmp(other)
             }
@@ -173,8 +188,8 @@ macro_rules! word_array {
 
 /// Writes what all ordered arrays have alike: those of std's traits that build one, and `append`.
 macro_rules! collected {
-    ($array:ident; $item:ty; $sample:literal) => {
-        impl $array {
+    ($array:ident<$($param:ident: $bound:path),+>; $of_words:ty; $sample:literal) => {
+        impl<$($param: $bound),+> $array<$($param),+> {
             /// Moves all that another holds into this one. A key of both has the other's value then.
             ///
             /// ```
@@ -191,16 +206,17 @@ macro_rules! collected {
             }
         }
 
-        impl Clone for $array {
+        impl<$($param: $bound),+> Clone for $array<$($param),+> {
             fn clone(&self) -> Self {
                 self.iter().collect()
             }
         }
 
-        impl Eq for $array {}
+        impl<$($param: $bound),+> Eq for $array<$($param),+> {}
 
-        impl<const N: usize> From<[$item; N]> for $array {
-            fn from(items: [$item; N]) -> Self {
+        /// An array of other types than `u64` is made of items by `from_iter` or `collect`.
+        impl<const N: usize> From<[$of_words; N]> for $array {
+            fn from(items: [$of_words; N]) -> Self {
                 items.into_iter().collect()
             }
         }

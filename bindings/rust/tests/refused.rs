@@ -1,7 +1,9 @@
 //! Inserts that are refused for want of memory: each says so and leaves the array as it was. Memory is refused by tests/refuse_alloc.c where
 //! that is preloaded, as `make bindings-test` does; where it isn't, nothing is tried.
+use sellumaq::judyl::Entry;
 use sellumaq::{InsertError, Judy1, JudyHs, JudyL, JudySl, NoMemory};
 use std::collections::{BTreeMap, BTreeSet};
+use std::num::NonZeroU8;
 
 mod refuser;
 
@@ -102,6 +104,34 @@ fn a_map_without_memory() {
         );
     }
     assert!(map.is_empty());
+}
+
+/// A slot that is made holds no value of such a type before one is put in.
+#[test]
+fn a_map_of_values_that_are_never_zero_without_memory() {
+    let refuser = match Refuser::find() {
+        Some(refuser) => refuser,
+        None => return,
+    };
+    let (mut map, mut plain, mut failed) = (JudyL::empty(), BTreeMap::new(), 0);
+    for (key, value) in words().map(|word| word as i64).zip(1..) {
+        let value = NonZeroU8::new(value % 250 + 1).unwrap();
+        let (told, more) = refuser.in_turn(
+            &mut map,
+            NoMemory,
+            |map| match map.entry(key) {
+                Entry::Vacant(entry) => entry.try_insert(value).map(|slot| *slot),
+                Entry::Occupied(_) => panic!("{key} is a key"),
+            },
+            |map| {
+                map.iter()
+                    .eq(plain.iter().map(|(key, value)| (*key, *value)))
+            },
+        );
+        assert_eq!((told, plain.insert(key, value)), (value, None));
+        failed += more;
+    }
+    assert!(failed > 20, "{failed}");
 }
 
 /// The same of both maps from strings, which `same` compares with a plain one.

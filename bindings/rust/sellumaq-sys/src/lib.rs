@@ -1,6 +1,10 @@
 //! The calls of the C library libsellumaq, by the names of `sellumaq.h`, which says what each answers and what it asks of its caller.
 //! The crate `sellumaq` has safe types over them.
 //!
+//! The crate carries the library as assembly for x86-64, Linux and glibc, which its build script assembles with a C compiler and links
+//! statically. A library that was built before takes its place where `SELLUMAQ_LIB` names the folder of a `libsellumaq.a`, or where
+//! `SELLUMAQ_SHARED=1` asks for the shared one that pkg-config finds.
+//!
 //! A handle of zeros is the array without keys. Calls that only read take the handle as `*const`: they leave it, and all that it leads
 //! to, as it is.
 #![no_std]

@@ -5,6 +5,7 @@ use serde::de::{Deserialize, Error};
 use serde_test::{assert_de_tokens, assert_de_tokens_error, assert_tokens, Token};
 use std::collections::{BTreeMap, BTreeSet};
 use std::fmt::{self, Display};
+use std::num::NonZeroU8;
 
 #[path = "../../tests/refuser/mod.rs"]
 mod refuser;
@@ -181,6 +182,35 @@ fn json_is_that_of_std() {
     assert!(serde_json::to_string(&ages).is_err());
 }
 
+#[test]
+fn other_types_are_told_as_themselves() {
+    let map: JudyL<char, i8> = [(5, 'b'), (-128, 'a')].into_iter().collect();
+    let told = [
+        Token::Map { len: Some(2) },
+        Token::I8(-128),
+        Token::Char('a'),
+        Token::I8(5),
+        Token::Char('b'),
+        Token::MapEnd,
+    ];
+    assert_tokens(&map, &told);
+    let set: Judy1<i32> = [7, -7].into_iter().collect();
+    assert_eq!(serde_json::to_string(&set).unwrap(), "[-7,7]");
+    let strings: JudySl<Option<NonZeroU8>> = [("a", None)].into_iter().collect();
+    let told = [
+        Token::Map { len: Some(1) },
+        Token::Bytes(b"a"),
+        Token::None,
+        Token::MapEnd,
+    ];
+    assert_tokens(&strings, &told);
+    // what is no value or key of the type is an error
+    assert!(serde_json::from_str::<Judy1<u8>>("[255, 256]").is_err());
+    assert!(serde_json::from_str::<JudyHs<NonZeroU8>>("{\"a\": 0}").is_err());
+    let one: JudyHs<NonZeroU8> = serde_json::from_str("{\"a\": 1}").unwrap();
+    assert_eq!(one.get("a"), NonZeroU8::new(1));
+}
+
 /// An error that takes no memory.
 #[derive(PartialEq, Debug)]
 struct Refused;
@@ -215,10 +245,10 @@ fn want_of_memory_is_an_error() {
         &mut (),
         Refused,
         |()| {
-            Judy1::deserialize(SeqDeserializer::<_, Refused>::new(words()))?;
-            JudyL::deserialize(MapDeserializer::<_, Refused>::new(words().zip(words())))?;
-            JudySl::deserialize(MapDeserializer::<_, Refused>::new(texts()))?;
-            JudyHs::deserialize(MapDeserializer::<_, Refused>::new(texts())).map(drop)
+            <Judy1>::deserialize(SeqDeserializer::<_, Refused>::new(words()))?;
+            <JudyL>::deserialize(MapDeserializer::<_, Refused>::new(words().zip(words())))?;
+            <JudySl>::deserialize(MapDeserializer::<_, Refused>::new(texts()))?;
+            <JudyHs>::deserialize(MapDeserializer::<_, Refused>::new(texts())).map(drop)
         },
         |()| true,
     );

@@ -1,17 +1,18 @@
 //! Sets of two sets.
 use super::{Iter, Judy1};
+use crate::types::Key;
 use std::cmp::Ordering::{Equal, Greater, Less};
 use std::iter::{FusedIterator, Peekable};
 use std::ops::{BitAnd, BitOr, BitXor, Sub};
 
-impl Judy1 {
+impl<K: Key> Judy1<K> {
     /// The keys of either set, by ascending key.
     ///
     /// ```
     /// let (a, b) = (sellumaq::Judy1::from([1, 2]), sellumaq::Judy1::from([2, 3]));
     /// assert!(a.union(&b).eq([1, 2, 3]));
     /// ```
-    pub fn union<'a>(&'a self, other: &'a Judy1) -> Union<'a> {
+    pub fn union<'a>(&'a self, other: &'a Judy1<K>) -> Union<'a, K> {
         Union(Both::of(self, other))
     }
 
@@ -22,7 +23,7 @@ impl Judy1 {
     /// let (a, b) = (sellumaq::Judy1::from([1, 2]), sellumaq::Judy1::from([2, 3]));
     /// assert!(a.intersection(&b).eq([2]));
     /// ```
-    pub fn intersection<'a>(&'a self, other: &'a Judy1) -> Intersection<'a> {
+    pub fn intersection<'a>(&'a self, other: &'a Judy1<K>) -> Intersection<'a, K> {
         Intersection {
             sets: [self, other],
             from: Some(0),
@@ -35,7 +36,7 @@ impl Judy1 {
     /// let (a, b) = (sellumaq::Judy1::from([1, 2]), sellumaq::Judy1::from([2, 3]));
     /// assert!(a.difference(&b).eq([1]));
     /// ```
-    pub fn difference<'a>(&'a self, other: &'a Judy1) -> Difference<'a> {
+    pub fn difference<'a>(&'a self, other: &'a Judy1<K>) -> Difference<'a, K> {
         Difference {
             keys: self.iter(),
             other,
@@ -48,7 +49,7 @@ impl Judy1 {
     /// let (a, b) = (sellumaq::Judy1::from([1, 2]), sellumaq::Judy1::from([2, 3]));
     /// assert!(a.symmetric_difference(&b).eq([1, 3]));
     /// ```
-    pub fn symmetric_difference<'a>(&'a self, other: &'a Judy1) -> SymmetricDifference<'a> {
+    pub fn symmetric_difference<'a>(&'a self, other: &'a Judy1<K>) -> SymmetricDifference<'a, K> {
         SymmetricDifference(Both::of(self, other))
     }
 
@@ -58,7 +59,8 @@ impl Judy1 {
     /// let a = sellumaq::Judy1::from([1, 2]);
     /// assert!(a.is_disjoint(&[3].into()) && !a.is_disjoint(&[2, 3].into()));
     /// ```
-    pub fn is_disjoint(&self, other: &Judy1) -> bool {
+    #[must_use]
+    pub fn is_disjoint(&self, other: &Judy1<K>) -> bool {
         self.intersection(other).next().is_none()
     }
 
@@ -68,7 +70,8 @@ impl Judy1 {
     /// let a = sellumaq::Judy1::from([1, 2]);
     /// assert!(a.is_subset(&[1, 2, 3].into()) && !a.is_subset(&[2, 3].into()));
     /// ```
-    pub fn is_subset(&self, other: &Judy1) -> bool {
+    #[must_use]
+    pub fn is_subset(&self, other: &Judy1<K>) -> bool {
         self.len() <= other.len() && self.iter().all(|key| other.contains(key))
     }
 
@@ -78,22 +81,23 @@ impl Judy1 {
     /// let a = sellumaq::Judy1::from([1, 2]);
     /// assert!(a.is_superset(&[2].into()) && !a.is_superset(&[2, 3].into()));
     /// ```
-    pub fn is_superset(&self, other: &Judy1) -> bool {
+    #[must_use]
+    pub fn is_superset(&self, other: &Judy1<K>) -> bool {
         other.is_subset(self)
     }
 }
 
 /// Two sets gone through side by side.
 #[derive(Clone, Debug)]
-struct Both<'a>([Peekable<Iter<'a>>; 2]);
+struct Both<'a, K: Key>([Peekable<Iter<'a, K>>; 2]);
 
-impl<'a> Both<'a> {
-    fn of(one: &'a Judy1, other: &'a Judy1) -> Both<'a> {
+impl<'a, K: Key> Both<'a, K> {
+    fn of(one: &'a Judy1<K>, other: &'a Judy1<K>) -> Both<'a, K> {
         Both([one.iter().peekable(), other.iter().peekable()])
     }
 
     /// The least key that is left, and whether both sets have it.
-    fn next(&mut self) -> Option<(u64, bool)> {
+    fn next(&mut self) -> Option<(K, bool)> {
         let Both([one, other]) = self;
         let order = match (one.peek(), other.peek()) {
             (Some(a), Some(b)) => a.cmp(b),
@@ -109,25 +113,37 @@ impl<'a> Both<'a> {
 }
 
 /// The keys of either of two sets, by ascending key.
+///
+/// ```
+/// let (a, b) = (sellumaq::Judy1::from([1, 2]), sellumaq::Judy1::from([2, 3]));
+/// assert_eq!(a.union(&b).last(), Some(3));
+/// ```
 #[derive(Clone, Debug)]
-pub struct Union<'a>(Both<'a>);
+#[must_use = "this is an iterator over the keys, and changes neither set"]
+pub struct Union<'a, K: Key = u64>(Both<'a, K>);
 
-impl Iterator for Union<'_> {
-    type Item = u64;
+impl<K: Key> Iterator for Union<'_, K> {
+    type Item = K;
 
-    fn next(&mut self) -> Option<u64> {
+    fn next(&mut self) -> Option<K> {
         self.0.next().map(|(key, _)| key)
     }
 }
 
 /// The keys of one of two sets alone, by ascending key.
+///
+/// ```
+/// let (a, b) = (sellumaq::Judy1::from([1, 2]), sellumaq::Judy1::from([2, 3]));
+/// assert_eq!(a.symmetric_difference(&b).last(), Some(3));
+/// ```
 #[derive(Clone, Debug)]
-pub struct SymmetricDifference<'a>(Both<'a>);
+#[must_use = "this is an iterator over the keys, and changes neither set"]
+pub struct SymmetricDifference<'a, K: Key = u64>(Both<'a, K>);
 
-impl Iterator for SymmetricDifference<'_> {
-    type Item = u64;
+impl<K: Key> Iterator for SymmetricDifference<'_, K> {
+    type Item = K;
 
-    fn next(&mut self) -> Option<u64> {
+    fn next(&mut self) -> Option<K> {
         loop {
             let (key, both) = self.0.next()?;
             if !both {
@@ -138,56 +154,69 @@ impl Iterator for SymmetricDifference<'_> {
 }
 
 /// The keys of two sets both, by ascending key.
+///
+/// ```
+/// let (a, b) = (sellumaq::Judy1::from([1, 2]), sellumaq::Judy1::from([2, 3]));
+/// assert_eq!(a.intersection(&b).last(), Some(2));
+/// ```
 #[derive(Clone, Debug)]
-pub struct Intersection<'a> {
-    sets: [&'a Judy1; 2],
+#[must_use = "this is an iterator over the keys, and changes neither set"]
+pub struct Intersection<'a, K: Key = u64> {
+    sets: [&'a Judy1<K>; 2],
+    // The word to go on from.
     from: Option<u64>,
 }
 
-impl Iterator for Intersection<'_> {
-    type Item = u64;
+impl<K: Key> Iterator for Intersection<'_, K> {
+    type Item = K;
 
-    fn next(&mut self) -> Option<u64> {
+    fn next(&mut self) -> Option<K> {
         let mut from = self.from.take()?;
         loop {
-            let one = self.sets[0].at_or_after(from)?;
-            from = self.sets[1].at_or_after(one)?;
+            let one = self.sets[0].least(from)?;
+            from = self.sets[1].least(one)?;
             if from == one {
                 self.from = one.checked_add(1);
-                return Some(one);
+                return Some(K::of_word(one));
             }
         }
     }
 }
 
 /// The keys of a set that are none of another's, by ascending key.
+///
+/// ```
+/// let (a, b) = (sellumaq::Judy1::from([1, 2]), sellumaq::Judy1::from([2, 3]));
+/// assert_eq!(a.difference(&b).last(), Some(1));
+/// ```
 #[derive(Clone, Debug)]
-pub struct Difference<'a> {
-    keys: Iter<'a>,
-    other: &'a Judy1,
+#[must_use = "this is an iterator over the keys, and changes neither set"]
+pub struct Difference<'a, K: Key = u64> {
+    keys: Iter<'a, K>,
+    other: &'a Judy1<K>,
 }
 
-impl Iterator for Difference<'_> {
-    type Item = u64;
+impl<K: Key> Iterator for Difference<'_, K> {
+    type Item = K;
 
-    fn next(&mut self) -> Option<u64> {
+    fn next(&mut self) -> Option<K> {
         let other = self.other;
         self.keys.find(|key| !other.contains(key))
     }
 }
 
-impl FusedIterator for Union<'_> {}
-impl FusedIterator for SymmetricDifference<'_> {}
-impl FusedIterator for Intersection<'_> {}
-impl FusedIterator for Difference<'_> {}
+impl<K: Key> FusedIterator for Union<'_, K> {}
+impl<K: Key> FusedIterator for SymmetricDifference<'_, K> {}
+impl<K: Key> FusedIterator for Intersection<'_, K> {}
+impl<K: Key> FusedIterator for Difference<'_, K> {}
 
 macro_rules! operators {
     ($($operator:ident, $call:ident by $sets:ident: $sign:literal;)*) => { $(
-        impl $operator for &Judy1 {
-            type Output = Judy1;
+        impl<K: Key> $operator for &Judy1<K> {
+            type Output = Judy1<K>;
 
             #[doc = concat!("A set of what [`Judy1::", stringify!($sets), "`] goes through: `&a ", $sign, " &b`.")]
-            fn $call(self, other: &Judy1) -> Judy1 {
+            fn $call(self, other: &Judy1<K>) -> Judy1<K> {
                 self.$sets(other).collect()
             }
         }

@@ -1,6 +1,7 @@
 //! Maps from strings that are made at once, of strings that ascend.
 use super::JudySl;
 use crate::keyed::MAX_KEY;
+use crate::types::Value;
 use crate::{no_room, FromSortedError, NoMemory};
 use sellumaq_sys as sys;
 
@@ -34,8 +35,8 @@ impl List {
     }
 
     /// The map of these strings. It ends the program where there is no memory.
-    fn at_once(&self) -> Result<JudySl, FromSortedError> {
-        let (mut map, mut place) = (JudySl::new(), 0);
+    fn at_once<V: Value>(&self) -> Result<JudySl<V>, FromSortedError> {
+        let (mut map, mut place) = (JudySl::empty(), 0);
         let (bytes, room) = (self.bytes.as_ptr(), self.bytes.len());
         let (entries, count) = (self.entries.as_ptr(), self.entries.len());
         // SAFETY: the handle is this map's, lent for this call alone, and the place this function's; both lists are as long as is told.
@@ -52,9 +53,13 @@ impl List {
     }
 }
 
-impl JudySl {
-    /// Makes a map at once of strings that strictly ascend, which are copied to one list first. The error tells the first key
-    /// that is none, or isn't above the one before it. It ends the program where there is no memory, as std's collections do.
+impl<V: Value> JudySl<V> {
+    /// Makes a map at once of strings that strictly ascend, which are copied to one list first. It ends the program where there is no
+    /// memory, as std's collections do.
+    ///
+    /// # Errors
+    ///
+    /// [`FromSortedError`] tells the first key that is none, or isn't above the one before it.
     ///
     /// ```
     /// use sellumaq::{FromSortedError, JudySl};
@@ -64,12 +69,12 @@ impl JudySl {
     /// let falling = JudySl::from_sorted([("b", 10), ("a", 20)]);
     /// assert_eq!(falling, Err(FromSortedError::NotAscending(1)));
     /// ```
-    pub fn from_sorted<K: AsRef<[u8]>, I: IntoIterator<Item = (K, u64)>>(
+    pub fn from_sorted<K: AsRef<[u8]>, I: IntoIterator<Item = (K, V)>>(
         items: I,
     ) -> Result<Self, FromSortedError> {
         let mut list = List::default();
         for (key, value) in items {
-            list.push(key.as_ref(), value);
+            list.push(key.as_ref(), value.bits());
         }
         list.at_once()
     }

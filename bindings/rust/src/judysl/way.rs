@@ -2,6 +2,7 @@
 use super::{JudySl, StringRange};
 use crate::edge::{Edge, Scan};
 use crate::keyed::MAX_KEY;
+use crate::types::Value;
 use sellumaq_sys as sys;
 use std::iter::from_fn;
 use std::ops::Range;
@@ -39,7 +40,12 @@ impl Steps {
     }
 
     // Goes a step up, and answers the key where one is left, of which the scans tell.
-    fn up<T>(&mut self, map: &JudySl, scans: [Scan<T>; 2], told: &mut T) -> Option<Vec<u8>> {
+    fn up<V: Value, T>(
+        &mut self,
+        map: &JudySl<V>,
+        scans: [Scan<T>; 2],
+        told: &mut T,
+    ) -> Option<Vec<u8>> {
         // SAFETY: the map is borrowed, and the scans are this kind's.
         let found = unsafe { self.front.step(map.handle, scans, told) };
         let key = self.front.key();
@@ -47,34 +53,39 @@ impl Steps {
     }
 
     // The same down.
-    fn down<T>(&mut self, map: &JudySl, scans: [Scan<T>; 2], told: &mut T) -> Option<Vec<u8>> {
+    fn down<V: Value, T>(
+        &mut self,
+        map: &JudySl<V>,
+        scans: [Scan<T>; 2],
+        told: &mut T,
+    ) -> Option<Vec<u8>> {
         // SAFETY: as in `up`.
         let found = unsafe { self.back.step(map.handle, scans, told) };
         let key = self.back.key();
         (found && self.front.lets_above(key)).then(|| key.to_vec())
     }
 
-    pub fn next(&mut self, map: &JudySl) -> Option<(Vec<u8>, u64)> {
+    pub fn next<V: Value>(&mut self, map: &JudySl<V>) -> Option<(Vec<u8>, u64)> {
         let mut value = 0;
         self.up(map, UP, &mut value).map(|key| (key, value))
     }
 
-    pub fn next_back(&mut self, map: &JudySl) -> Option<(Vec<u8>, u64)> {
+    pub fn next_back<V: Value>(&mut self, map: &JudySl<V>) -> Option<(Vec<u8>, u64)> {
         let mut value = 0;
         self.down(map, DOWN, &mut value).map(|key| (key, value))
     }
 
     /// The next key with its slot, where the scan ends.
-    pub fn next_slot(&mut self, map: &JudySl) -> Option<(Vec<u8>, NonNull<u64>)> {
+    pub fn next_slot<V: Value>(&mut self, map: &JudySl<V>) -> Option<(Vec<u8>, NonNull<V>)> {
         let mut slot = null_mut();
         let key = self.up(map, UP_TO_SLOTS, &mut slot)?;
-        Some((key, NonNull::new(slot)?))
+        Some((key, NonNull::new(slot.cast())?))
     }
 
-    pub fn next_back_slot(&mut self, map: &JudySl) -> Option<(Vec<u8>, NonNull<u64>)> {
+    pub fn next_back_slot<V: Value>(&mut self, map: &JudySl<V>) -> Option<(Vec<u8>, NonNull<V>)> {
         let mut slot = null_mut();
         let key = self.down(map, DOWN_TO_SLOTS, &mut slot)?;
-        Some((key, NonNull::new(slot)?))
+        Some((key, NonNull::new(slot.cast())?))
     }
 }
 
@@ -87,19 +98,19 @@ pub struct SlotSteps {
 }
 
 impl SlotSteps {
-    pub fn of(map: &JudySl, range: &impl StringRange) -> SlotSteps {
+    pub fn of<V: Value>(map: &JudySl<V>, range: &impl StringRange) -> SlotSteps {
         SlotSteps {
             steps: Steps::of(range),
             left: map.count_within(range),
         }
     }
 
-    pub fn next(&mut self, map: &JudySl) -> Option<(Vec<u8>, NonNull<u64>)> {
+    pub fn next<V: Value>(&mut self, map: &JudySl<V>) -> Option<(Vec<u8>, NonNull<V>)> {
         self.left = self.left.checked_sub(1)?;
         self.steps.next_slot(map)
     }
 
-    pub fn next_back(&mut self, map: &JudySl) -> Option<(Vec<u8>, NonNull<u64>)> {
+    pub fn next_back<V: Value>(&mut self, map: &JudySl<V>) -> Option<(Vec<u8>, NonNull<V>)> {
         self.left = self.left.checked_sub(1)?;
         self.steps.next_back_slot(map)
     }
@@ -147,7 +158,7 @@ impl Page {
     }
 
     // Brings the pairs of a map from an edge on, and answers whether there are any.
-    fn fill(&mut self, map: &JudySl, from: &Edge) -> bool {
+    fn fill<V: Value>(&mut self, map: &JudySl<V>, from: &Edge) -> bool {
         let (handle, key, itself) = (map.handle, from.key(), from.is_included());
         let (bytes, entries) = (self.bytes.as_mut_ptr(), self.entries.as_mut_ptr());
         let (start, length) = (key.as_ptr(), key.len());
@@ -181,14 +192,14 @@ impl Way {
     }
 
     // Brings the next pairs; false where none is left.
-    fn bring(&mut self, map: &JudySl) -> bool {
+    fn bring<V: Value>(&mut self, map: &JudySl<V>) -> bool {
         if let Some(key) = self.page.last() {
             self.ends.front.go_behind(key);
         }
         self.page.fill(map, &self.ends.front)
     }
 
-    pub fn next_entry(&mut self, map: &JudySl) -> Option<(&[u8], u64)> {
+    pub fn next_entry<V: Value>(&mut self, map: &JudySl<V>) -> Option<(&[u8], u64)> {
         if self.page.given == self.page.count && !self.bring(map) {
             return None;
         }
@@ -196,7 +207,7 @@ impl Way {
         self.ends.back.lets_below(key).then_some((key, value))
     }
 
-    pub fn next_back_entry(&mut self, map: &JudySl) -> Option<(&[u8], u64)> {
+    pub fn next_back_entry<V: Value>(&mut self, map: &JudySl<V>) -> Option<(&[u8], u64)> {
         let mut value = 0;
         // SAFETY: the map is borrowed, and the scans are this kind's.
         let found = unsafe { self.ends.back.step(map.handle, DOWN, &mut value) };
@@ -208,23 +219,28 @@ impl Way {
         (found && is_left).then_some((key, value))
     }
 
-    pub fn next(&mut self, map: &JudySl) -> Option<(Vec<u8>, u64)> {
+    pub fn next<V: Value>(&mut self, map: &JudySl<V>) -> Option<(Vec<u8>, u64)> {
         self.next_entry(map)
             .map(|(key, value)| (key.to_vec(), value))
     }
 
-    pub fn next_back(&mut self, map: &JudySl) -> Option<(Vec<u8>, u64)> {
+    pub fn next_back<V: Value>(&mut self, map: &JudySl<V>) -> Option<(Vec<u8>, u64)> {
         self.next_back_entry(map)
             .map(|(key, value)| (key.to_vec(), value))
     }
 
-    pub fn fold<B>(mut self, map: &JudySl, start: B, act: impl FnMut(B, (Vec<u8>, u64)) -> B) -> B {
+    pub fn fold<V: Value, B>(
+        mut self,
+        map: &JudySl<V>,
+        start: B,
+        act: impl FnMut(B, (Vec<u8>, u64)) -> B,
+    ) -> B {
         from_fn(|| self.next(map)).fold(start, act)
     }
 
-    pub fn rfold<B>(
+    pub fn rfold<V: Value, B>(
         mut self,
-        map: &JudySl,
+        map: &JudySl<V>,
         start: B,
         act: impl FnMut(B, (Vec<u8>, u64)) -> B,
     ) -> B {
