@@ -22,9 +22,10 @@ import tempfile
 import zipfile
 
 from build_extension import HERE, Unbuilt, build_extension, find_header, find_text
+from platform_tag import platform_of
 
 EXTENSION = "_native.abi3.so"
-PACKED = ["pyproject.toml", "build_package.py", "build_extension.py", "README.md", "sellumaq", "src", "tests"]
+PACKED = ["pyproject.toml", "build_package.py", "build_extension.py", "platform_tag.py", "README.md", "sellumaq", "src", "tests"]
 
 # What an archive says of when a file was changed, so that the same files make the same archive: the first moment that a wheel can tell.
 MOMENT = (1980, 1, 1, 0, 0, 0)
@@ -74,7 +75,7 @@ def build_wheel(wheel_directory, config_settings=None, metadata_directory=None):
     with tempfile.TemporaryDirectory() as room:
         package = copy_package(room)
         build_or_end(os.path.join(package, EXTENSION), os.environ.get("SELLUMAQ_LIB"))
-        tag = "cp311-abi3-linux_x86_64"
+        tag = f"cp311-abi3-{platform_of(os.path.join(package, EXTENSION))}"
         files = {f"sellumaq/{name}": data for name, data in read_all(package).items()}
     info = f"sellumaq-{field('version')}.dist-info"
     files[f"{info}/METADATA"] = metadata().encode()
