@@ -55,6 +55,8 @@ def check_python():
     """Refuses a Python that the extension isn't for."""
     if sys.implementation.name != "cpython" or sys.version_info < (3, 11):
         raise Unbuilt(f"CPython 3.11 or later is needed, and this is {platform.python_implementation()} {platform.python_version()}")
+    if sysconfig.get_config_var("Py_GIL_DISABLED"):
+        raise Unbuilt("this Python is free-threaded, and the package needs the GIL, which keeps the calls on an array apart")
 
 
 def check_machine():

@@ -17,6 +17,8 @@ FOLDER = os.path.abspath(os.path.join(os.path.dirname(__file__), ".."))
 TEXTS = [f"{FOLDER}/compiled/sellumaq.s", f"{FOLDER}/../../compiled/sellumaq.s"]
 HEADER = os.path.join(sysconfig.get_path("include"), "Python.h")
 
+FREE_THREADED = "import sysconfig; told = sysconfig.get_config_var; sysconfig.get_config_var = lambda name: name == 'Py_GIL_DISABLED' or told(name)"
+
 
 def why_not():
     """Why the builds aren't tried; None where all that they need is here."""
@@ -99,6 +101,7 @@ class Builds(unittest.TestCase):
             ("sellumaq isn't built: there is no C compiler cc here", "", {"PATH": "/nowhere"}),
             ("sellumaq isn't built: Python.h isn't in /nowhere", "import sysconfig; sysconfig.get_path = lambda _: '/nowhere'", {}),
             ("sellumaq isn't built: CPython 3.11 or later is needed", "sys.version_info = (3, 10, 13)", {}),
+            ("sellumaq isn't built: this Python is free-threaded", FREE_THREADED, {}),
             ("this Python is one of 64 bits for linux-aarch64", "", {"_PYTHON_HOST_PLATFORM": "linux-aarch64"}),
             ("sellumaq isn't built: there is no libsellumaq.a in /nowhere", "", {"SELLUMAQ_LIB": "/nowhere"}),
         ):
