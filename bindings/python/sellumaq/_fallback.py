@@ -125,6 +125,8 @@ class _Map(_Array):
         value = _word()
         if self._has("get", key, value):
             return value.value
+        if hasattr(type(self), "__missing__"):
+            return type(self).__missing__(self, key)
         raise KeyError(key)
 
     def __delitem__(self, key):

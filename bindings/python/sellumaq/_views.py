@@ -5,6 +5,8 @@ from __future__ import annotations
 from collections.abc import ItemsView, Iterable, Iterator, KeysView, Sequence, ValuesView
 from typing import Any
 
+_MISSING = object()
+
 
 class Keys(KeysView):
     """A dict's keys, in order."""
@@ -29,6 +31,12 @@ class Items(ItemsView):
     def __reversed__(self) -> Iterator[tuple[Any, int]]:
         return self._mapping._items(True)
 
+    def __contains__(self, item: Any) -> bool:
+        # No `d[key]`, which a subclass's `__missing__` may answer.
+        key, value = item
+        found = self._mapping.get(key, _MISSING)
+        return found is not _MISSING and found == value
+
 
 class Values(ValuesView):
     """A dict's values, by the order of their keys."""
@@ -38,6 +46,9 @@ class Values(ValuesView):
 
     def __reversed__(self) -> Iterator[int]:
         return self._mapping._values(True)
+
+    def __contains__(self, value: object) -> bool:
+        return any(each == value for each in self)
 
 
 class _Placed:

@@ -169,11 +169,9 @@ static PyObject *strings_item(PyObject *self, PyObject *key)
 {
     uint64_t value;
     int found = find_value((Strings *)self, key, &value, false);
-    if (found == 1)
-        return make_word(value);
-    if (found == 0)
-        raise_key_error(key);
-    return NULL;
+    if (found < 0)
+        return NULL;
+    return found ? make_word(value) : answer_missing(self, key);
 }
 
 static int strings_set_item(PyObject *object, PyObject *key, PyObject *value)

@@ -377,11 +377,9 @@ static PyObject *map_item(PyObject *self, PyObject *key)
 {
     uint64_t word, value;
     int found = find_value((Words *)self, key, &word, &value);
-    if (found == 1)
-        return make_word(value);
-    if (found == 0)
-        raise_key_error(key);
-    return NULL;
+    if (found < 0)
+        return NULL;
+    return found ? make_word(value) : answer_missing(self, key);
 }
 
 static int map_set_item(PyObject *object, PyObject *key, PyObject *value)

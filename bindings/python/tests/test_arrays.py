@@ -84,6 +84,35 @@ class Words(unittest.TestCase):
         with self.assertRaises(IndexError):
             array.nth(len(plain))
 
+    def test_a_key_that_is_missing_is_asked_of_the_subclass(self):
+        for kind in (dict, JudyL, JudySL, JudySLBytes, JudyHS, JudyHSBytes):
+            there, absent = (5, 6) if kind in (dict, JudyL) else (b"a", b"b") if kind in (JudySLBytes, JudyHSBytes) else ("a", "b")
+
+            class Asked(kind):
+                asked = []
+
+                def __missing__(self, key):
+                    self.asked.append(key)
+                    if key == absent:
+                        self[key] = 7
+                        return self[key]
+                    self.clear()
+                    raise LookupError(key)
+
+            array = Asked({there: 1})
+            with self.subTest(kind.__name__):
+                self.assertEqual((array.get(absent), absent in array, array.pop(absent, 8), (absent, 7) in array.items(), array.asked), (None, False, 8, False, []))
+                self.assertEqual((array[there], array[absent], array.asked, dict(array)), (1, 7, [absent], {there: 1, absent: 7}))
+                self.assertEqual(((absent, 7) in array.items(), (absent, 1) in array.items(), 7 in array.values(), 9 in array.values()), (True, False, True, False))
+                self.assertEqual((array.setdefault(absent, 9), array[there]), (7, 1))
+                # what could be no key is asked for as well
+                self.assertRaises(LookupError, lambda: array[2.5])
+                self.assertEqual((array.asked, len(array)), ([absent, 2.5], 0))
+                plain = kind()
+                if kind is not dict:
+                    plain.__missing__ = lambda key: 9
+                self.assertRaises(KeyError, lambda: plain[absent])
+
     def test_a_place_is_a_whole_number(self):
         for array in (JudyL({1: 2}), JudySL(a=1), JudySLBytes({b"a": 1})):
             for place in (0.0, -1.0, 5.0, "a", None):
