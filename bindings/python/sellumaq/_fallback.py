@@ -15,6 +15,7 @@ if not getattr(sys, "_is_gil_enabled", lambda: True)():
 MAX = 2**64 - 1
 MAX_KEY = 1024
 KEYS, VALUES, ITEMS = range(3)
+FIRST, BOTH, SECOND = 1, 2, 4
 
 _library = ctypes.PyDLL(os.environ.get("SELLUMAQ_LIBRARY", "libsellumaq.so.0"))
 _word = ctypes.c_uint64
@@ -222,6 +223,7 @@ class WordSet(_Words):
     _kind = _word_calls("judy1", unset=(_word,), test=(_word,)) | {
         "set": _call("judy1_set", ctypes.c_uint32, _word),
         "from_keys": _call("judy1_from_sorted", ctypes.c_uint32, *_sorted),
+        "list_keys": _call("judy1_walk", ctypes.c_size_t, _word, _slot, ctypes.c_size_t),
     }
 
     def __contains__(self, key):
@@ -251,6 +253,32 @@ class WordSet(_Words):
     def _fill(self, keys):
         for key in keys:
             WordSet.add(self, key)
+
+    def _pick(self, keys):
+        for key in keys:
+            if WordSet._passed(key):
+                WordSet.add(self, key)
+
+    def _keys(self):
+        """All keys. One call tells them, so that none comes or goes meanwhile."""
+        while True:
+            room = _Array.__len__(self) + 1
+            keys = (_word * room)()
+            count = self._calls["list_keys"](self._handle, 0, keys, room)
+            if count < room:
+                return keys[:count]
+
+    def _wanted(self, wanted, second):
+        one, other = set(WordSet._keys(self)), set(WordSet._keys(second))
+        parts = (FIRST, one - other), (BOTH, one & other), (SECOND, other - one)
+        return sorted(key for whose, keys in parts if wanted & whose for key in keys)
+
+    def _combine(self, wanted, first, second):
+        keys = WordSet._wanted(first, wanted, second)
+        self._made("from_keys", keys, len(keys))
+
+    def _has_any(self, wanted, second):
+        return bool(WordSet._wanted(self, wanted, second))
 
     def _make(self, keys):
         words = [key for key, _ in _ascending((_checked(key), None) for key in keys)]

@@ -344,6 +344,10 @@ static PyMethodDef set_methods[] = {
     {"contains_many", set_contains_many, METH_O,
      DOC("contains_many($self, keys, /)", "Whether each of the keys of an iterable is there, in a list.",
          SOME ">>> some.contains_many([20, 15, 30])\n[True, False, True]")},
+    {"_pick", set_pick, METH_O, "Puts those items of an iterable in that can be keys."},
+    {"_combine", (PyCFunction)(void (*)(void))set_combine, METH_METHOD | METH_FASTCALL | METH_KEYWORDS, "Makes the set what is wanted of two sets."},
+    {"_has_any", (PyCFunction)(void (*)(void))set_has_any, METH_METHOD | METH_FASTCALL | METH_KEYWORDS,
+     "Whether this set and another have any key that is wanted."},
     {NULL, NULL, 0, NULL},
 };
 
