@@ -1,10 +1,8 @@
 """Sets and dicts beside Python's own."""
 
-import ast
 import copy
 import ctypes
 import doctest
-import os
 import random
 import sys
 import time
@@ -331,20 +329,6 @@ class Examples(unittest.TestCase):
                     continue
                 with self.subTest(f"{kind.__name__}.{name}"):
                     self.assertIn(">>> ", call.__doc__)
-
-
-    @unittest.skipUnless(sellumaq.BINDING == "extension", "the fallback has no hints")
-    def test_the_hints_are_of_the_calls_that_are_there(self):
-        with open(f"{os.path.dirname(sellumaq.__file__)}/_native.pyi", encoding="utf-8") as file:
-            hinted = {it.name: it for it in ast.parse(file.read()).body if isinstance(it, ast.ClassDef)}
-
-        def names(of):
-            own = {it.name for it in hinted[of].body if isinstance(it, ast.FunctionDef)}
-            return own.union(*(names(base.id) for base in hinted[of].bases))
-
-        native = sys.modules["sellumaq._native"]
-        for name in ("WordSet", "WordMap", "TextMap", "BytesMap", "TextHash", "BytesHash"):
-            self.assertEqual((name, names(name)), (name, set(dir(getattr(native, name))) - set(dir(object)) - {"__module__"}))
 
 
 def load_tests(_loader, tests, _pattern):
