@@ -54,6 +54,7 @@ static uint32_t make(Strings *self, const Gathered *gathered)
     static const uint8_t no_bytes;
     static const sellumaq_entry no_entries;
     size_t place;
+    note_change(self, true);
     return sellumaq_judysl_from_sorted(&self->handle.strings, gathered->bytes ? gathered->bytes : &no_bytes, gathered->length,
                                        gathered->entries ? gathered->entries : &no_entries, gathered->count, &place);
 }
@@ -138,7 +139,7 @@ static bool put_gathered(Strings *self, const Gathered *gathered)
     const uint8_t *bytes = gathered->bytes;
     for (size_t n = 0; n < gathered->count; n++) {
         const sellumaq_entry *entry = &gathered->entries[n];
-        if (!is_put(self->calls->put(&self->handle, bytes, entry->length, entry->value)))
+        if (!is_put(put_string(self, bytes, entry->length, entry->value)))
             return false;
         bytes += entry->length;
     }

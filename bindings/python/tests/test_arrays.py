@@ -313,6 +313,16 @@ class WithoutMemory(unittest.TestCase):
                 self.without(array.__delitem__, key)
             self.assertFalse(array)
 
+    @unittest.skipUnless(sellumaq.BINDING == "extension", "ctypes makes objects for each step")
+    def test_a_walk_without_memory_for_a_page(self):
+        array = JudySL((f"{n:03}", n) for n in range(100))
+        walk = iter(array.values())
+        told = [next(walk), next(iter(array.values()))]
+        refuse_from(1)
+        told += [next(walk), next(walk)]
+        self.assertEqual(refuse_from(0), 2)
+        self.assertEqual([*told, *walk], [0, *range(100)])
+
     def test_a_pair_that_is_taken_without_order(self):
         array = JudyHS((str(n), n) for n in range(1000))
         self.assertGreater(self.refused_in_turn(lambda _: array.popitem(), None, lambda: len(array)), 2)
