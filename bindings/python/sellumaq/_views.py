@@ -5,6 +5,8 @@ from __future__ import annotations
 from collections.abc import ItemsView, Iterable, Iterator, KeysView, Sequence, ValuesView
 from typing import Any
 
+from ._core import ITEMS, VALUES
+
 _MISSING = object()
 
 
@@ -78,7 +80,7 @@ class PlacedItems(_Placed, Items, Sequence):
 
     def __getitem__(self, place: Any) -> Any:
         if isinstance(place, slice):
-            return [(key, self._mapping[key]) for key in self._mapping._at(place)]
+            return self._mapping._some(ITEMS, place)
         return self._mapping._pair_at(place)
 
 
@@ -87,5 +89,5 @@ class PlacedValues(_Placed, Values, Sequence):
 
     def __getitem__(self, place: Any) -> Any:
         if isinstance(place, slice):
-            return [self._mapping[key] for key in self._mapping._at(place)]
+            return self._mapping._some(VALUES, place)
         return self._mapping._pair_at(place)[1]

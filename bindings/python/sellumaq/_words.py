@@ -310,6 +310,10 @@ class JudyL(_core.WordMap, _Ordered, PlacedDict, Copied, Dict):
     JudyL({2: 4, 3: 9, 7: 49})
     """
 
+    @staticmethod
+    def _bound(key: int) -> int:
+        return key
+
     def _items(self, reverse: bool) -> Iterator[tuple[int, int]]:
         return self._cursor(ITEMS, 0, MAX, reverse)
 

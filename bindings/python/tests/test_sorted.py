@@ -144,6 +144,10 @@ class Tables(unittest.TestCase):
                 self.assertEqual((list(reversed(strings)), list(strings.copy().items())), (keys[::-1], pairs))
                 self.assertEqual(list(strings.irange(keys[count // 3], keys[-1][:4])), [key for key in keys[count // 3 :] if key <= keys[-1][:4]])
                 self.assertEqual((strings.keys()[1:-1], strings.items()[::2], list(strings.islice(2, 9))), (keys[1:-1], pairs[::2], keys[2:9]))
+                for place in (slice(None), slice(3, -2), slice(None, None, -1), slice(9, 2, -1), slice(1, None, 3), slice(None, None, -7), slice(5, 5)):
+                    for dicts, told in ((strings, pairs), (JudyL(enumerate(values)), [*enumerate(values)])):
+                        views = (dicts.keys()[place], dicts.values()[place], dicts.items()[place])
+                        self.assertEqual(views, ([key for key, _ in told[place]], [value for _, value in told[place]], told[place]))
                 self.assertEqual(list(JudySLBytes((key.encode(), n) for key, n in pairs)), [key.encode() for key in keys])
 
     def test_unordered(self):
