@@ -312,6 +312,9 @@ class WordMap(_Words, _Map):
     def _pair_at(self, place):
         return self._told_at(place, "by_count_entry", _word(), _word())
 
+    def _copy(self, other):
+        WordMap._make(self, WordMap._cursor(other, ITEMS, 0, MAX, False))
+
     def get_many(self, keys, /):
         """The values of the keys of an iterable, in a list, with None where one isn't there."""
         return [WordMap.get(self, key) for key in keys]
@@ -404,9 +407,14 @@ class _OrderedStrings(_Strings):
             yield string, word
 
     def _make(self, pairs):
-        told = list(_ascending(self._read(pairs)))
-        text = b"".join(string for string, _ in told)
-        self._made("from_strings", [word for string, value in told for word in (len(string), value)], len(told), text, len(text))
+        self._become(list(_ascending(self._read(pairs))))
+
+    def _copy(self, other):
+        self._become(list(_OrderedStrings._up(other, None)))
+
+    def _become(self, pairs):
+        text = b"".join(string for string, _ in pairs)
+        self._made("from_strings", [word for string, value in pairs for word in (len(string), value)], len(pairs), text, len(text))
 
     def bisect_left(self, string):
         """How many keys there are below a string."""

@@ -103,6 +103,19 @@ class PlacedDict(Placed):
         made._make(pairs_of(pairs))
         return made
 
+    def copy(self) -> Any:
+        """Another dict of the same pairs.
+
+        >>> from sellumaq import JudyL
+        >>> JudyL({1: 2}).copy()
+        JudyL({1: 2})
+        """
+        made = type(self)()
+        made._copy(self)
+        return made
+
+    __copy__ = copy
+
     def keys(self) -> _views.PlacedKeys:
         """The keys, with their places.
 

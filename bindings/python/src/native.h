@@ -83,6 +83,9 @@ bool has_default(const char *name, Py_ssize_t count, Py_ssize_t most);
 
 /* items.c */
 
+/* The one array that a method is given, of the type that has the method; NULL with an error set where it is none. */
+PyObject *read_array(PyTypeObject *type, PyObject *const *arguments, Py_ssize_t count, PyObject *keywords);
+
 /* A pair, which is any iterable of two objects, as a tuple; ValueError where it has another number of them, as of dict. */
 PyObject *make_pair(PyObject *object);
 

@@ -356,6 +356,7 @@ static PyMethodDef map_methods[] = {
      DOC("bisect_right($self, string, /)", "How many keys there are up to a string.", IN_ORDER ">>> ages.bisect_right('Alan')\n2")},
     {"_begin", strings_begin, METH_O, "Puts in at once what pairs begin with, as far as that can be done; answers the pair after these, or none."},
     {"_make", strings_make, METH_O, "Makes the map one of the pairs of an iterable, whose keys must ascend."},
+    {"_copy", (PyCFunction)(void (*)(void))strings_copy, METH_METHOD | METH_FASTCALL | METH_KEYWORDS, "Makes the map one of another's pairs."},
     {"_key_at", key_at, METH_O, "The key at a place."},
     {"_item_at", item_at, METH_O, "The pair at a place."},
     {"_cursor", (PyCFunction)(void (*)(void))cursor, METH_METHOD | METH_FASTCALL | METH_KEYWORDS, "A walk between two strings."},

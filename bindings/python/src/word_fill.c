@@ -81,6 +81,34 @@ PyObject *words_make(PyObject *self, PyObject *items)
     Py_RETURN_NONE;
 }
 
+/* ---- copies ---- */
+
+/* Gathers all pairs of a map; false where there is no memory. No call in between lets the map change. */
+static bool gather_map(Gathered *gathered, const Words *map)
+{
+    size_t count = (size_t)sellumaq_judyl_len(&map->handle.map);
+    if (count == 0)
+        return true;
+    gathered->words = make_room(NULL, &gathered->room, count, sizeof(sellumaq_pair));
+    if (gathered->words)
+        gathered->count = sellumaq_judyl_walk(&map->handle.map, 0, (sellumaq_pair *)gathered->words, count);
+    return gathered->words != NULL;
+}
+
+PyObject *map_copy(PyObject *object, PyTypeObject *maps, PyObject *const *arguments, Py_ssize_t count, PyObject *keywords)
+{
+    Words *self = (Words *)object, *other = (Words *)read_array(maps, arguments, count, keywords);
+    if (!other)
+        return NULL;
+    Gathered gathered = {NULL, 0, 0};
+    if (!gather_map(&gathered, other) || !make_words(self, &gathered))
+        PyErr_NoMemory();
+    PyMem_Free(gathered.words);
+    if (PyErr_Occurred())
+        return NULL;
+    Py_RETURN_NONE;
+}
+
 /* ---- the constructors and update ---- */
 
 /* Gathers an item that may be the next one; false where it can't be read without a call of others' code, or is none. */

@@ -462,6 +462,7 @@ static PyMethodDef map_methods[] = {
      DOC("pop($self, key, default=..., /)", "Takes a key out and answers its value, or the default; KeyError where there is neither.",
          ">>> from sellumaq import JudyL\n>>> squares = JudyL({2: 4})\n>>> squares.pop(2), squares.pop(2, 7)\n(4, 7)")},
     {"_pair_at", pair_at, METH_O, "The pair at a place."},
+    {"_copy", (PyCFunction)(void (*)(void))map_copy, METH_METHOD | METH_FASTCALL | METH_KEYWORDS, "Makes the map one of another's pairs."},
     {NULL, NULL, 0, NULL},
 };
 

@@ -52,6 +52,9 @@ bool make_words(Words *self, const Gathered *gathered);
 /* `_fill`; `_pick` of a set, by which what can be no key is passed over; and `_make`, in which `from_sorted` ends. */
 PyObject *words_fill(PyObject *object, PyObject *items);
 PyObject *set_pick(PyObject *object, PyObject *items);
+
+/* `_copy` makes a map one of another's pairs. `maps` is the type of maps. */
+PyObject *map_copy(PyObject *object, PyTypeObject *maps, PyObject *const *arguments, Py_ssize_t count, PyObject *keywords);
 PyObject *words_make(PyObject *object, PyObject *items);
 
 /* word_groups.c: keys that are looked up many at a time. */
