@@ -54,16 +54,17 @@ def find_header():
 def check_python():
     """Refuses a Python that the extension isn't for."""
     if sys.implementation.name != "cpython" or sys.version_info < (3, 11):
-        raise Unbuilt(f"CPython 3.11 or later is needed, and this is {platform.python_implementation()} {platform.python_version()}")
+        this = f"{platform.python_implementation()} {platform.python_version()}"
+        raise Unbuilt(f"CPython 3.11 or later is needed, and this is {this}")
     if sysconfig.get_config_var("Py_GIL_DISABLED"):
-        raise Unbuilt("this Python is free-threaded, and the package needs the GIL, which keeps the calls on an array apart")
+        raise Unbuilt("this Python is free-threaded, and the GIL is needed, which keeps the calls on an array apart")
 
 
 def check_machine():
     """Refuses a machine that the compiled text isn't for."""
     if sysconfig.get_platform() != "linux-x86_64" or sys.maxsize <= 2**32:
-        bits = 64 if sys.maxsize > 2**32 else 32
-        raise Unbuilt(f"the library is code for x86-64 under Linux, and this Python is one of {bits} bits for {sysconfig.get_platform()}")
+        this = f"one of {64 if sys.maxsize > 2**32 else 32} bits for {sysconfig.get_platform()}"
+        raise Unbuilt(f"the library is code for x86-64 under Linux, and this Python is {this}")
 
 
 def find_python_header():
@@ -89,14 +90,16 @@ def asked_for(*names):
 
 def check_import(target):
     """Tries the extension in a Python of its own."""
-    tried = subprocess.run([sys.executable, "-c", TRIAL, target], stderr=subprocess.PIPE, encoding="utf-8", errors="replace", check=False)
+    command = [sys.executable, "-c", TRIAL, target]
+    tried = subprocess.run(command, stderr=subprocess.PIPE, encoding="utf-8", errors="replace", check=False)
     if tried.returncode:
-        raise Unbuilt(f"the extension can't be imported: {(tried.stderr.strip() or 'it ended Python').splitlines()[-1]}")
+        told = tried.stderr.strip().splitlines() or ["it ended Python"]
+        raise Unbuilt(f"the extension can't be imported: {told[-1]}")
 
 
 def build_extension(target, folder=None):
-    """Builds the extension, with the library of a folder, or else of the compiled text, which is for this machine alone. Where it can't be made
-    there is none, and Unbuilt says why."""
+    """Builds the extension, with the library of a folder, or else of the compiled text. Where it can't be made there is
+    none, and Unbuilt says why."""
     check_python()
     check_machine()
     linked = [find_library(folder)] if folder else find_text()

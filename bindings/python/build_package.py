@@ -1,12 +1,14 @@
-"""Builds the package, for which a C compiler and Python's headers are enough: by the hooks of PEP 517 a wheel or a source distribution, and by
+"""Builds the package, for which a C compiler and Python's headers are enough: by the hooks of PEP 517 a wheel or a
+source distribution, and by
 
     python3 build_package.py LIBRARY FOLDER
 
 the package under FOLDER, ready to be imported, with the library in LIBRARY, the folder of libsellumaq.a.
 
-The hooks make the extension of the library's compiled text, which the repository and a source distribution hold, or, where the environment's
-SELLUMAQ_LIB names a folder of libsellumaq.a, with that. They fail where it can't be made: a package without it goes by ctypes and needs a shared
-library, which pip doesn't install. The command leaves that package then, for an installation that has the shared library too.
+The hooks make the extension of the library's compiled text, which the repository and a source distribution hold, or,
+where the environment's SELLUMAQ_LIB names a folder of libsellumaq.a, with that. They fail where it can't be made: a
+package without it goes by ctypes and needs a shared library, which pip doesn't install. The command leaves that package
+then, for an installation that has the shared library too.
 """
 
 import base64
@@ -25,9 +27,10 @@ from build_extension import HERE, Unbuilt, build_extension, find_header, find_te
 from platform_tag import platform_of
 
 EXTENSION = "_native.abi3.so"
-PACKED = ["pyproject.toml", "build_package.py", "build_extension.py", "platform_tag.py", "README.md", "sellumaq", "src", "tests"]
+SCRIPTS = ["build_package.py", "build_extension.py", "platform_tag.py"]
+PACKED = ["pyproject.toml", *SCRIPTS, "README.md", "sellumaq", "src", "tests"]
 
-# What an archive says of when a file was changed, so that the same files make the same archive: the first moment that a wheel can tell.
+# When a wheel says that a file was changed, so that the same files make the same wheel: the first moment it can tell.
 MOMENT = (1980, 1, 1, 0, 0, 0)
 
 
@@ -80,9 +83,9 @@ def build_wheel(wheel_directory, config_settings=None, metadata_directory=None):
     info = f"sellumaq-{field('version')}.dist-info"
     files[f"{info}/METADATA"] = metadata().encode()
     files[f"{info}/WHEEL"] = f"Wheel-Version: 1.0\nGenerator: sellumaq\nRoot-Is-Purelib: false\nTag: {tag}\n".encode()
-    record = "".join(f"{path},sha256={digest(data)},{len(data)}\n" for path, data in files.items()) + f"{info}/RECORD,,\n"
+    record = [f"{path},sha256={digest(data)},{len(data)}\n" for path, data in files.items()] + [f"{info}/RECORD,,\n"]
     name = f"sellumaq-{field('version')}-{tag}.whl"
-    write_wheel(os.path.join(wheel_directory, name), files | {f"{info}/RECORD": record.encode()})
+    write_wheel(os.path.join(wheel_directory, name), files | {f"{info}/RECORD": "".join(record).encode()})
     return name
 
 
@@ -91,8 +94,8 @@ def build_or_end(target, library):
         build_extension(target, library)
     except Unbuilt as why:
         sys.exit(
-            f"sellumaq isn't built: {why}. (A package without the extension goes by ctypes and needs the shared library, "
-            "which `make install` installs and pip doesn't.)"
+            f"sellumaq isn't built: {why}; without the extension the package would go by ctypes and need the shared "
+            "library, which `make install` installs and pip doesn't"
         )
 
 
@@ -108,12 +111,14 @@ def plain(entry):
 
 
 def own(entry):
-    """The same of the package's own files, without what Python left beside them; the header comes from where it is, and once."""
+    """The same of the package's own files, without what Python left beside them, and without the header, which is
+    packed by itself."""
     return None if "__pycache__" in entry.name or entry.name.endswith("/sellumaq.h") else plain(entry)
 
 
 def build_sdist(sdist_directory, config_settings=None):
-    """PEP 517's hook: leaves the source distribution in a folder, and answers its name. The library's compiled text and the C header go with it."""
+    """PEP 517's hook: leaves the source distribution in a folder, and answers its name. The library's compiled text and
+    the C header go with it."""
     base, made = f"sellumaq-{field('version')}", io.BytesIO()
     try:
         text, header = find_text(), find_header()

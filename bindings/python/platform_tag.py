@@ -7,15 +7,15 @@ LINUX = "linux_x86_64"
 # The oldest glibc that a tag tells of.
 OLDEST = 5
 
-# Of a file of ELF for 64-bit machines whose least byte is first: where its header says where the sections' headers are, of how many bytes each is
-# and how many they are; the header of a section; what it asks of a library, and a version of that.
+# Of a file of ELF for 64-bit machines whose least byte is first: where its header says where the sections' headers are,
+# of how many bytes each is and how many they are; the header of a section; a library that it asks for, and a version.
 SECTIONS_AT, SECTIONS = 0x28, 0x3A
 SECTION, LIBRARY, VERSION = (struct.Struct(f"<{fields}") for fields in ("IIQQQQIIQQ", "HHIII", "IHHII"))
 VERSIONS_NEEDED = 0x6FFFFFFE
 
 
 def sections(data):
-    """The kind of each section, where it begins, the number of the one that it refers to, and how many entries it has."""
+    """The kind of each section, where it begins, the number of the one it refers to, and how many entries it has."""
     (begin,) = struct.unpack_from("<Q", data, SECTIONS_AT)
     size, count = struct.unpack_from("<HH", data, SECTIONS)
     for n in range(count):
@@ -39,7 +39,8 @@ def versions(data):
 
 
 def platform_of(path):
-    """The platform's tag; that of any Linux where the extension asks for other versions than glibc's, or for none, as under musl."""
+    """The platform's tag; that of any Linux where the extension asks for other versions than glibc's, or for none, as
+    under musl."""
     with open(path, "rb") as file:
         asked = [re.fullmatch(r"GLIBC_2\.(\d+)(\.\d+)?", name) for name in versions(file.read())]
     if not asked or None in asked:

@@ -1,7 +1,17 @@
-# What a type checker is told of the package: what goes into each array and what comes out of it. Whole numbers are put in and asked for as anything
-# that has `__index__`, and come as int; a bound may be any number, and any string.
+# What a type checker is told of the package: what goes into each array and what comes out of it. Whole numbers are put
+# in and asked for as anything that has `__index__`, and come as int; a bound may be any number, and any string.
 
-from collections.abc import ItemsView, Iterable, Iterator, KeysView, Mapping, MutableMapping, MutableSet, Sequence, ValuesView
+from collections.abc import (
+    ItemsView,
+    Iterable,
+    Iterator,
+    KeysView,
+    Mapping,
+    MutableMapping,
+    MutableSet,
+    Sequence,
+    ValuesView,
+)
 from typing import Any, Final, Generic, Protocol, SupportsIndex, TypeVar, overload
 
 from typing_extensions import Self
@@ -56,7 +66,11 @@ class _Ordered(Generic[_Key, _Asked]):
     def count_range(self, start: _Asked | None = None, stop: _Asked | None = None) -> int: ...
     def index(self, key: Any, start: int | None = None, stop: int | None = None) -> int: ...
     def irange(
-        self, minimum: _Asked | None = None, maximum: _Asked | None = None, inclusive: tuple[bool, bool] = (True, True), reverse: bool = False
+        self,
+        minimum: _Asked | None = None,
+        maximum: _Asked | None = None,
+        inclusive: tuple[bool, bool] = (True, True),
+        reverse: bool = False,
     ) -> Iterator[_Key]: ...
     def islice(self, start: int | None = None, stop: int | None = None, reverse: bool = False) -> Iterator[_Key]: ...
     def nth(self, n: int) -> _Key: ...

@@ -83,8 +83,8 @@ def _ascending(pairs):
 class _Array:
     """What all kinds have alike. `_passed` is what C is given for a key, or None where the object can't be one."""
 
-    # An array keeps the calls of the kind that it was made as, also where its class is set to another. Another object stands in `_changes` after
-    # each change of what a map holds.
+    # An array keeps the calls of the kind that it was made as, also where its class is set to another. Another object
+    # stands in `_changes` after each change of what a map holds.
     __slots__ = ("_handle", "_calls", "_changes")
 
     def __new__(cls, *_, **__):
@@ -383,6 +383,8 @@ class _Entry(ctypes.Structure):
     _fields_ = [("length", ctypes.c_size_t), ("value", _word)]
 
 
+_entries = ctypes.POINTER(_Entry)
+
 # How many pairs a walk through strings takes at most, and how many bytes their keys have then.
 _PAIRS, _ROOM = 64, 2 * MAX_KEY
 
@@ -392,7 +394,7 @@ class _OrderedStrings(_Strings):
         "count": _call("judysl_count", _word, *_key, *_key),
         "by_count": _call("judysl_by_count", ctypes.c_uint32, _word, *_buffer),
         "from_strings": _call("judysl_from_sorted", ctypes.c_uint32, *_key, *_sorted),
-        "walk": _call("judysl_walk", ctypes.c_size_t, *_key, ctypes.c_bool, *_key, ctypes.POINTER(_Entry), ctypes.c_size_t),
+        "walk": _call("judysl_walk", ctypes.c_size_t, *_key, ctypes.c_bool, *_key, _entries, ctypes.c_size_t),
     }
 
     def _begin(self, _):
@@ -413,8 +415,8 @@ class _OrderedStrings(_Strings):
         self._become(list(_OrderedStrings._up(other, None)))
 
     def _become(self, pairs):
-        text = b"".join(string for string, _ in pairs)
-        self._made("from_strings", [word for string, value in pairs for word in (len(string), value)], len(pairs), text, len(text))
+        text, entries = b"".join(key for key, _ in pairs), [word for key, value in pairs for word in (len(key), value)]
+        self._made("from_strings", entries, len(pairs), text, len(text))
 
     def bisect_left(self, string):
         """How many keys there are below a string."""
@@ -451,7 +453,7 @@ class _OrderedStrings(_Strings):
             scan = "prev"
 
     def _up(self, bound):
-        """Pairs from a bound up. A call tells many at a time, and the next ones anew where the map has changed, as in the extension."""
+        """Pairs from a bound up. A call tells many at a time, and the next ones anew where the map has changed."""
         (last, itself), most = _could_be_key(bound or b""), 1
         while True:
             changes, pairs = self._changes, self._page(last, itself, most)

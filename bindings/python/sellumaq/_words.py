@@ -4,14 +4,22 @@ from __future__ import annotations
 
 from collections.abc import Iterable, Iterator, MutableSet, Sequence, Set
 from operator import index as whole
-from typing import Any, SupportsIndex
+from typing import TYPE_CHECKING, Any, SupportsIndex
 
 from . import _core
 from ._core import BOTH, FIRST, ITEMS, KEYS, MAX, SECOND, VALUES
 from ._maps import Copied, Dict
 from ._places import Placed, PlacedDict
 
+if TYPE_CHECKING:
+    from typing_extensions import TypeGuard
+
 UNION, INTERSECTION, DIFFERENCE, SYMMETRIC_DIFFERENCE = FIRST | BOTH | SECOND, BOTH, FIRST, FIRST | SECOND
+
+
+def _is_set(other: object) -> TypeGuard[_core.WordSet]:
+    """Whether two sets can be walked side by side: as of Python's sets, whatever a subclass says of its items."""
+    return isinstance(other, _core.WordSet)
 
 
 class _Ordered:
@@ -58,7 +66,7 @@ class Judy1(_core.WordSet, _Ordered, Placed, MutableSet, Sequence):
     """
 
     def __init__(self, keys: Iterable[SupportsIndex] = ()) -> None:
-        if isinstance(keys, _core.WordSet):
+        if _is_set(keys):
             self._combine(UNION, keys, keys)
             return
         if self:
@@ -129,22 +137,24 @@ class Judy1(_core.WordSet, _Ordered, Placed, MutableSet, Sequence):
         Judy1([1, 2, 3])
         """
         for other in others:
-            if isinstance(other, _core.WordSet):
+            if _is_set(other):
                 self._combine(UNION, self, other)
             else:
                 self._fill(other)
 
     @staticmethod
     def _set_of(other: Iterable[Any], wanted: int) -> _core.WordSet:
-        """The set that an operation goes by for an iterable. What could be no key is passed over, if the other's keys alone aren't wanted."""
-        if isinstance(other, _core.WordSet):
+        """The set that an operation goes by for an iterable. What could be no key is passed over, unless the other's
+        keys are wanted by themselves."""
+        if _is_set(other):
             return other
         made = Judy1()
         (made._fill if wanted & SECOND else made._pick)(other)
         return made
 
     def _kept(self, wanted: int, others: tuple[Iterable[Any], ...]) -> Judy1:
-        """What an operation keeps of this set and another, of that and the next, and so on. All are read first, which may run any code."""
+        """What an operation keeps of this set and another, of that and the next, and so on. All are read first, which
+        may run any code."""
         sets, made = [self._set_of(other, wanted) for other in others], Judy1()
         made._combine(wanted if sets else UNION, self, sets[0] if sets else self)
         for other in sets[1:]:
@@ -224,7 +234,7 @@ class Judy1(_core.WordSet, _Ordered, Placed, MutableSet, Sequence):
         >>> Judy1([1]).isdisjoint([2]), Judy1([1]).isdisjoint([1, 2])
         (True, False)
         """
-        return not self._has_any(BOTH, other) if isinstance(other, _core.WordSet) else super().isdisjoint(other)
+        return not self._has_any(BOTH, other) if _is_set(other) else super().isdisjoint(other)
 
     def issubset(self, other: Iterable[Any]) -> bool:
         """Whether each key is in the other.
@@ -240,22 +250,22 @@ class Judy1(_core.WordSet, _Ordered, Placed, MutableSet, Sequence):
         >>> Judy1([1, 2]).issuperset([1])
         True
         """
-        return not self._has_any(SECOND, other) if isinstance(other, _core.WordSet) else all(key in self for key in other)
+        return not self._has_any(SECOND, other) if _is_set(other) else all(key in self for key in other)
 
     def __eq__(self, other: object) -> bool:
-        return not self._has_any(FIRST | SECOND, other) if isinstance(other, _core.WordSet) else super().__eq__(other)
+        return not self._has_any(FIRST | SECOND, other) if _is_set(other) else super().__eq__(other)
 
     def __le__(self, other: Any) -> bool:
-        return not self._has_any(FIRST, other) if isinstance(other, _core.WordSet) else super().__le__(other)
+        return not self._has_any(FIRST, other) if _is_set(other) else super().__le__(other)
 
     def __ge__(self, other: Any) -> bool:
-        return not self._has_any(SECOND, other) if isinstance(other, _core.WordSet) else super().__ge__(other)
+        return not self._has_any(SECOND, other) if _is_set(other) else super().__ge__(other)
 
     def __lt__(self, other: Any) -> bool:
-        return self <= other and self._has_any(SECOND, other) if isinstance(other, _core.WordSet) else super().__lt__(other)
+        return self <= other and self._has_any(SECOND, other) if _is_set(other) else super().__lt__(other)
 
     def __gt__(self, other: Any) -> bool:
-        return self >= other and self._has_any(FIRST, other) if isinstance(other, _core.WordSet) else super().__gt__(other)
+        return self >= other and self._has_any(FIRST, other) if _is_set(other) else super().__gt__(other)
 
     def __or__(self, other: Any) -> Judy1:
         return self.union(other) if isinstance(other, Iterable) else NotImplemented

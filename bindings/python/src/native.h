@@ -69,7 +69,8 @@ static inline PyObject *make_word(uint64_t word)
 /* KeyError with one argument, whatever the key is. */
 void raise_key_error(PyObject *key);
 
-/* What `map[key]` answers where the key isn't there: what the class's `__missing__` does, as of a dict's subclass; else KeyError, and NULL. */
+/* What `map[key]` answers where the key isn't there: what the class's `__missing__` does, as of a dict's subclass; else
+ * KeyError, and NULL. */
 PyObject *answer_missing(PyObject *map, PyObject *key);
 
 /* IndexError for a place at which no key stands; answers NULL. */

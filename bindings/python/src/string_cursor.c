@@ -1,11 +1,12 @@
-/* A walk through strings in order. Upward it takes many pairs at a time, and the next ones anew where the map has changed since; its first step,
- * and each one down, is a search beside the key given last. So each key that comes is one that stands in the map then. */
+/* A walk through strings in order. Upward it takes many pairs at a time, and the next ones anew where the map has
+ * changed since; its first step, and each one down, is a search beside the key given last. So each key that comes is
+ * one that stands in the map then. */
 #include <string.h>
 
 #include "strings.h"
 
-/* How many pairs are taken at most, and how many bytes their keys have then. A first page has few, for walks that are soon left, and one that is
- * taken since the map has changed has one; each further page has so many times as many. */
+/* How many pairs are taken at most, and how many bytes their keys have then. A first page has few, for walks that are
+ * soon left, and one that is taken since the map has changed has one; each further page has so many times as many. */
 enum { PAIRS = 64, GROWTH = 8, ROOM = 2 * SELLUMAQ_KEY_BYTES };
 
 /* Pairs that were taken: the keys one behind the other, and the length and the value of each. */
@@ -138,8 +139,8 @@ static bool fill(Cursor *self)
     keep_last(self);
     page->most = page->seen != *self->changes ? 1 : more < PAIRS ? more : PAIRS;
     page->seen = *self->changes;
-    page->count = sellumaq_judysl_walk(&self->map->handle.strings, self->key, self->length, false, page->bytes, sizeof page->bytes, page->entries,
-                                       page->most);
+    page->count = sellumaq_judysl_walk(&self->map->handle.strings, self->key, self->length, false, page->bytes, ROOM,
+                                       page->entries, page->most);
     page->given = page->end = 0;
     return page->count > 0;
 }

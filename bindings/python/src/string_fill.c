@@ -117,8 +117,9 @@ static void gather_next(Gathered *gathered, const Strings *map)
     size_t last = gathered->count ? gathered->entries[gathered->count - 1].length : 0;
     uint8_t *end = gathered->bytes + gathered->length;
     sellumaq_entry *entries = gathered->entries + gathered->count;
-    size_t count = sellumaq_judysl_walk(&map->handle.strings, end - last, last, gathered->count == 0, end, gathered->room - gathered->length, entries,
-                                        gathered->places - gathered->count);
+    size_t room = gathered->room - gathered->length, places = gathered->places - gathered->count;
+    bool itself = gathered->count == 0;
+    size_t count = sellumaq_judysl_walk(&map->handle.strings, end - last, last, itself, end, room, entries, places);
     for (size_t n = 0; n < count; n++)
         gathered->length += entries[n].length;
     gathered->count += count;
@@ -134,7 +135,8 @@ static bool gather_map(Gathered *gathered, Strings *map)
     if (!gathered->entries)
         return false;
     while (gathered->count < count) {
-        uint8_t *bytes = make_room(gathered->bytes, &gathered->room, gathered->length + SELLUMAQ_KEY_BYTES, sizeof *bytes);
+        size_t needed = gathered->length + SELLUMAQ_KEY_BYTES;
+        uint8_t *bytes = make_room(gathered->bytes, &gathered->room, needed, sizeof *bytes);
         if (!bytes)
             return false;
         gathered->bytes = bytes;
@@ -143,7 +145,8 @@ static bool gather_map(Gathered *gathered, Strings *map)
     return true;
 }
 
-PyObject *strings_copy(PyObject *object, PyTypeObject *maps, PyObject *const *arguments, Py_ssize_t count, PyObject *keywords)
+PyObject *strings_copy(PyObject *object, PyTypeObject *maps, PyObject *const *arguments, Py_ssize_t count,
+                       PyObject *keywords)
 {
     Strings *self = (Strings *)object, *other = (Strings *)read_array(maps, arguments, count, keywords);
     if (!other)

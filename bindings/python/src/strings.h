@@ -79,7 +79,8 @@ PyObject *strings_begin(PyObject *object, PyObject *pairs);
 PyObject *strings_make(PyObject *object, PyObject *pairs);
 
 /* `_copy` makes a map in order one of another's pairs. `maps` is the type of both. */
-PyObject *strings_copy(PyObject *object, PyTypeObject *maps, PyObject *const *arguments, Py_ssize_t count, PyObject *keywords);
+PyObject *strings_copy(PyObject *object, PyTypeObject *maps, PyObject *const *arguments, Py_ssize_t count,
+                       PyObject *keywords);
 
 /* A cursor over the keys of a map in order. A bound is bytes, or NULL where there is none. */
 PyObject *new_string_cursor(PyTypeObject *type, Strings *map, enum part part, PyObject *low, PyObject *high, bool reverse);

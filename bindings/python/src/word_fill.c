@@ -95,7 +95,8 @@ static bool gather_map(Gathered *gathered, const Words *map)
     return gathered->words != NULL;
 }
 
-PyObject *map_copy(PyObject *object, PyTypeObject *maps, PyObject *const *arguments, Py_ssize_t count, PyObject *keywords)
+PyObject *map_copy(PyObject *object, PyTypeObject *maps, PyObject *const *arguments, Py_ssize_t count,
+                   PyObject *keywords)
 {
     Words *self = (Words *)object, *other = (Words *)read_array(maps, arguments, count, keywords);
     if (!other)

@@ -1,5 +1,5 @@
-/* What two sets of words have together and alone, and sets made of that. Each set is walked a page at a time, side by side with the other, and no
- * Python code runs meanwhile. */
+/* What two sets of words have together and alone, and sets made of that. Each set is walked a page at a time, side by
+ * side with the other, and no Python code runs meanwhile. */
 #include "words.h"
 
 /* Whose a key is: the first set's alone, both sets', the second's alone. What an operation keeps is some of these. */
@@ -60,7 +60,7 @@ static void begin(Both *both, const Words *first, const Words *second)
     take(&both->second, 0, PAGE);
 }
 
-/* Goes past the next key of one set, which the other lacks; where such keys aren't wanted, past all that lie below the other's next. */
+/* Goes past the next key of one set, which the other lacks; where such aren't wanted, past all below the other's. */
 static void pass(Walk *walk, const Walk *other, bool are_wanted)
 {
     if (are_wanted)
@@ -138,12 +138,12 @@ static bool put_keys(Words *self, const uint64_t *keys, size_t count)
     return n == count;
 }
 
-/* Makes a set what is wanted of it and another, key by key: what goes are keys of both, what comes are the other's alone. */
+/* Makes a set what is wanted of it and another, key by key: what goes is some of both, what comes the other's alone. */
 static bool change(Words *self, const Words *other, int wanted)
 {
     Gathered gone = {NULL, 0, 0}, come = {NULL, 0, 0};
-    bool changed = gather_wanted(&gone, self, other, BOTH & ~wanted) && gather_wanted(&come, self, other, SECOND & wanted) &&
-                   put_keys(self, come.words, come.count);
+    bool changed = gather_wanted(&gone, self, other, BOTH & ~wanted) &&
+                   gather_wanted(&come, self, other, SECOND & wanted) && put_keys(self, come.words, come.count);
     if (changed)
         remove_keys(self, gone.words, gone.count);
     count_changes(self, 1, 0);
@@ -185,12 +185,14 @@ static bool read_wanted(PyObject *object, int *wanted)
     return true;
 }
 
-PyObject *set_combine(PyObject *object, PyTypeObject *sets, PyObject *const *arguments, Py_ssize_t count, PyObject *keywords)
+PyObject *set_combine(PyObject *object, PyTypeObject *sets, PyObject *const *arguments, Py_ssize_t count,
+                      PyObject *keywords)
 {
     int wanted;
     if (count != 3 || keywords)
         return PyErr_Format(PyExc_TypeError, "_combine takes whose keys are wanted, and two sets");
-    Words *self = (Words *)object, *first = read_set(sets, arguments[1]), *second = first ? read_set(sets, arguments[2]) : NULL;
+    Words *self = (Words *)object, *first = read_set(sets, arguments[1]);
+    Words *second = first ? read_set(sets, arguments[2]) : NULL;
     if (!second || !read_wanted(arguments[0], &wanted))
         return NULL;
     bool by_key = self == first && (wanted & FIRST) && count_of(second) < count_of(first) / MANY;
@@ -199,7 +201,8 @@ PyObject *set_combine(PyObject *object, PyTypeObject *sets, PyObject *const *arg
     Py_RETURN_NONE;
 }
 
-PyObject *set_has_any(PyObject *object, PyTypeObject *sets, PyObject *const *arguments, Py_ssize_t count, PyObject *keywords)
+PyObject *set_has_any(PyObject *object, PyTypeObject *sets, PyObject *const *arguments, Py_ssize_t count,
+                      PyObject *keywords)
 {
     int wanted;
     if (count != 2 || keywords)

@@ -54,7 +54,8 @@ PyObject *words_fill(PyObject *object, PyObject *items);
 PyObject *set_pick(PyObject *object, PyObject *items);
 
 /* `_copy` makes a map one of another's pairs. `maps` is the type of maps. */
-PyObject *map_copy(PyObject *object, PyTypeObject *maps, PyObject *const *arguments, Py_ssize_t count, PyObject *keywords);
+PyObject *map_copy(PyObject *object, PyTypeObject *maps, PyObject *const *arguments, Py_ssize_t count,
+                   PyObject *keywords);
 PyObject *words_make(PyObject *object, PyObject *items);
 
 /* word_groups.c: keys that are looked up many at a time. */
@@ -78,9 +79,12 @@ bool append_new(PyObject *list, PyObject *object);
 /* What is told of the keys of an iterable, in a list. */
 PyObject *look_up_many(PyObject *object, PyObject *keys, Append *append_told);
 
-/* word_sets.c: `_combine` makes a set what is wanted of two others, and `_has_any` tells whether that is any key. `sets` is the type of sets. */
-PyObject *set_combine(PyObject *object, PyTypeObject *sets, PyObject *const *arguments, Py_ssize_t count, PyObject *keywords);
-PyObject *set_has_any(PyObject *object, PyTypeObject *sets, PyObject *const *arguments, Py_ssize_t count, PyObject *keywords);
+/* word_sets.c: `_combine` makes a set what is wanted of two others, and `_has_any` tells whether that is any key.
+ * `sets` is the type of sets. */
+PyObject *set_combine(PyObject *object, PyTypeObject *sets, PyObject *const *arguments, Py_ssize_t count,
+                      PyObject *keywords);
+PyObject *set_has_any(PyObject *object, PyTypeObject *sets, PyObject *const *arguments, Py_ssize_t count,
+                      PyObject *keywords);
 
 /* A cursor over the keys of `words` from one word to another, both included; it holds a reference to the array. */
 PyObject *new_word_cursor(PyTypeObject *type, Words *words, enum part part, uint64_t low, uint64_t high, bool reverse);

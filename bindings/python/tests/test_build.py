@@ -1,4 +1,5 @@
-"""The package is built by the hooks that pip calls, from a source distribution too, and a build that can't make the extension fails by a sentence."""
+"""The package is built by the hooks that pip calls, from a source distribution too, and a build that can't make the
+extension fails by a sentence."""
 
 import email.parser
 import glob
@@ -17,7 +18,16 @@ FOLDER = os.path.abspath(os.path.join(os.path.dirname(__file__), ".."))
 TEXTS = [f"{FOLDER}/compiled/sellumaq.s", f"{FOLDER}/../../compiled/sellumaq.s"]
 HEADER = os.path.join(sysconfig.get_path("include"), "Python.h")
 
-FREE_THREADED = "import sysconfig; told = sysconfig.get_config_var; sysconfig.get_config_var = lambda name: name == 'Py_GIL_DISABLED' or told(name)"
+# What a build is asked by, and a program that tries what it made.
+VARIABLES = ("CC", "CFLAGS", "CPPFLAGS", "LDFLAGS", "LD_PRELOAD", "PYTHONPATH", "SELLUMAQ_BINDING", "SELLUMAQ_LIB")
+CALL = "import sys; sys.path.insert(0, sys.argv[1]); import build_package as it; print(getattr(it, sys.argv[2])(sys.argv[3]))"
+TRIAL = "import sys; sys.path.insert(0, sys.argv[1]); import sellumaq as it; print(it.BINDING, it.Judy1([2, 1]), it.__file__)"
+# Makes Python one of another kind.
+FREE_THREADED = (
+    "import sysconfig; told = sysconfig.get_config_var\n"
+    "sysconfig.get_config_var = lambda name: name == 'Py_GIL_DISABLED' or told(name)"
+)
+WITHOUT_HEADER = "import sysconfig; sysconfig.get_path = lambda _: '/nowhere'"
 
 
 def why_not():
@@ -33,15 +43,13 @@ def why_not():
 
 def quiet(**changes):
     """The environment without what a build asks of it and what refuses memory, and with some changes."""
-    kept = {name: value for name, value in os.environ.items() if name not in ("CC", "CFLAGS", "CPPFLAGS", "LDFLAGS", "LD_PRELOAD", "PYTHONPATH", "SELLUMAQ_BINDING", "SELLUMAQ_LIB")}
-    return kept | changes
+    return {name: value for name, value in os.environ.items() if name not in VARIABLES} | changes
 
 
 def run(program, *words, **changes):
     """Runs a Python program in the folder of the package."""
-    return subprocess.run(
-        [sys.executable, "-B", "-c", program, *words], cwd=FOLDER, env=quiet(**changes), stdout=subprocess.PIPE, stderr=subprocess.PIPE, encoding="utf-8", timeout=300
-    )
+    command = [sys.executable, "-B", "-c", program, *words]
+    return subprocess.run(command, cwd=FOLDER, env=quiet(**changes), capture_output=True, encoding="utf-8", timeout=300)
 
 
 @unittest.skipIf(why_not(), why_not())
@@ -52,7 +60,7 @@ class Builds(unittest.TestCase):
 
     def hook(self, name, folder, target):
         """What a hook of the package in a folder leaves."""
-        ran = run("import sys; sys.path.insert(0, sys.argv[1]); import build_package; print(getattr(build_package, sys.argv[2])(sys.argv[3]))", folder, name, target)
+        ran = run(CALL, folder, name, target)
         self.assertEqual((ran.returncode, ran.stderr), (0, ""))
         return os.path.join(target, ran.stdout.strip())
 
@@ -61,7 +69,8 @@ class Builds(unittest.TestCase):
         with tarfile.open(archive) as packed:
             packed.extractall(self.room)
         unpacked = archive[: -len(".tar.gz")]
-        for name in ("compiled/sellumaq.s", "compiled/system.c", "src/sellumaq.h", "src/module.c", "sellumaq/__init__.py", "pyproject.toml", "PKG-INFO"):
+        named = "compiled/sellumaq.s compiled/system.c src/sellumaq.h src/module.c sellumaq/__init__.py pyproject.toml PKG-INFO"
+        for name in named.split():
             self.assertTrue(os.path.exists(f"{unpacked}/{name}"), name)
         wheel = self.hook("build_wheel", unpacked, self.room)
         self.try_wheel(wheel)
@@ -83,13 +92,13 @@ class Builds(unittest.TestCase):
         with open(f"{info}/RECORD", encoding="utf-8") as file:
             self.assertEqual([line.split(",")[0] for line in file], names)
         # No library is named, and yet it is imported.
-        program = "import sys; sys.path.insert(0, sys.argv[1]); import sellumaq; print(sellumaq.BINDING, list(sellumaq.Judy1([2, 1])), sellumaq.__file__)"
-        ran = run(program, f"{self.room}/installed", SELLUMAQ_LIBRARY="/nowhere")
-        self.assertEqual((ran.stdout, ran.stderr), (f"extension [1, 2] {self.room}/installed/sellumaq/__init__.py\n", ""))
+        ran = run(TRIAL, f"{self.room}/installed", SELLUMAQ_LIBRARY="/nowhere")
+        told = f"extension Judy1([1, 2]) {self.room}/installed/sellumaq/__init__.py\n"
+        self.assertEqual((ran.stdout, ran.stderr), (told, ""))
 
     def refused(self, because, before="", **changes):
         """A build that fails tells why in one line, and leaves nothing."""
-        program = f"import sys; sys.path.insert(0, '.'); import build_package\n{before}\nbuild_package.build_wheel(sys.argv[1])"
+        program = f"import sys; sys.path.insert(0, '.')\n{before}\nimport build_package as it; it.build_wheel(sys.argv[1])"
         ran = run(program, self.room, **changes)
         self.assertEqual((ran.returncode, ran.stdout, os.listdir(self.room)), (1, "", []))
         self.assertIn(because, ran.stderr.splitlines()[-1])
@@ -99,7 +108,7 @@ class Builds(unittest.TestCase):
         for because, before, changes in (
             ("sellumaq isn't built: there is no C compiler no-compiler here", "", {"CC": "no-compiler"}),
             ("sellumaq isn't built: there is no C compiler cc here", "", {"PATH": "/nowhere"}),
-            ("sellumaq isn't built: Python.h isn't in /nowhere", "import sysconfig; sysconfig.get_path = lambda _: '/nowhere'", {}),
+            ("sellumaq isn't built: Python.h isn't in /nowhere", WITHOUT_HEADER, {}),
             ("sellumaq isn't built: CPython 3.11 or later is needed", "sys.version_info = (3, 10, 13)", {}),
             ("sellumaq isn't built: this Python is free-threaded", FREE_THREADED, {}),
             ("this Python is one of 64 bits for linux-aarch64", "", {"_PYTHON_HOST_PLATFORM": "linux-aarch64"}),

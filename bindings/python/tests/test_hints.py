@@ -75,13 +75,14 @@ class Counted(JudyL):
 assert_type(Counted().copy(), Counted)
 """
 
-# What mypy's comparison of hints with what is there passes over: the modules that `_native.pyi` and `__init__.pyi` stand for, and overloads,
-# whose arguments some versions take for others than positional.
+# What mypy's comparison of hints with what is there passes over: the modules that `_native.pyi` and `__init__.pyi` stand
+# for, and overloads, whose arguments some versions take for others than positional.
 PASSED_OVER = r"""
 sellumaq\._(core|fallback|maps|places|strings|views|words)(\..*)?
 .*\.(get|pop)
 """
-LOOSE = "[mypy]\n[mypy-sellumaq._core,sellumaq._fallback,sellumaq._maps,sellumaq._places,sellumaq._strings,sellumaq._views,sellumaq._words]\nignore_errors = True\n"
+WITHIN = [f"sellumaq._{name}" for name in ("core", "fallback", "maps", "places", "strings", "views", "words")]
+LOOSE = f"[mypy]\n[mypy-{','.join(WITHIN)}]\nignore_errors = True\n"
 
 
 def command(name, module):
@@ -109,12 +110,14 @@ class Names(unittest.TestCase):
     def test_of_the_extension(self):
         native = sys.modules["sellumaq._native"]
         for name in ("WordSet", "WordMap", "TextMap", "BytesMap", "TextHash", "BytesHash"):
-            self.assertEqual((name, self.hinted("_native.pyi", name)), (name, set(dir(getattr(native, name))) - set(dir(object)) - {"__module__"}))
+            there = set(dir(getattr(native, name))) - set(dir(object)) - {"__module__"}
+            self.assertEqual((name, self.hinted("_native.pyi", name)), (name, there))
 
     def test_of_the_package(self):
         for name in ("Judy1", "JudyL", "JudySL", "JudySLBytes", "JudyHS", "JudyHSBytes"):
             there = {it for it in dir(getattr(sellumaq, name)) if not it.startswith("_")}
-            self.assertEqual((name, {it for it in self.hinted("__init__.pyi", name) if not it.startswith("_")}), (name, there))
+            hinted = {it for it in self.hinted("__init__.pyi", name) if not it.startswith("_")}
+            self.assertEqual((name, hinted), (name, there))
 
 
 @unittest.skipUnless(sellumaq.BINDING == "extension", "the hints are of the extension")
@@ -131,17 +134,19 @@ class ByMypy(unittest.TestCase):
         for name, text in files.items():
             with open(f"{self.room}/{name}", "w", encoding="utf-8") as file:
                 file.write(text)
-        told = quiet(MYPYPATH=os.path.dirname(PACKAGE), PYTHONPATH=os.path.dirname(PACKAGE), MYPY_CACHE_DIR=f"{self.room}/cache")
+        folder = os.path.dirname(PACKAGE)
+        told = quiet(MYPYPATH=folder, PYTHONPATH=folder, MYPY_CACHE_DIR=f"{self.room}/cache")
         words = [word.format(room=self.room) for word in words]
-        ran = subprocess.run(words, cwd=self.room, env=told, stdout=subprocess.PIPE, stderr=subprocess.STDOUT, encoding="utf-8", timeout=300)
-        self.assertEqual((ran.returncode, "" if ran.returncode == 0 else ran.stdout), (0, ""))
+        ran = subprocess.run(words, cwd=self.room, env=told, capture_output=True, encoding="utf-8", timeout=300)
+        self.assertEqual((ran.returncode, "" if ran.returncode == 0 else ran.stdout + ran.stderr), (0, ""))
 
     def test_a_program(self):
-        self.passes([*command("mypy", "mypy"), "--strict", "--python-version", "3.11", "{room}/program"], program=PROGRAM)
+        words = ["--strict", "--python-version", "3.11", "{room}/program"]
+        self.passes([*command("mypy", "mypy"), *words], program=PROGRAM)
 
     def test_that_the_hints_are_of_what_is_there(self):
-        words = ["--concise", "--allowlist", "{room}/passed", "--ignore-unused-allowlist", "--mypy-config-file", "{room}/loose", "sellumaq"]
-        self.passes([*command("stubtest", "mypy.stubtest"), *words], passed=PASSED_OVER, loose=LOOSE)
+        words = ["--allowlist", "{room}/passed", "--ignore-unused-allowlist", "--mypy-config-file", "{room}/loose"]
+        self.passes([*command("stubtest", "mypy.stubtest"), "--concise", *words, "sellumaq"], passed=PASSED_OVER, loose=LOOSE)
 
 
 if __name__ == "__main__":
