@@ -15,7 +15,7 @@ proved to answer as a plain finite set or map does.
 and its keys are any str. `JudySLBytes` and `JudyHSBytes` are the same with bytes as keys.
 
 `BINDING` says by what: `extension`, which has the library in it, or `ctypes`, where that wasn't built. Then the library is found as
-libsellumaq.so.0, or where the environment's SELLUMAQ_LIBRARY names its file; SELLUMAQ_BINDING names the one that is wanted. Threads may share
+libsellumaq.so.1, or where the environment's SELLUMAQ_LIBRARY names its file; SELLUMAQ_BINDING names the one that is wanted. Threads may share
 an array: each call is whole before another begins.
 """
 
@@ -24,4 +24,4 @@ from ._strings import JudyHS, JudyHSBytes, JudySL, JudySLBytes
 from ._words import Judy1, JudyL
 
 __all__ = ["BINDING", "MAX", "MAX_KEY", "Judy1", "JudyHS", "JudyHSBytes", "JudyL", "JudySL", "JudySLBytes"]
-__version__ = "0.1.0"
+__version__ = "1.0.0.dev0"

@@ -17,7 +17,12 @@ MAX_KEY = 1024
 KEYS, VALUES, ITEMS = range(3)
 FIRST, BOTH, SECOND = 1, 2, 4
 
-_library = ctypes.PyDLL(os.environ.get("SELLUMAQ_LIBRARY", "libsellumaq.so.0"))
+try:
+    _library = ctypes.PyDLL(os.environ.get("SELLUMAQ_LIBRARY", "libsellumaq.so.1"))
+except OSError as why:
+    told = f"sellumaq has no extension here and finds no shared library, which SELLUMAQ_LIBRARY may name: {why}"
+    raise ImportError(told) from None
+
 _word = ctypes.c_uint64
 _slot = ctypes.POINTER(_word)
 _key = (ctypes.c_char_p, ctypes.c_size_t)

@@ -2,6 +2,7 @@
 
 import copy
 import gc
+import os
 import pickle
 import signal
 import subprocess
@@ -326,6 +327,12 @@ class ReEntry(unittest.TestCase):
         )
         ran = subprocess.run([sys.executable, "-c", program], stdout=subprocess.PIPE, encoding="utf-8", timeout=60)
         self.assertEqual((ran.returncode, ran.stdout), (0, "3 {'the module sellumaq._native is gone'}\n"))
+
+    def test_a_shared_library_that_is_missing(self):
+        told = {**os.environ, "SELLUMAQ_BINDING": "ctypes", "SELLUMAQ_LIBRARY": "/nowhere"}
+        ran = subprocess.run([sys.executable, "-c", "import sellumaq"], env=told, stderr=subprocess.PIPE, encoding="utf-8", timeout=60)
+        self.assertEqual(ran.returncode, 1)
+        self.assertIn("ImportError: sellumaq has no extension here and finds no shared library", ran.stderr)
 
     def test_an_interrupted_program_ends_by_its_interrupt(self):
         program = (
