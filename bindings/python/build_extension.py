@@ -7,6 +7,7 @@ import shutil
 import subprocess
 import sys
 import sysconfig
+import tempfile
 
 HERE = os.path.dirname(os.path.abspath(__file__))
 SOURCES = os.path.join(HERE, "src")
@@ -97,22 +98,30 @@ def check_import(target):
         raise Unbuilt(f"the extension can't be imported: {told[-1]}")
 
 
+def run(command):
+    if subprocess.run(command, check=False).returncode:
+        raise Unbuilt(f"the C compiler {command[0]} fails, as it tells above")
+
+
+def objects_of(sources, room, compile_):
+    """The objects of sources, in a folder. The extension tells of them by their names, which are the same in each build."""
+    objects = [os.path.join(room, f"{os.path.basename(path)}.o") for path in sources]
+    for path, made in zip(sources, objects):
+        run([*compile_, "-c", path, "-o", made])
+    return objects
+
+
 def build_extension(target, folder=None):
     """Builds the extension, with the library of a folder, or else of the compiled text. Where it can't be made there is
     none, and Unbuilt says why."""
     check_python()
     check_machine()
-    linked = [find_library(folder)] if folder else find_text()
+    text, libraries = ([], [find_library(folder)]) if folder else (find_text(), [])
     headers = [f"-I{find_python_header()}", f"-I{find_header()}"]
-    compiler = find_compiler()
+    compile_ = [*find_compiler(), *FLAGS, *headers, *asked_for("CPPFLAGS", "CFLAGS")]
     sources = sorted(os.path.join(SOURCES, name) for name in os.listdir(SOURCES) if name.endswith(".c"))
-    flags = [*FLAGS, *headers, *asked_for("CPPFLAGS", "CFLAGS")]
-    command = [*compiler, *flags, *sources, *linked, *LINKED, *asked_for("LDFLAGS"), "-o", target]
-    try:
-        if subprocess.run(command, check=False).returncode:
-            raise Unbuilt(f"the C compiler {compiler[0]} fails, as it tells above")
-        check_import(target)
-    except Unbuilt:
-        if os.path.exists(target):
-            os.remove(target)
-        raise
+    with tempfile.TemporaryDirectory() as room:
+        objects, made = objects_of([*sources, *text], room, compile_), os.path.join(room, "made.so")
+        run([*compile_, *objects, *libraries, *LINKED, *asked_for("LDFLAGS"), "-o", made])
+        check_import(made)
+        shutil.move(made, target)
