@@ -1,28 +1,37 @@
-"""Builds the package: the extension by the C compiler, and by the hooks of PEP 517 a wheel or a source distribution.
+"""Builds the package, for which a C compiler and Python's headers are enough: by the hooks of PEP 517 a wheel or a
+source distribution, and by
 
     python3 build_package.py LIBRARY FOLDER
 
-leaves the package under FOLDER, ready to be imported, with the library in LIBRARY, the folder of libsellumaq.a. The hooks find that folder by
-the environment's SELLUMAQ_LIB, in the repository, or by pkg-config. Where there is no library, no compiler or no Python.h, or Python is older than
-3.11, the package has no extension and goes by ctypes.
+the package under FOLDER, ready to be imported, with the library in LIBRARY, the folder of libsellumaq.a.
+
+The hooks make the extension of the library's compiled text, which the repository and a source distribution hold, or,
+where the environment's SELLUMAQ_LIB names a folder of libsellumaq.a, with that. They fail where it can't be made: a
+package without it goes by ctypes and needs a shared library, which pip doesn't install. The command leaves that package
+then, for an installation that has the shared library too.
 """
 
 import base64
+import gzip
 import hashlib
+import io
 import os
 import re
-import shlex
 import shutil
-import subprocess
 import sys
-import sysconfig
 import tarfile
 import tempfile
 import zipfile
 
-HERE = os.path.dirname(os.path.abspath(__file__))
+from build_extension import HERE, Unbuilt, build_extension, find_header, find_text
+from platform_tag import platform_of
+
 EXTENSION = "_native.abi3.so"
-PACKED = ["pyproject.toml", "build_package.py", "README.md", "sellumaq", "src"]
+SCRIPTS = ["build_package.py", "build_extension.py", "platform_tag.py"]
+PACKED = ["pyproject.toml", *SCRIPTS, "README.md", "sellumaq", "src", "tests"]
+
+# When a wheel says that a file was changed, so that the same files make the same wheel: the first moment it can tell.
+MOMENT = (1980, 1, 1, 0, 0, 0)
 
 
 def field(name):
@@ -31,55 +40,12 @@ def field(name):
         return re.search(rf'^{name} = "(.*)"$', file.read(), re.MULTILINE)[1]
 
 
-def told_by_pkg_config(words):
-    try:
-        told = subprocess.run(["pkg-config", *words, "sellumaq"], stdout=subprocess.PIPE, stderr=subprocess.DEVNULL, encoding="utf-8", check=True)
-    except (OSError, subprocess.CalledProcessError):
-        return ""
-    return told.stdout.strip()
-
-
-def find_library():
-    """The folder of libsellumaq.a, or None."""
-    folders = [os.environ.get("SELLUMAQ_LIB"), os.path.join(HERE, "../../out/lib"), told_by_pkg_config(["--variable=libdir"])]
-    return next((folder for folder in folders if folder and os.path.exists(os.path.join(folder, "libsellumaq.a"))), None)
-
-
-def find_header():
-    folders = [os.path.join(HERE, "../c"), os.path.join(HERE, "src"), *re.findall(r"-I(\S+)", told_by_pkg_config(["--cflags"])), "/usr/local/include"]
-    return next((folder for folder in folders if os.path.exists(os.path.join(folder, "sellumaq.h"))), None)
-
-
-def build_extension(library, target):
-    """Builds the extension with the library in it, whose names stay its own; whether it is there then."""
-    python, header = sysconfig.get_path("include"), find_header()
-    compiler = shlex.split(os.environ.get("CC", "cc"))
-    missing = (
-        "a Python of 3.11 or later" if sys.version_info < (3, 11)
-        else "libsellumaq.a" if library is None
-        else "sellumaq.h" if header is None
-        else "Python.h" if not os.path.exists(os.path.join(python, "Python.h"))
-        else compiler[0] if not shutil.which(compiler[0])
-        else None
-    )
-    if missing:
-        print(f"no {missing} here: the Python package has no extension and goes by ctypes")
-        return False
-    sources = sorted(os.path.join(HERE, "src", name) for name in os.listdir(os.path.join(HERE, "src")) if name.endswith(".c"))
-    flags = ["-std=c11", "-O2", "-Wall", "-Wextra", "-fPIC", "-fvisibility=hidden", "-shared", f"-I{python}", f"-I{header}"]
-    archive = os.path.join(library, "libsellumaq.a")
-    built = subprocess.run([*compiler, *flags, *sources, archive, "-Wl,--exclude-libs,ALL", "-o", target], check=False)
-    if built.returncode:
-        print("the extension doesn't build here: the Python package goes by ctypes")
-    return built.returncode == 0
-
-
-def build_package(library, folder):
-    """Leaves the package under a folder; whether the extension is in it."""
+def copy_package(folder):
+    """Leaves the package's own files under a folder, and answers where."""
     package = os.path.join(folder, "sellumaq")
     shutil.rmtree(package, ignore_errors=True)
     shutil.copytree(os.path.join(HERE, "sellumaq"), package, ignore=shutil.ignore_patterns("__pycache__", "*.so"))
-    return build_extension(library, os.path.join(package, EXTENSION))
+    return package
 
 
 def metadata():
@@ -90,44 +56,98 @@ def metadata():
         )
 
 
+def read_all(folder):
+    """The bytes of a folder's files by their names."""
+    found = {}
+    for name in sorted(os.listdir(folder)):
+        with open(os.path.join(folder, name), "rb") as file:
+            found[name] = file.read()
+    return found
+
+
+def write_wheel(path, files):
+    with zipfile.ZipFile(path, "w", zipfile.ZIP_DEFLATED) as packed:
+        for name, data in files.items():
+            entry = zipfile.ZipInfo(name, MOMENT)
+            entry.external_attr, entry.compress_type = 0o100644 << 16, zipfile.ZIP_DEFLATED
+            packed.writestr(entry, data)
+
+
 def build_wheel(wheel_directory, config_settings=None, metadata_directory=None):
     """PEP 517's hook: leaves the wheel in a folder, and answers its name."""
     with tempfile.TemporaryDirectory() as room:
-        has_extension = build_package(find_library(), room)
-        platform = sysconfig.get_platform().replace("-", "_").replace(".", "_")
-        tag = f"cp311-abi3-{platform}" if has_extension else "py3-none-any"
-        name, info = f"sellumaq-{field('version')}-{tag}.whl", f"sellumaq-{field('version')}.dist-info"
-        wheel = f"Wheel-Version: 1.0\nGenerator: sellumaq\nRoot-Is-Purelib: {str(not has_extension).lower()}\nTag: {tag}\n"
-        files = {f"{info}/METADATA": metadata().encode(), f"{info}/WHEEL": wheel.encode()}
-        for file in sorted(os.listdir(f"{room}/sellumaq")):
-            with open(f"{room}/sellumaq/{file}", "rb") as opened:
-                files[f"sellumaq/{file}"] = opened.read()
-        record = "".join(f"{path},sha256={digest(data)},{len(data)}\n" for path, data in files.items()) + f"{info}/RECORD,,\n"
-        with zipfile.ZipFile(os.path.join(wheel_directory, name), "w", zipfile.ZIP_DEFLATED) as packed:
-            for path, data in {**files, f"{info}/RECORD": record.encode()}.items():
-                packed.writestr(path, data)
+        package = copy_package(room)
+        build_or_end(os.path.join(package, EXTENSION), os.environ.get("SELLUMAQ_LIB"))
+        tag = f"cp311-abi3-{platform_of(os.path.join(package, EXTENSION))}"
+        files = {f"sellumaq/{name}": data for name, data in read_all(package).items()}
+    info = f"sellumaq-{field('version')}.dist-info"
+    files[f"{info}/METADATA"] = metadata().encode()
+    files[f"{info}/WHEEL"] = f"Wheel-Version: 1.0\nGenerator: sellumaq\nRoot-Is-Purelib: false\nTag: {tag}\n".encode()
+    record = [f"{path},sha256={digest(data)},{len(data)}\n" for path, data in files.items()] + [f"{info}/RECORD,,\n"]
+    name = f"sellumaq-{field('version')}-{tag}.whl"
+    write_wheel(os.path.join(wheel_directory, name), files | {f"{info}/RECORD": "".join(record).encode()})
     return name
+
+
+def build_or_end(target, library):
+    try:
+        build_extension(target, library)
+    except Unbuilt as why:
+        sys.exit(
+            f"sellumaq isn't built: {why}; without the extension the package would go by ctypes and need the shared "
+            "library, which `make install` installs and pip doesn't"
+        )
 
 
 def digest(data):
     return base64.urlsafe_b64encode(hashlib.sha256(data).digest()).rstrip(b"=").decode()
 
 
+def plain(entry):
+    """What an archive says of a file, whoever packs it and when."""
+    entry.mtime, entry.uid, entry.gid, entry.uname, entry.gname = 0, 0, 0, "", ""
+    entry.mode = 0o755 if entry.isdir() else 0o644
+    return entry
+
+
+def own(entry):
+    """The same of the package's own files, without what Python left beside them, and without the header, which is
+    packed by itself."""
+    return None if "__pycache__" in entry.name or entry.name.endswith("/sellumaq.h") else plain(entry)
+
+
 def build_sdist(sdist_directory, config_settings=None):
-    """PEP 517's hook: leaves the source distribution in a folder, and answers its name. The C header goes with it, the library doesn't."""
-    base = f"sellumaq-{field('version')}"
-    with tarfile.open(os.path.join(sdist_directory, f"{base}.tar.gz"), "w:gz", format=tarfile.PAX_FORMAT) as packed:
+    """PEP 517's hook: leaves the source distribution in a folder, and answers its name. The library's compiled text and
+    the C header go with it."""
+    base, made = f"sellumaq-{field('version')}", io.BytesIO()
+    try:
+        text, header = find_text(), find_header()
+    except Unbuilt as why:
+        sys.exit(f"no source distribution of sellumaq is made: {why}.")
+    with tarfile.open(fileobj=made, mode="w", format=tarfile.PAX_FORMAT) as packed:
         for path in PACKED:
-            packed.add(os.path.join(HERE, path), f"{base}/{path}", filter=lambda it: None if "__pycache__" in it.name else it)
-        packed.add(os.path.join(find_header(), "sellumaq.h"), f"{base}/src/sellumaq.h")
-        with tempfile.NamedTemporaryFile("w", encoding="utf-8") as info:
-            info.write(metadata())
-            info.flush()
-            packed.add(info.name, f"{base}/PKG-INFO")
+            packed.add(os.path.join(HERE, path), f"{base}/{path}", filter=own)
+        for path in text:
+            packed.add(path, f"{base}/compiled/{os.path.basename(path)}", filter=plain)
+        packed.add(os.path.join(header, "sellumaq.h"), f"{base}/src/sellumaq.h", filter=plain)
+        info = metadata().encode()
+        entry = plain(tarfile.TarInfo(f"{base}/PKG-INFO"))
+        entry.size = len(info)
+        packed.addfile(entry, io.BytesIO(info))
+    with open(os.path.join(sdist_directory, f"{base}.tar.gz"), "wb") as file:
+        file.write(gzip.compress(made.getvalue(), mtime=0))
     return f"{base}.tar.gz"
+
+
+def main(library, folder):
+    package = copy_package(folder)
+    try:
+        build_extension(os.path.join(package, EXTENSION), library)
+    except Unbuilt as why:
+        print(f"the Python package has no extension and goes by ctypes: {why}")
 
 
 if __name__ == "__main__":
     if len(sys.argv) != 3:
         sys.exit(__doc__)
-    build_package(sys.argv[1], sys.argv[2])
+    main(*sys.argv[1:])

@@ -28,5 +28,8 @@ __all__ = ["BINDING", "BytesHash", "BytesMap", "TextHash", "TextMap", "WordMap",
 MAX = 2**64 - 1
 MAX_KEY = 1024
 
+# Whose keys an operation on two sets keeps: the first set's alone, those of both, the second's alone.
+FIRST, BOTH, SECOND = 1, 2, 4
+
 # What a cursor gives of a key.
 KEYS, VALUES, ITEMS = range(3)

@@ -15,8 +15,14 @@ if not getattr(sys, "_is_gil_enabled", lambda: True)():
 MAX = 2**64 - 1
 MAX_KEY = 1024
 KEYS, VALUES, ITEMS = range(3)
+FIRST, BOTH, SECOND = 1, 2, 4
 
-_library = ctypes.PyDLL(os.environ.get("SELLUMAQ_LIBRARY", "libsellumaq.so.1"))
+try:
+    _library = ctypes.PyDLL(os.environ.get("SELLUMAQ_LIBRARY", "libsellumaq.so.1"))
+except OSError as why:
+    told = f"sellumaq has no extension here and finds no shared library, which SELLUMAQ_LIBRARY may name: {why}"
+    raise ImportError(told) from None
+
 _word = ctypes.c_uint64
 _slot = ctypes.POINTER(_word)
 _key = (ctypes.c_char_p, ctypes.c_size_t)
@@ -82,12 +88,13 @@ def _ascending(pairs):
 class _Array:
     """What all kinds have alike. `_passed` is what C is given for a key, or None where the object can't be one."""
 
-    # An array keeps the calls of the kind that it was made as, also where its class is set to another.
-    __slots__ = ("_handle", "_calls")
+    # An array keeps the calls of the kind that it was made as, also where its class is set to another. Another object
+    # stands in `_changes` after each change of what a map holds.
+    __slots__ = ("_handle", "_calls", "_changes")
 
     def __new__(cls, *_, **__):
         self = super().__new__(cls)
-        self._handle, self._calls = _Handle(), cls._kind
+        self._handle, self._calls, self._changes = _Handle(), cls._kind, object()
         return self
 
     def __del__(self):
@@ -97,13 +104,19 @@ class _Array:
     def __len__(self):
         return self._calls["len"](self._handle)
 
+    def _change(self, call, *words):
+        """What a call answers that may change the array."""
+        told = self._calls[call](self._handle, *words)
+        self._changes = object()
+        return told
+
     def clear(self):
         """Takes every key out and gives the memory back."""
-        self._calls["free"](self._handle)
+        self._change("free")
 
     def _made(self, call, words, count, *strings):
         """Makes the array one of so many keys, of which a list of words tells."""
-        told = self._calls[call](self._handle, *strings, (_word * len(words))(*words), count, ctypes.c_size_t())
+        told = self._change(call, *strings, (_word * len(words))(*words), count, ctypes.c_size_t())
         if told == _FULL:
             raise OverflowError("the dict is full")
         if told not in _PUT:
@@ -125,10 +138,16 @@ class _Map(_Array):
         value = _word()
         if self._has("get", key, value):
             return value.value
+        if hasattr(type(self), "__missing__"):
+            return type(self).__missing__(self, key)
         raise KeyError(key)
 
+    def _take_out(self, key, value):
+        passed = self._passed(key)
+        return passed is not None and self._change("remove", *passed, value)
+
     def __delitem__(self, key):
-        if not self._has("remove", key, _word()):
+        if not self._take_out(key, _word()):
             raise KeyError(key)
 
     def get(self, key, default=None, /):
@@ -139,7 +158,7 @@ class _Map(_Array):
     def pop(self, key, default=_MISSING, /):
         """Takes a key out and answers its value, or the default."""
         value = _word()
-        if self._has("remove", key, value):
+        if self._take_out(key, value):
             return value.value
         if default is _MISSING:
             raise KeyError(key)
@@ -220,6 +239,7 @@ class WordSet(_Words):
     _kind = _word_calls("judy1", unset=(_word,), test=(_word,)) | {
         "set": _call("judy1_set", ctypes.c_uint32, _word),
         "from_keys": _call("judy1_from_sorted", ctypes.c_uint32, *_sorted),
+        "list_keys": _call("judy1_walk", ctypes.c_size_t, _word, _slot, ctypes.c_size_t),
     }
 
     def __contains__(self, key):
@@ -250,6 +270,32 @@ class WordSet(_Words):
         for key in keys:
             WordSet.add(self, key)
 
+    def _pick(self, keys):
+        for key in keys:
+            if WordSet._passed(key):
+                WordSet.add(self, key)
+
+    def _keys(self):
+        """All keys. One call tells them, so that none comes or goes meanwhile."""
+        while True:
+            room = _Array.__len__(self) + 1
+            keys = (_word * room)()
+            count = self._calls["list_keys"](self._handle, 0, keys, room)
+            if count < room:
+                return keys[:count]
+
+    def _wanted(self, wanted, second):
+        one, other = set(WordSet._keys(self)), set(WordSet._keys(second))
+        parts = (FIRST, one - other), (BOTH, one & other), (SECOND, other - one)
+        return sorted(key for whose, keys in parts if wanted & whose for key in keys)
+
+    def _combine(self, wanted, first, second):
+        keys = WordSet._wanted(first, wanted, second)
+        self._made("from_keys", keys, len(keys))
+
+    def _has_any(self, wanted, second):
+        return bool(WordSet._wanted(self, wanted, second))
+
     def _make(self, keys):
         words = [key for key, _ in _ascending((_checked(key), None) for key in keys)]
         self._made("from_keys", words, len(words))
@@ -270,6 +316,9 @@ class WordMap(_Words, _Map):
 
     def _pair_at(self, place):
         return self._told_at(place, "by_count_entry", _word(), _word())
+
+    def _copy(self, other):
+        WordMap._make(self, WordMap._cursor(other, ITEMS, 0, MAX, False))
 
     def get_many(self, keys, /):
         """The values of the keys of an iterable, in a list, with None where one isn't there."""
@@ -296,7 +345,7 @@ class _Strings(_Map):
 
     def __setitem__(self, key, value):
         word, string = _checked(value), self._bytes(key)
-        told = self._calls["put"](self._handle, string, len(string), word)
+        told = self._change("put", string, len(string), word)
         if told == _BAD_KEY:
             raise _bad_key(key)
         if told == _FULL:
@@ -335,11 +384,22 @@ def _could_be_key(string):
     return key, len(key) == len(string)
 
 
+class _Entry(ctypes.Structure):
+    _fields_ = [("length", ctypes.c_size_t), ("value", _word)]
+
+
+_entries = ctypes.POINTER(_Entry)
+
+# How many pairs a walk through strings takes at most, and how many bytes their keys have then.
+_PAIRS, _ROOM = 64, 2 * MAX_KEY
+
+
 class _OrderedStrings(_Strings):
     _kind = _string_calls("judysl", "first", "next", "last", "prev") | {
         "count": _call("judysl_count", _word, *_key, *_key),
         "by_count": _call("judysl_by_count", ctypes.c_uint32, _word, *_buffer),
         "from_strings": _call("judysl_from_sorted", ctypes.c_uint32, *_key, *_sorted),
+        "walk": _call("judysl_walk", ctypes.c_size_t, *_key, ctypes.c_bool, *_key, _entries, ctypes.c_size_t),
     }
 
     def _begin(self, _):
@@ -354,9 +414,14 @@ class _OrderedStrings(_Strings):
             yield string, word
 
     def _make(self, pairs):
-        told = list(_ascending(self._read(pairs)))
-        text = b"".join(string for string, _ in told)
-        self._made("from_strings", [word for string, value in told for word in (len(string), value)], len(told), text, len(text))
+        self._become(list(_ascending(self._read(pairs))))
+
+    def _copy(self, other):
+        self._become(list(_OrderedStrings._up(other, None)))
+
+    def _become(self, pairs):
+        text, entries = b"".join(key for key, _ in pairs), [word for key, value in pairs for word in (len(key), value)]
+        self._made("from_strings", entries, len(pairs), text, len(text))
 
     def bisect_left(self, string):
         """How many keys there are below a string."""
@@ -379,17 +444,41 @@ class _OrderedStrings(_Strings):
         raise IndexError(f"no key at place {place!r}")
 
     def _cursor(self, part, low, high, reverse):
-        bound = high if reverse else low
-        start, is_all = _could_be_key(bound) if bound is not None else (b"\xff" * MAX_KEY if reverse else b"", True)
-        beyond = "prev" if reverse else "next"
-        scan = "last" if reverse else "first" if is_all else "next"
+        for key, value in self._down(high) if reverse else self._up(low):
+            if (low is not None and key < low) if reverse else (high is not None and key > high):
+                return
+            yield value if part == VALUES else self._object(key) if part == KEYS else (self._object(key), value)
+
+    def _down(self, bound):
+        """Pairs from a bound down. Each step is a search beside the key given last."""
+        start, scan = b"\xff" * MAX_KEY if bound is None else _could_be_key(bound)[0], "last"
         key, length, value = ctypes.create_string_buffer(start, MAX_KEY), ctypes.c_size_t(len(start)), _word()
         while self._calls[scan](self._handle, key, MAX_KEY, length, value) == _FOUND:
-            found = ctypes.string_at(key, length.value)
-            if (low is not None and found < low) if reverse else (high is not None and found > high):
+            yield ctypes.string_at(key, length.value), value.value
+            scan = "prev"
+
+    def _up(self, bound):
+        """Pairs from a bound up. A call tells many at a time, and the next ones anew where the map has changed."""
+        (last, itself), most = _could_be_key(bound or b""), 1
+        while True:
+            changes, pairs = self._changes, self._page(last, itself, most)
+            for last, value in pairs:
+                itself = False
+                yield last, value
+                if self._changes is not changes:
+                    break
+            if not pairs:
                 return
-            yield value.value if part == VALUES else self._object(found) if part == KEYS else (self._object(found), value.value)
-            scan = beyond
+            most = 1 if self._changes is not changes else min(8 * most, _PAIRS)
+
+    def _page(self, key, itself, most):
+        """The first pairs from a key on, or behind it."""
+        text, entries, at = ctypes.create_string_buffer(_ROOM), (_Entry * most)(), 0
+        count, pairs = self._calls["walk"](self._handle, key, len(key), itself, text, _ROOM, entries, most), []
+        for entry in entries[:count]:
+            pairs.append((text[at : at + entry.length], entry.value))
+            at += entry.length
+        return pairs
 
 
 class TextMap(_Text, _OrderedStrings):
@@ -398,10 +487,6 @@ class TextMap(_Text, _OrderedStrings):
 
 class BytesMap(_Bytes, _OrderedStrings):
     pass
-
-
-class _Entry(ctypes.Structure):
-    _fields_ = [("length", ctypes.c_size_t), ("value", _word)]
 
 
 class _Hash(_Strings):

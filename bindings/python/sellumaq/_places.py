@@ -6,6 +6,7 @@ from collections.abc import Iterable, Iterator
 from typing import Any
 
 from . import _views
+from ._core import ITEMS
 from ._maps import pairs_of
 
 
@@ -77,7 +78,18 @@ class Placed:
 
 
 class PlacedDict(Placed):
-    """The same of dicts."""
+    """The same of dicts. `_bound` is a key as a cursor takes it."""
+
+    def _some(self, part: int, place: slice) -> list[Any]:
+        """A part of the pairs of a slice."""
+        places = range(*place.indices(len(self)))
+        if not places:
+            return []
+        if abs(places.step) > 1:
+            pairs = [self._pair_at(each) for each in places]
+            return pairs if part == ITEMS else [pair[part] for pair in pairs]
+        low, high = (self._bound(self._at(each)) for each in sorted((places[0], places[-1])))
+        return list(self._cursor(part, low, high, places.step < 0))
 
     @classmethod
     def from_sorted(cls, pairs: Iterable[Any], /) -> Any:
@@ -90,6 +102,19 @@ class PlacedDict(Placed):
         made = cls()
         made._make(pairs_of(pairs))
         return made
+
+    def copy(self) -> Any:
+        """Another dict of the same pairs.
+
+        >>> from sellumaq import JudyL
+        >>> JudyL({1: 2}).copy()
+        JudyL({1: 2})
+        """
+        made = type(self)()
+        made._copy(self)
+        return made
+
+    __copy__ = copy
 
     def keys(self) -> _views.PlacedKeys:
         """The keys, with their places.

@@ -46,6 +46,9 @@ class _Ordered(PlacedDict, Copied, _Strings):
         super()._fill(self._begin(left))
         super()._fill(left)
 
+    def _bound(self, key: Any) -> bytes:
+        return self._encoded(key)
+
     def __iter__(self) -> Iterator[Any]:
         return self._cursor(KEYS, None, None, False)
 
@@ -90,10 +93,7 @@ class _Ordered(PlacedDict, Copied, _Strings):
 
     def _at(self, place: Any) -> Any:
         if isinstance(place, slice):
-            places = range(*place.indices(len(self)))
-            if not places or abs(places.step) > 1:
-                return [self._key_at(each) for each in places]
-            return list(self.irange(self._key_at(min(places)), self._key_at(max(places)), reverse=places.step < 0))
+            return self._some(KEYS, place)
         place = whole(place)
         if place in (0, -1):
             # No key is counted for these.

@@ -5,6 +5,10 @@ from __future__ import annotations
 from collections.abc import ItemsView, Iterable, Iterator, KeysView, Sequence, ValuesView
 from typing import Any
 
+from ._core import ITEMS, VALUES
+
+_MISSING = object()
+
 
 class Keys(KeysView):
     """A dict's keys, in order."""
@@ -29,6 +33,12 @@ class Items(ItemsView):
     def __reversed__(self) -> Iterator[tuple[Any, int]]:
         return self._mapping._items(True)
 
+    def __contains__(self, item: Any) -> bool:
+        # No `d[key]`, which a subclass's `__missing__` may answer.
+        key, value = item
+        found = self._mapping.get(key, _MISSING)
+        return found is not _MISSING and found == value
+
 
 class Values(ValuesView):
     """A dict's values, by the order of their keys."""
@@ -38,6 +48,9 @@ class Values(ValuesView):
 
     def __reversed__(self) -> Iterator[int]:
         return self._mapping._values(True)
+
+    def __contains__(self, value: object) -> bool:
+        return any(each == value for each in self)
 
 
 class _Placed:
@@ -67,7 +80,7 @@ class PlacedItems(_Placed, Items, Sequence):
 
     def __getitem__(self, place: Any) -> Any:
         if isinstance(place, slice):
-            return [(key, self._mapping[key]) for key in self._mapping._at(place)]
+            return self._mapping._some(ITEMS, place)
         return self._mapping._pair_at(place)
 
 
@@ -76,5 +89,5 @@ class PlacedValues(_Placed, Values, Sequence):
 
     def __getitem__(self, place: Any) -> Any:
         if isinstance(place, slice):
-            return [self._mapping[key] for key in self._mapping._at(place)]
+            return self._mapping._some(VALUES, place)
         return self._mapping._pair_at(place)[1]

@@ -4,12 +4,22 @@ from __future__ import annotations
 
 from collections.abc import Iterable, Iterator, MutableSet, Sequence, Set
 from operator import index as whole
-from typing import Any, SupportsIndex
+from typing import TYPE_CHECKING, Any, SupportsIndex
 
 from . import _core
-from ._core import ITEMS, KEYS, MAX, VALUES
+from ._core import BOTH, FIRST, ITEMS, KEYS, MAX, SECOND, VALUES
 from ._maps import Copied, Dict
 from ._places import Placed, PlacedDict
+
+if TYPE_CHECKING:
+    from typing_extensions import TypeGuard
+
+UNION, INTERSECTION, DIFFERENCE, SYMMETRIC_DIFFERENCE = FIRST | BOTH | SECOND, BOTH, FIRST, FIRST | SECOND
+
+
+def _is_set(other: object) -> TypeGuard[_core.WordSet]:
+    """Whether two sets can be walked side by side: as of Python's sets, whatever a subclass says of its items."""
+    return isinstance(other, _core.WordSet)
 
 
 class _Ordered:
@@ -56,7 +66,10 @@ class Judy1(_core.WordSet, _Ordered, Placed, MutableSet, Sequence):
     """
 
     def __init__(self, keys: Iterable[SupportsIndex] = ()) -> None:
-        if self and keys is not self:
+        if _is_set(keys):
+            self._combine(UNION, keys, keys)
+            return
+        if self:
             keys = list(keys)
             self.clear()
         self._fill(keys)
@@ -124,7 +137,37 @@ class Judy1(_core.WordSet, _Ordered, Placed, MutableSet, Sequence):
         Judy1([1, 2, 3])
         """
         for other in others:
-            self._fill(other)
+            if _is_set(other):
+                self._combine(UNION, self, other)
+            else:
+                self._fill(other)
+
+    @staticmethod
+    def _set_of(other: Iterable[Any], wanted: int) -> _core.WordSet:
+        """The set that an operation goes by for an iterable. What could be no key is passed over, unless the other's
+        keys are wanted by themselves."""
+        if _is_set(other):
+            return other
+        made = Judy1()
+        (made._fill if wanted & SECOND else made._pick)(other)
+        return made
+
+    def _kept(self, wanted: int, others: tuple[Iterable[Any], ...]) -> Judy1:
+        """What an operation keeps of this set and another, of that and the next, and so on. All are read first, which
+        may run any code."""
+        sets, made = [self._set_of(other, wanted) for other in others], Judy1()
+        made._combine(wanted if sets else UNION, self, sets[0] if sets else self)
+        for other in sets[1:]:
+            made._combine(wanted, made, other)
+        return made if type(self) is Judy1 else self._from_iterable(made)
+
+    def _keep(self, wanted: int, others: tuple[Iterable[Any], ...]) -> None:
+        """Makes this set what an operation keeps. An error leaves it as it was."""
+        if len(others) == 1:
+            self._combine(wanted, self, self._set_of(others[0], wanted))
+        else:
+            made = self._kept(wanted, others)
+            self._combine(UNION, made, made)
 
     def union(self, *others: Iterable[SupportsIndex]) -> Judy1:
         """The keys of this set or of any other.
@@ -132,9 +175,7 @@ class Judy1(_core.WordSet, _Ordered, Placed, MutableSet, Sequence):
         >>> Judy1([1, 2]).union([2, 3], [4]), Judy1([1]) | {2}
         (Judy1([1, 2, 3, 4]), Judy1([1, 2]))
         """
-        made = self.copy()
-        made.update(*others)
-        return made
+        return self._kept(UNION, others)
 
     def intersection(self, *others: Iterable[Any]) -> Judy1:
         """The keys of this set that are in each other.
@@ -142,8 +183,7 @@ class Judy1(_core.WordSet, _Ordered, Placed, MutableSet, Sequence):
         >>> Judy1([1, 2, 3]).intersection([2, 3], [3]), Judy1([1, 2]) & {2}
         (Judy1([3]), Judy1([2]))
         """
-        sets = [other if isinstance(other, Set) else set(other) for other in others]
-        return self._from_iterable([key for key in self if all(key in other for other in sets)])
+        return self._kept(INTERSECTION, others)
 
     def difference(self, *others: Iterable[Any]) -> Judy1:
         """The keys of this set that are in no other.
@@ -151,9 +191,7 @@ class Judy1(_core.WordSet, _Ordered, Placed, MutableSet, Sequence):
         >>> Judy1([1, 2, 3]).difference([2], [3]), Judy1([1, 2]) - {2}
         (Judy1([1]), Judy1([1]))
         """
-        made = self.copy()
-        made.difference_update(*others)
-        return made
+        return self._kept(DIFFERENCE, others)
 
     def symmetric_difference(self, other: Iterable[SupportsIndex]) -> Judy1:
         """The keys of one of both sets alone.
@@ -161,9 +199,7 @@ class Judy1(_core.WordSet, _Ordered, Placed, MutableSet, Sequence):
         >>> Judy1([1, 2]).symmetric_difference([2, 3]), Judy1([1, 2]) ^ {2, 3}
         (Judy1([1, 3]), Judy1([1, 3]))
         """
-        made = self.copy()
-        made.symmetric_difference_update(other)
-        return made
+        return self._kept(SYMMETRIC_DIFFERENCE, (other,))
 
     def intersection_update(self, *others: Iterable[Any]) -> None:
         """Leaves the keys that are in each other.
@@ -172,8 +208,7 @@ class Judy1(_core.WordSet, _Ordered, Placed, MutableSet, Sequence):
         >>> some.intersection_update([2, 3]); some &= {3}; some
         Judy1([3])
         """
-        kept = self.intersection(*others)
-        self.difference_update([key for key in self if key not in kept])
+        self._keep(INTERSECTION, others)
 
     def difference_update(self, *others: Iterable[Any]) -> None:
         """Takes out the keys that are in any other.
@@ -182,9 +217,7 @@ class Judy1(_core.WordSet, _Ordered, Placed, MutableSet, Sequence):
         >>> some.difference_update([2]); some -= {3}; some
         Judy1([1])
         """
-        for other in others:
-            for key in list(other):
-                self.discard(key)
+        self._keep(DIFFERENCE, others)
 
     def symmetric_difference_update(self, other: Iterable[SupportsIndex]) -> None:
         """Takes out the other's keys that are there, and puts in those that aren't.
@@ -193,8 +226,15 @@ class Judy1(_core.WordSet, _Ordered, Placed, MutableSet, Sequence):
         >>> some.symmetric_difference_update([2, 3]); some ^= {1}; some
         Judy1([3])
         """
-        for key in Judy1(other):
-            (self.discard if key in self else self.add)(key)
+        self._keep(SYMMETRIC_DIFFERENCE, (other,))
+
+    def isdisjoint(self, other: Iterable[Any]) -> bool:
+        """Whether no key is in the other.
+
+        >>> Judy1([1]).isdisjoint([2]), Judy1([1]).isdisjoint([1, 2])
+        (True, False)
+        """
+        return not self._has_any(BOTH, other) if _is_set(other) else super().isdisjoint(other)
 
     def issubset(self, other: Iterable[Any]) -> bool:
         """Whether each key is in the other.
@@ -202,8 +242,7 @@ class Judy1(_core.WordSet, _Ordered, Placed, MutableSet, Sequence):
         >>> Judy1([1]).issubset([1, 2])
         True
         """
-        other = other if isinstance(other, Set) else set(other)
-        return all(key in other for key in self)
+        return self <= (other if isinstance(other, Set) else set(other))
 
     def issuperset(self, other: Iterable[Any]) -> bool:
         """Whether the set has each of the other's.
@@ -211,7 +250,22 @@ class Judy1(_core.WordSet, _Ordered, Placed, MutableSet, Sequence):
         >>> Judy1([1, 2]).issuperset([1])
         True
         """
-        return all(key in self for key in other)
+        return not self._has_any(SECOND, other) if _is_set(other) else all(key in self for key in other)
+
+    def __eq__(self, other: object) -> bool:
+        return not self._has_any(FIRST | SECOND, other) if _is_set(other) else super().__eq__(other)
+
+    def __le__(self, other: Any) -> bool:
+        return not self._has_any(FIRST, other) if _is_set(other) else super().__le__(other)
+
+    def __ge__(self, other: Any) -> bool:
+        return not self._has_any(SECOND, other) if _is_set(other) else super().__ge__(other)
+
+    def __lt__(self, other: Any) -> bool:
+        return self <= other and self._has_any(SECOND, other) if _is_set(other) else super().__lt__(other)
+
+    def __gt__(self, other: Any) -> bool:
+        return self >= other and self._has_any(FIRST, other) if _is_set(other) else super().__gt__(other)
 
     def __or__(self, other: Any) -> Judy1:
         return self.union(other) if isinstance(other, Iterable) else NotImplemented
@@ -226,6 +280,27 @@ class Judy1(_core.WordSet, _Ordered, Placed, MutableSet, Sequence):
         return self.symmetric_difference(other) if isinstance(other, Iterable) else NotImplemented
 
     __ror__, __rand__, __rxor__ = __or__, __and__, __xor__
+
+    def __rsub__(self, other: Any) -> Judy1:
+        return self._from_iterable(other).difference(self) if isinstance(other, Iterable) else NotImplemented
+
+    def _updated(self, wanted: int, other: Any) -> Judy1:
+        if not isinstance(other, Iterable):
+            return NotImplemented
+        self._keep(wanted, (other,))
+        return self
+
+    def __ior__(self, other: Any) -> Judy1:
+        return self._updated(UNION, other)
+
+    def __iand__(self, other: Any) -> Judy1:
+        return self._updated(INTERSECTION, other)
+
+    def __isub__(self, other: Any) -> Judy1:
+        return self._updated(DIFFERENCE, other)
+
+    def __ixor__(self, other: Any) -> Judy1:
+        return self._updated(SYMMETRIC_DIFFERENCE, other)
 
     def __repr__(self) -> str:
         return f"{type(self).__name__}({list(self) if self else ''})"
@@ -244,6 +319,10 @@ class JudyL(_core.WordMap, _Ordered, PlacedDict, Copied, Dict):
     >>> del squares[1]; squares | {7: 49}
     JudyL({2: 4, 3: 9, 7: 49})
     """
+
+    @staticmethod
+    def _bound(key: int) -> int:
+        return key
 
     def _items(self, reverse: bool) -> Iterator[tuple[int, int]]:
         return self._cursor(ITEMS, 0, MAX, reverse)

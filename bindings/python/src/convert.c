@@ -48,6 +48,19 @@ void raise_key_error(PyObject *key)
     }
 }
 
+PyObject *answer_missing(PyObject *map, PyObject *key)
+{
+    PyObject *missing = PyObject_GetAttrString((PyObject *)Py_TYPE(map), "__missing__"), *told = NULL;
+    if (missing)
+        told = PyObject_CallFunctionObjArgs(missing, map, key, NULL);
+    else if (PyErr_ExceptionMatches(PyExc_AttributeError)) {
+        PyErr_Clear();
+        raise_key_error(key);
+    }
+    Py_XDECREF(missing);
+    return told;
+}
+
 PyObject *raise_no_place(PyObject *place)
 {
     PyErr_Format(PyExc_IndexError, "no key at place %R", place);

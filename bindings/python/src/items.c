@@ -1,6 +1,13 @@
 /* The items that arrays are filled with, and the lists that they are gathered in. */
 #include "native.h"
 
+PyObject *read_array(PyTypeObject *type, PyObject *const *arguments, Py_ssize_t count, PyObject *keywords)
+{
+    if (count == 1 && !keywords && PyObject_TypeCheck(arguments[0], type))
+        return arguments[0];
+    return PyErr_Format(PyExc_TypeError, "an array of the same kind is needed");
+}
+
 PyObject *make_pair(PyObject *object)
 {
     PyObject *pair = PySequence_Tuple(object);

@@ -69,6 +69,10 @@ static inline PyObject *make_word(uint64_t word)
 /* KeyError with one argument, whatever the key is. */
 void raise_key_error(PyObject *key);
 
+/* What `map[key]` answers where the key isn't there: what the class's `__missing__` does, as of a dict's subclass; else
+ * KeyError, and NULL. */
+PyObject *answer_missing(PyObject *map, PyObject *key);
+
 /* IndexError for a place at which no key stands; answers NULL. */
 PyObject *raise_no_place(PyObject *place);
 
@@ -79,6 +83,9 @@ PyObject *make_part(enum part part, PyObject *key, uint64_t value);
 bool has_default(const char *name, Py_ssize_t count, Py_ssize_t most);
 
 /* items.c */
+
+/* The one array that a method is given, of the type that has the method; NULL with an error set where it is none. */
+PyObject *read_array(PyTypeObject *type, PyObject *const *arguments, Py_ssize_t count, PyObject *keywords);
 
 /* A pair, which is any iterable of two objects, as a tuple; ValueError where it has another number of them, as of dict. */
 PyObject *make_pair(PyObject *object);

@@ -1,8 +1,24 @@
-/* A walk through strings in order. Each step looks for the next key beside the one given last, so that each key that comes is one that stands
- * in the map then. */
+/* A walk through strings in order. Upward it takes many pairs at a time, and the next ones anew where the map has
+ * changed since; its first step, and each one down, is a search beside the key given last. So each key that comes is
+ * one that stands in the map then. */
 #include <string.h>
 
 #include "strings.h"
+
+/* How many pairs are taken at most, and how many bytes their keys have then. A first page has few, for walks that are
+ * soon left, and one that is taken since the map has changed has one; each further page has so many times as many. */
+enum { PAIRS = 64, GROWTH = 8, ROOM = 2 * SELLUMAQ_KEY_BYTES };
+
+/* Pairs that were taken: the keys one behind the other, and the length and the value of each. */
+typedef struct {
+    uint64_t seen; /* how many changes there were then */
+    size_t most;   /* how many were asked for */
+    size_t count;
+    size_t given; /* how many of these were given, */
+    size_t end;   /* whose keys have so many bytes */
+    sellumaq_entry entries[PAIRS];
+    uint8_t bytes[ROOM];
+} Page;
 
 typedef struct {
     PyObject_HEAD
@@ -10,10 +26,20 @@ typedef struct {
     PyObject *end; /* the last bytes that may come, or NULL */
     enum part part;
     bool reverse;
-    bool inclusive; /* whether the next step may find the bytes in `key` themselves */
+    bool begun;     /* whether a step was made, */
+    bool inclusive; /* and whether the first may find the bytes in `key` themselves */
+    const uint64_t *changes; /* the count of changes that matter */
+    Page *page; /* NULL where none was wanted yet, or there was no memory for one; it stays up to the cursor's end */
     size_t length;
-    uint8_t key[SELLUMAQ_KEY_BYTES];
+    uint8_t key[SELLUMAQ_KEY_BYTES]; /* the key given last by a search, or before a page */
 } Cursor;
+
+/* A pair that a step finds; the bytes are the cursor's. */
+typedef struct {
+    const uint8_t *bytes;
+    size_t length;
+    uint64_t value;
+} Pair;
 
 size_t could_be_key(const uint8_t *bytes, size_t length)
 {
@@ -48,6 +74,7 @@ PyObject *new_string_cursor(PyTypeObject *type, Strings *map, enum part part, Py
     self->part = part;
     self->reverse = reverse;
     self->end = Py_XNewRef(reverse ? low : high);
+    self->changes = part == KEYS ? &map->changes.keys : &map->changes.all;
     begin(self, reverse ? high : low);
     return (PyObject *)self;
 }
@@ -63,47 +90,106 @@ static void finish(Cursor *self)
     Py_XDECREF(end);
 }
 
-static bool step(Cursor *self, uint64_t *value)
+/* Finds the next pair by a search. */
+static bool search(Cursor *self, Pair *pair)
 {
     sellumaq_judysl *map = &self->map->handle.strings;
+    bool itself = !self->begun && self->inclusive;
     uint32_t told;
     if (self->reverse)
-        told = self->inclusive ? sellumaq_judysl_last(map, self->key, sizeof self->key, &self->length, value)
-                               : sellumaq_judysl_prev(map, self->key, sizeof self->key, &self->length, value);
+        told = itself ? sellumaq_judysl_last(map, self->key, sizeof self->key, &self->length, &pair->value)
+                      : sellumaq_judysl_prev(map, self->key, sizeof self->key, &self->length, &pair->value);
     else
-        told = self->inclusive ? sellumaq_judysl_first(map, self->key, sizeof self->key, &self->length, value)
-                               : sellumaq_judysl_next(map, self->key, sizeof self->key, &self->length, value);
-    self->inclusive = false;
+        told = itself ? sellumaq_judysl_first(map, self->key, sizeof self->key, &self->length, &pair->value)
+                      : sellumaq_judysl_next(map, self->key, sizeof self->key, &self->length, &pair->value);
+    self->begun = true;
+    pair->bytes = self->key;
+    pair->length = self->length;
     return told == SELLUMAQ_FOUND;
 }
 
-static bool is_beyond_end(const Cursor *self)
+/* Makes a cursor's page; false where there is no memory for it. */
+static bool make_page(Cursor *self)
+{
+    Page *page = PyMem_Malloc(sizeof *page);
+    if (page) {
+        page->seen = *self->changes;
+        page->most = 1;
+        page->count = page->given = page->end = 0;
+        self->page = page;
+    }
+    return page != NULL;
+}
+
+/* Keeps the key that a page gave last. */
+static void keep_last(Cursor *self)
+{
+    const Page *page = self->page;
+    if (page->given == 0)
+        return;
+    self->length = page->entries[page->given - 1].length;
+    memcpy(self->key, page->bytes + page->end - self->length, self->length);
+}
+
+/* Takes the pairs behind the key given last; false where there are none. */
+static bool fill(Cursor *self)
+{
+    Page *page = self->page;
+    size_t more = page->most * GROWTH;
+    keep_last(self);
+    page->most = page->seen != *self->changes ? 1 : more < PAIRS ? more : PAIRS;
+    page->seen = *self->changes;
+    page->count = sellumaq_judysl_walk(&self->map->handle.strings, self->key, self->length, false, page->bytes, ROOM,
+                                       page->entries, page->most);
+    page->given = page->end = 0;
+    return page->count > 0;
+}
+
+/* Finds the next pair on the page. */
+static bool turn(Cursor *self, Pair *pair)
+{
+    Page *page = self->page;
+    if ((page->given == page->count || page->seen != *self->changes) && !fill(self))
+        return false;
+    const sellumaq_entry *entry = &page->entries[page->given++];
+    *pair = (Pair){page->bytes + page->end, entry->length, entry->value};
+    page->end += entry->length;
+    return true;
+}
+
+static bool find_next(Cursor *self, Pair *pair)
+{
+    bool by_pages = !self->reverse && self->begun && (self->page || make_page(self));
+    return by_pages ? turn(self, pair) : search(self, pair);
+}
+
+static bool is_beyond_end(const Cursor *self, const Pair *pair)
 {
     char *bytes;
     Py_ssize_t length;
     if (!self->end)
         return false;
     PyBytes_AsStringAndSize(self->end, &bytes, &length);
-    size_t other = (size_t)length, shared = self->length < other ? self->length : other;
-    int order = memcmp(self->key, bytes, shared);
+    size_t other = (size_t)length, shared = pair->length < other ? pair->length : other;
+    int order = memcmp(pair->bytes, bytes, shared);
     if (order == 0)
-        order = (self->length > other) - (self->length < other);
+        order = (pair->length > other) - (pair->length < other);
     return self->reverse ? order < 0 : order > 0;
 }
 
 static PyObject *cursor_next(PyObject *object)
 {
     Cursor *self = (Cursor *)object;
-    uint64_t value;
+    Pair pair;
     if (!self->map)
         return NULL;
-    if (!step(self, &value) || is_beyond_end(self)) {
+    if (!find_next(self, &pair) || is_beyond_end(self, &pair)) {
         finish(self);
         return NULL;
     }
     if (self->part == VALUES)
-        return make_word(value);
-    return make_part(self->part, make_key(self->map, self->key, self->length), value);
+        return make_word(pair.value);
+    return make_part(self->part, make_key(self->map, pair.bytes, pair.length), pair.value);
 }
 
 bool is_string_cursor(PyObject *object) { return PyType_GetSlot(Py_TYPE(object), Py_tp_iternext) == (void *)cursor_next; }
@@ -126,6 +212,7 @@ static void cursor_dealloc(PyObject *object)
     PyTypeObject *type = Py_TYPE(object);
     PyObject_GC_UnTrack(object);
     finish((Cursor *)object);
+    PyMem_Free(((Cursor *)object)->page);
     PyObject_GC_Del(object);
     Py_DECREF((PyObject *)type);
 }

@@ -54,6 +54,7 @@ static uint32_t make(Strings *self, const Gathered *gathered)
     static const uint8_t no_bytes;
     static const sellumaq_entry no_entries;
     size_t place;
+    note_change(self, true);
     return sellumaq_judysl_from_sorted(&self->handle.strings, gathered->bytes ? gathered->bytes : &no_bytes, gathered->length,
                                        gathered->entries ? gathered->entries : &no_entries, gathered->count, &place);
 }
@@ -108,6 +109,56 @@ PyObject *strings_make(PyObject *self, PyObject *pairs)
     Py_RETURN_NONE;
 }
 
+/* ---- copies ---- */
+
+/* Gathers the next pairs of a map, as many as there is room for: those behind the last one that was gathered. */
+static void gather_next(Gathered *gathered, const Strings *map)
+{
+    size_t last = gathered->count ? gathered->entries[gathered->count - 1].length : 0;
+    uint8_t *end = gathered->bytes + gathered->length;
+    sellumaq_entry *entries = gathered->entries + gathered->count;
+    size_t room = gathered->room - gathered->length, places = gathered->places - gathered->count;
+    bool itself = gathered->count == 0;
+    size_t count = sellumaq_judysl_walk(&map->handle.strings, end - last, last, itself, end, room, entries, places);
+    for (size_t n = 0; n < count; n++)
+        gathered->length += entries[n].length;
+    gathered->count += count;
+}
+
+/* Gathers all pairs of a map; false where there is no memory. No call in between lets the map change. */
+static bool gather_map(Gathered *gathered, Strings *map)
+{
+    size_t count = (size_t)map->calls->len(&map->handle);
+    if (count == 0)
+        return true;
+    gathered->entries = make_room(NULL, &gathered->places, count, sizeof *gathered->entries);
+    if (!gathered->entries)
+        return false;
+    while (gathered->count < count) {
+        size_t needed = gathered->length + SELLUMAQ_KEY_BYTES;
+        uint8_t *bytes = make_room(gathered->bytes, &gathered->room, needed, sizeof *bytes);
+        if (!bytes)
+            return false;
+        gathered->bytes = bytes;
+        gather_next(gathered, map);
+    }
+    return true;
+}
+
+PyObject *strings_copy(PyObject *object, PyTypeObject *maps, PyObject *const *arguments, Py_ssize_t count,
+                       PyObject *keywords)
+{
+    Strings *self = (Strings *)object, *other = (Strings *)read_array(maps, arguments, count, keywords);
+    if (!other)
+        return NULL;
+    Gathered gathered = {NULL, NULL, 0, 0, 0, 0};
+    bool made = gather_map(&gathered, other) ? is_put(make(self, &gathered)) : is_put(SELLUMAQ_NO_MEMORY);
+    forget(&gathered);
+    if (!made)
+        return NULL;
+    Py_RETURN_NONE;
+}
+
 /* ---- the constructors and update ---- */
 
 /* Gathers a pair that may be the next one; false where it can't be read without a call of others' code, or is none. */
@@ -138,7 +189,7 @@ static bool put_gathered(Strings *self, const Gathered *gathered)
     const uint8_t *bytes = gathered->bytes;
     for (size_t n = 0; n < gathered->count; n++) {
         const sellumaq_entry *entry = &gathered->entries[n];
-        if (!is_put(self->calls->put(&self->handle, bytes, entry->length, entry->value)))
+        if (!is_put(put_string(self, bytes, entry->length, entry->value)))
             return false;
         bytes += entry->length;
     }

@@ -79,6 +79,20 @@ static int find_string(const Strings *self, PyObject *object, Key *key)
     return read_string(self, object, key) ? 1 : -1;
 }
 
+void note_change(Strings *self, bool of_keys)
+{
+    self->changes.keys += of_keys;
+    self->changes.all++;
+}
+
+uint32_t put_string(Strings *self, const uint8_t *key, size_t length, uint64_t value)
+{
+    uint32_t told = self->calls->put(&self->handle, key, length, value);
+    if (told == SELLUMAQ_ADDED || told == SELLUMAQ_PRESENT)
+        note_change(self, told == SELLUMAQ_ADDED);
+    return told;
+}
+
 /* Reads a key's value, and takes the key out if that is wanted: 1, 0 where it isn't there, -1 with an error set. */
 static int find_value(Strings *self, PyObject *object, uint64_t *value, bool take_out)
 {
@@ -87,6 +101,8 @@ static int find_value(Strings *self, PyObject *object, uint64_t *value, bool tak
     if (found != 1)
         return found;
     found = (take_out ? self->calls->remove : self->calls->get)(&self->handle, key.bytes, key.length, value);
+    if (take_out && found)
+        note_change(self, true);
     Py_XDECREF(key.owner);
     return found;
 }
@@ -113,7 +129,7 @@ static bool put_value(Strings *self, PyObject *object, PyObject *value)
     uint64_t number;
     if (!read_word(value, &number) || !read_string(self, object, &key))
         return false;
-    uint32_t told = self->calls->put(&self->handle, key.bytes, key.length, number);
+    uint32_t told = put_string(self, key.bytes, key.length, number);
     Py_XDECREF(key.owner);
     if (told == SELLUMAQ_BAD_KEY)
         raise_bad_key(object);
@@ -169,11 +185,9 @@ static PyObject *strings_item(PyObject *self, PyObject *key)
 {
     uint64_t value;
     int found = find_value((Strings *)self, key, &value, false);
-    if (found == 1)
-        return make_word(value);
-    if (found == 0)
-        raise_key_error(key);
-    return NULL;
+    if (found < 0)
+        return NULL;
+    return found ? make_word(value) : answer_missing(self, key);
 }
 
 static int strings_set_item(PyObject *object, PyObject *key, PyObject *value)
@@ -193,6 +207,7 @@ static PyObject *strings_clear(PyObject *object, PyObject *Py_UNUSED(none))
 {
     Strings *self = (Strings *)object;
     forget_ahead(self);
+    note_change(self, true);
     self->calls->free(&self->handle);
     Py_RETURN_NONE;
 }
@@ -271,8 +286,7 @@ static PyObject *bisect(PyObject *object, PyObject *string, bool with_itself)
 static PyObject *bisect_left(PyObject *self, PyObject *string) { return bisect(self, string, false); }
 static PyObject *bisect_right(PyObject *self, PyObject *string) { return bisect(self, string, true); }
 
-/* The key at a place, which counts from the end where it is negative; IndexError where there is none. */
-/* The key at a place, or the pair; IndexError where there is none. */
+/* The key at a place, which counts from the end where it is negative, or the pair; IndexError where there is none. */
 static PyObject *part_at(PyObject *object, PyObject *place, enum part part)
 {
     Strings *self = (Strings *)object;
@@ -342,6 +356,8 @@ static PyMethodDef map_methods[] = {
      DOC("bisect_right($self, string, /)", "How many keys there are up to a string.", IN_ORDER ">>> ages.bisect_right('Alan')\n2")},
     {"_begin", strings_begin, METH_O, "Puts in at once what pairs begin with, as far as that can be done; answers the pair after these, or none."},
     {"_make", strings_make, METH_O, "Makes the map one of the pairs of an iterable, whose keys must ascend."},
+    {"_copy", (PyCFunction)(void (*)(void))strings_copy, METH_METHOD | METH_FASTCALL | METH_KEYWORDS,
+     "Makes the map one of another's pairs."},
     {"_key_at", key_at, METH_O, "The key at a place."},
     {"_item_at", item_at, METH_O, "The pair at a place."},
     {"_cursor", (PyCFunction)(void (*)(void))cursor, METH_METHOD | METH_FASTCALL | METH_KEYWORDS, "A walk between two strings."},

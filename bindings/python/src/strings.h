@@ -23,6 +23,7 @@ typedef struct {
 typedef struct {
     PyObject_HEAD
     Handle handle;
+    Changes changes;
     const StringCalls *calls;
     bool is_text; /* keys are str, which C sees in UTF-8, surrogates too */
     Told ahead;   /* of a map without order: what `popitem` takes out next, of which some may be gone, */
@@ -43,6 +44,12 @@ bool read_string(const Strings *self, PyObject *object, Key *key);
 
 /* ValueError for an object whose bytes are no key of a map in order. */
 void raise_bad_key(PyObject *object);
+
+/* Notes that keys came or went, or that a value was replaced. */
+void note_change(Strings *self, bool of_keys);
+
+/* Gives a key a value, and answers as the library does. */
+uint32_t put_string(Strings *self, const uint8_t *key, size_t length, uint64_t value);
 
 /* Whether a call put its key in; else an error is set. The bytes are a key. */
 bool is_put(uint32_t told);
@@ -70,6 +77,10 @@ void forget_ahead(Strings *map);
 /* string_fill.c: of maps in order `_begin`, by which `_fill` begins, and `_make`, in which `from_sorted` ends. */
 PyObject *strings_begin(PyObject *object, PyObject *pairs);
 PyObject *strings_make(PyObject *object, PyObject *pairs);
+
+/* `_copy` makes a map in order one of another's pairs. `maps` is the type of both. */
+PyObject *strings_copy(PyObject *object, PyTypeObject *maps, PyObject *const *arguments, Py_ssize_t count,
+                       PyObject *keywords);
 
 /* A cursor over the keys of a map in order. A bound is bytes, or NULL where there is none. */
 PyObject *new_string_cursor(PyTypeObject *type, Strings *map, enum part part, PyObject *low, PyObject *high, bool reverse);

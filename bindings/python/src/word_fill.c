@@ -1,13 +1,6 @@
 /* Arrays of words that are filled by the items of an iterable: keys of a set, or pairs of a map. */
 #include "words.h"
 
-/* Items whose keys ascend: the words of each behind those of the one before it. */
-typedef struct {
-    uint64_t *words;
-    size_t count;
-    size_t room; /* for so many items */
-} Gathered;
-
 static size_t width_of(const Words *self) { return self->is_map ? 2 : 1; }
 
 static bool is_empty(Words *self) { return self->calls->len(&self->handle) == 0; }
@@ -18,8 +11,7 @@ static bool is_next(const Words *self, const Gathered *gathered, uint64_t key)
     return gathered->count == 0 || key > gathered->words[(gathered->count - 1) * width_of(self)];
 }
 
-/* Puts an item behind the others; false where there is no memory. */
-static bool gather(const Words *self, Gathered *gathered, const uint64_t *item)
+bool gather_words(const Words *self, Gathered *gathered, const uint64_t *item)
 {
     size_t width = width_of(self);
     uint64_t *words = make_room(gathered->words, &gathered->room, gathered->count + 1, width * sizeof *words);
@@ -32,8 +24,7 @@ static bool gather(const Words *self, Gathered *gathered, const uint64_t *item)
     return true;
 }
 
-/* Makes the array one of what was gathered; false where there is no memory, and then it is as it was. */
-static bool make(Words *self, const Gathered *gathered)
+bool make_words(Words *self, const Gathered *gathered)
 {
     static const uint64_t none;
     size_t place;
@@ -61,7 +52,7 @@ static bool gather_object(const Words *self, Gathered *gathered, PyObject *objec
     if (!read_item(self, object, item))
         return false;
     bool ascends = is_next(self, gathered, item[0]);
-    if (ascends && gather(self, gathered, item))
+    if (ascends && gather_words(self, gathered, item))
         return true;
     if (ascends)
         PyErr_NoMemory();
@@ -82,7 +73,36 @@ PyObject *words_make(PyObject *self, PyObject *items)
         Py_DECREF(object);
     }
     Py_DECREF(each);
-    if (!PyErr_Occurred() && !make((Words *)self, &gathered))
+    if (!PyErr_Occurred() && !make_words((Words *)self, &gathered))
+        PyErr_NoMemory();
+    PyMem_Free(gathered.words);
+    if (PyErr_Occurred())
+        return NULL;
+    Py_RETURN_NONE;
+}
+
+/* ---- copies ---- */
+
+/* Gathers all pairs of a map; false where there is no memory. No call in between lets the map change. */
+static bool gather_map(Gathered *gathered, const Words *map)
+{
+    size_t count = (size_t)sellumaq_judyl_len(&map->handle.map);
+    if (count == 0)
+        return true;
+    gathered->words = make_room(NULL, &gathered->room, count, sizeof(sellumaq_pair));
+    if (gathered->words)
+        gathered->count = sellumaq_judyl_walk(&map->handle.map, 0, (sellumaq_pair *)gathered->words, count);
+    return gathered->words != NULL;
+}
+
+PyObject *map_copy(PyObject *object, PyTypeObject *maps, PyObject *const *arguments, Py_ssize_t count,
+                   PyObject *keywords)
+{
+    Words *self = (Words *)object, *other = (Words *)read_array(maps, arguments, count, keywords);
+    if (!other)
+        return NULL;
+    Gathered gathered = {NULL, 0, 0};
+    if (!gather_map(&gathered, other) || !make_words(self, &gathered))
         PyErr_NoMemory();
     PyMem_Free(gathered.words);
     if (PyErr_Occurred())
@@ -102,7 +122,7 @@ static bool gather_plain(const Words *self, Gathered *gathered, PyObject *object
     if (!is_plain)
         return false;
     if (read_item(self, object, item))
-        return is_next(self, gathered, item[0]) && gather(self, gathered, item);
+        return is_next(self, gathered, item[0]) && gather_words(self, gathered, item);
     PyErr_Clear();
     return false;
 }
@@ -111,7 +131,7 @@ static bool gather_plain(const Words *self, Gathered *gathered, PyObject *object
  * False with an error set then. */
 static bool put_gathered(Words *self, const Gathered *gathered)
 {
-    if (gathered->count == 0 || (is_empty(self) && make(self, gathered)))
+    if (gathered->count == 0 || (is_empty(self) && make_words(self, gathered)))
         return true;
     bool put = true;
     for (size_t n = 0; put && n < gathered->count; n++)
@@ -136,7 +156,15 @@ static PyObject *begin(Words *self, PyObject *each)
     return item;
 }
 
-PyObject *words_fill(PyObject *object, PyObject *items)
+/* Puts an object in. Where it can't be, that is an error, or, if such ones are passed over, nothing. */
+static bool put_object(Words *self, PyObject *object, bool passes_over)
+{
+    uint64_t item[2];
+    int could_be = passes_over ? read_key(object, item) : read_item(self, object, item) ? 1 : -1;
+    return could_be == 1 ? put_words(self, item) : could_be == 0;
+}
+
+static PyObject *fill(PyObject *object, PyObject *items, bool passes_over)
 {
     Words *self = (Words *)object;
     PyObject *each = PyObject_GetIter(items);
@@ -144,8 +172,7 @@ PyObject *words_fill(PyObject *object, PyObject *items)
         return NULL;
     bool put = true;
     for (PyObject *item = begin(self, each); item; item = put ? PyIter_Next(each) : NULL) {
-        uint64_t words[2];
-        put = read_item(self, item, words) && put_words(self, words);
+        put = put_object(self, item, passes_over);
         Py_DECREF(item);
     }
     Py_DECREF(each);
@@ -153,3 +180,6 @@ PyObject *words_fill(PyObject *object, PyObject *items)
         return NULL;
     Py_RETURN_NONE;
 }
+
+PyObject *words_fill(PyObject *self, PyObject *items) { return fill(self, items, false); }
+PyObject *set_pick(PyObject *self, PyObject *items) { return fill(self, items, true); }

@@ -344,6 +344,11 @@ static PyMethodDef set_methods[] = {
     {"contains_many", set_contains_many, METH_O,
      DOC("contains_many($self, keys, /)", "Whether each of the keys of an iterable is there, in a list.",
          SOME ">>> some.contains_many([20, 15, 30])\n[True, False, True]")},
+    {"_pick", set_pick, METH_O, "Puts those items of an iterable in that can be keys."},
+    {"_combine", (PyCFunction)(void (*)(void))set_combine, METH_METHOD | METH_FASTCALL | METH_KEYWORDS,
+     "Makes the set what is wanted of two sets."},
+    {"_has_any", (PyCFunction)(void (*)(void))set_has_any, METH_METHOD | METH_FASTCALL | METH_KEYWORDS,
+     "Whether this set and another have any key that is wanted."},
     {NULL, NULL, 0, NULL},
 };
 
@@ -377,11 +382,9 @@ static PyObject *map_item(PyObject *self, PyObject *key)
 {
     uint64_t word, value;
     int found = find_value((Words *)self, key, &word, &value);
-    if (found == 1)
-        return make_word(value);
-    if (found == 0)
-        raise_key_error(key);
-    return NULL;
+    if (found < 0)
+        return NULL;
+    return found ? make_word(value) : answer_missing(self, key);
 }
 
 static int map_set_item(PyObject *object, PyObject *key, PyObject *value)
@@ -460,6 +463,8 @@ static PyMethodDef map_methods[] = {
      DOC("pop($self, key, default=..., /)", "Takes a key out and answers its value, or the default; KeyError where there is neither.",
          ">>> from sellumaq import JudyL\n>>> squares = JudyL({2: 4})\n>>> squares.pop(2), squares.pop(2, 7)\n(4, 7)")},
     {"_pair_at", pair_at, METH_O, "The pair at a place."},
+    {"_copy", (PyCFunction)(void (*)(void))map_copy, METH_METHOD | METH_FASTCALL | METH_KEYWORDS,
+     "Makes the map one of another's pairs."},
     {NULL, NULL, 0, NULL},
 };
 

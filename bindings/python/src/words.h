@@ -34,8 +34,28 @@ void count_changes(Words *self, int keys, int values);
 /* Puts an item in; false with an error set where there is no memory. */
 bool put_words(Words *self, const uint64_t *item);
 
-/* word_fill.c: `_fill`, and `_make`, in which `from_sorted` ends. */
+/* word_fill.c */
+
+/* Items whose keys ascend: the words of each behind those of the one before it. */
+typedef struct {
+    uint64_t *words;
+    size_t count;
+    size_t room; /* for so many items */
+} Gathered;
+
+/* Puts an item behind the others; false where there is no memory. */
+bool gather_words(const Words *self, Gathered *gathered, const uint64_t *item);
+
+/* Makes the array one of what was gathered; false where there is no memory, and then it is as it was. */
+bool make_words(Words *self, const Gathered *gathered);
+
+/* `_fill`; `_pick` of a set, by which what can be no key is passed over; and `_make`, in which `from_sorted` ends. */
 PyObject *words_fill(PyObject *object, PyObject *items);
+PyObject *set_pick(PyObject *object, PyObject *items);
+
+/* `_copy` makes a map one of another's pairs. `maps` is the type of maps. */
+PyObject *map_copy(PyObject *object, PyTypeObject *maps, PyObject *const *arguments, Py_ssize_t count,
+                   PyObject *keywords);
 PyObject *words_make(PyObject *object, PyObject *items);
 
 /* word_groups.c: keys that are looked up many at a time. */
@@ -58,6 +78,13 @@ bool append_new(PyObject *list, PyObject *object);
 
 /* What is told of the keys of an iterable, in a list. */
 PyObject *look_up_many(PyObject *object, PyObject *keys, Append *append_told);
+
+/* word_sets.c: `_combine` makes a set what is wanted of two others, and `_has_any` tells whether that is any key.
+ * `sets` is the type of sets. */
+PyObject *set_combine(PyObject *object, PyTypeObject *sets, PyObject *const *arguments, Py_ssize_t count,
+                      PyObject *keywords);
+PyObject *set_has_any(PyObject *object, PyTypeObject *sets, PyObject *const *arguments, Py_ssize_t count,
+                      PyObject *keywords);
 
 /* A cursor over the keys of `words` from one word to another, both included; it holds a reference to the array. */
 PyObject *new_word_cursor(PyTypeObject *type, Words *words, enum part part, uint64_t low, uint64_t high, bool reverse);

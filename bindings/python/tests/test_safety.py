@@ -2,6 +2,7 @@
 
 import copy
 import gc
+import os
 import pickle
 import signal
 import subprocess
@@ -174,6 +175,36 @@ class ReEntry(unittest.TestCase):
             strings.clear()
         self.assertEqual(seen, ["a"])
 
+    def test_a_walk_through_strings_that_change_gives_what_stands_there(self):
+        # What is done at a key, and what comes after it.
+        changes = {
+            "a key goes": (lambda it, n: it.pop(f"{n + 2:03}"), lambda n: [n + 1, *range(n + 3, 150)]),
+            "a key comes": (lambda it, n: it.__setitem__(f"{n:03}a", 7), lambda n: [f"{n:03}a", *range(n + 1, 150)]),
+            "all go": (lambda it, n: it.clear(), lambda n: []),
+            "others come in their place": (lambda it, n: it._make([("", 1), (f"{n:03}", 2), ("140a", 3), ("141", 4)]), lambda n: ["140a", 141]),
+            "the key itself goes": (lambda it, n: it.__delitem__(f"{n:03}"), lambda n: range(n + 1, 150)),
+        }
+        for n in (0, 1, 2, 7, 8, 9, 63, 72, 73, 140):
+            for name, (change, left) in changes.items():
+                for part in (JudySL.keys, JudySL.items):
+                    strings, seen = JudySL((f"{key:03}", key) for key in range(150)), []
+                    for each in part(strings):
+                        seen.append(each if part is JudySL.keys else each[0])
+                        if len(seen) == n + 1:
+                            change(strings, n)
+                    expected = [key if isinstance(key, str) else f"{key:03}" for key in (*range(n + 1), *left(n))]
+                    self.assertEqual((n, name, seen), (n, name, expected))
+
+    def test_a_walk_through_strings_gives_the_values_that_stand_there(self):
+        for kind, key in ((JudySL, "{:03}".format), (JudySLBytes, lambda n: b"%03d" % n)):
+            strings, told = kind((key(n), 0) for n in range(150)), []
+            for at, value in enumerate(strings.values()):
+                told.append(value)
+                strings[key(min(at + 1, 149))] = at
+            self.assertEqual(told, [0, *range(149)])
+            self.assertEqual([(strings.update([(at, value + 1)]), value)[1] for at, value in strings.items()], [0, *range(148), 149])
+            self.assertEqual(list(strings.values()), [1, *range(1, 149), 150])
+
     def test_a_walk_keeps_its_array(self):
         for walk in (iter(Judy1(range(1000))), iter(JudyL.fromkeys(range(1000)).items()), iter(JudySL.fromkeys("abc"))):
             gc.collect()
@@ -296,6 +327,12 @@ class ReEntry(unittest.TestCase):
         )
         ran = subprocess.run([sys.executable, "-c", program], stdout=subprocess.PIPE, encoding="utf-8", timeout=60)
         self.assertEqual((ran.returncode, ran.stdout), (0, "3 {'the module sellumaq._native is gone'}\n"))
+
+    def test_a_shared_library_that_is_missing(self):
+        told = {**os.environ, "SELLUMAQ_BINDING": "ctypes", "SELLUMAQ_LIBRARY": "/nowhere"}
+        ran = subprocess.run([sys.executable, "-c", "import sellumaq"], env=told, stderr=subprocess.PIPE, encoding="utf-8", timeout=60)
+        self.assertEqual(ran.returncode, 1)
+        self.assertIn("ImportError: sellumaq has no extension here and finds no shared library", ran.stderr)
 
     def test_an_interrupted_program_ends_by_its_interrupt(self):
         program = (

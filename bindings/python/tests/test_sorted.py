@@ -2,7 +2,7 @@
 
 import unittest
 
-from sellumaq import MAX, Judy1, JudyHS, JudyL, JudySL, JudySLBytes
+from sellumaq import MAX, MAX_KEY, Judy1, JudyHS, JudyL, JudySL, JudySLBytes
 
 SET = [
     ("s[0], s[-1], s[1:3], s[::-2], s[9:]", (1, 5, [2, 3], [5, 3, 1], [])),
@@ -133,6 +133,22 @@ class Tables(unittest.TestCase):
             self.assertEqual((list(words), list(words.values())), (keys, keys))
             self.assertEqual(list(reversed(words.items())), [(key, key) for key in reversed(keys)])
             self.assertEqual(list(words.irange(4, 3 * count - 4)), keys[2 : count - 1])
+
+    def test_walks_longer_than_a_page_of_strings(self):
+        for count in (1, 2, 8, 9, 10, 72, 73, 74, 137, 300):
+            for length in (0, 1, 30, 500, MAX_KEY - 4):
+                pairs = [(f"{n:04}" + "z" * (n * 7 % (length + 1)), n) for n in range(count)]
+                keys, values = [key for key, _ in pairs], [value for _, value in pairs]
+                strings = JudySL(pairs)
+                self.assertEqual((list(strings), list(strings.values()), list(strings.items())), (keys, values, pairs))
+                self.assertEqual((list(reversed(strings)), list(strings.copy().items())), (keys[::-1], pairs))
+                self.assertEqual(list(strings.irange(keys[count // 3], keys[-1][:4])), [key for key in keys[count // 3 :] if key <= keys[-1][:4]])
+                self.assertEqual((strings.keys()[1:-1], strings.items()[::2], list(strings.islice(2, 9))), (keys[1:-1], pairs[::2], keys[2:9]))
+                for place in (slice(None), slice(3, -2), slice(None, None, -1), slice(9, 2, -1), slice(1, None, 3), slice(None, None, -7), slice(5, 5)):
+                    for dicts, told in ((strings, pairs), (JudyL(enumerate(values)), [*enumerate(values)])):
+                        views = (dicts.keys()[place], dicts.values()[place], dicts.items()[place])
+                        self.assertEqual(views, ([key for key, _ in told[place]], [value for _, value in told[place]], told[place]))
+                self.assertEqual(list(JudySLBytes((key.encode(), n) for key, n in pairs)), [key.encode() for key in keys])
 
     def test_unordered(self):
         ages = JudyHS(a=1)
