@@ -8,7 +8,11 @@ import subprocess
 TOP = os.path.normpath(os.path.join(os.path.dirname(os.path.abspath(__file__)), ".."))
 PROJECT = f"{TOP}/bindings/c/test/cmake"
 # The programs of the project, the library of ours that each is linked to, and what it prints, whole or at its end.
-PROGRAMS = [("squares_sellumaq", "libsellumaq.so.1", "3 squares\n"), ("squares_static", None, "3 squares\n"), ("hp", "libJudy.so.1", "ok\n")]
+PROGRAMS = [
+    ("squares_sellumaq", "libsellumaq.so.1", "3 squares\n"),
+    ("squares_static", None, "3 squares\n"),
+    ("hp", "libJudy.so.1", "ok\n"),
+]
 # What asks for more than is there, and what CMake says of it.
 REFUSED = [
     ("find_package(sellumaq 2 REQUIRED)", "1.0.0"),
@@ -22,9 +26,13 @@ def tell(name, holds):
     return bool(holds)
 
 
+def run(command, **how):
+    return subprocess.run(command, stdout=subprocess.PIPE, stderr=subprocess.STDOUT, encoding="utf-8", check=False, **how)
+
+
 def told(*command, **how):
     """What a command prints; None where it fails."""
-    ran = subprocess.run(command, stdout=subprocess.PIPE, stderr=subprocess.STDOUT, encoding="utf-8", check=False, **how)
+    ran = run(command, **how)
     return ran.stdout if ran.returncode == 0 else None
 
 
@@ -42,7 +50,8 @@ def try_pkg_config(installed):
 
 def linked(program):
     """The library of ours that a program is linked to, or None."""
-    return next(iter(re.findall(r"\(NEEDED\).*\[(lib(?:sellumaq|Judy)\.so\S*)\]", told("readelf", "-d", program) or "")), None)
+    needed = re.search(r"\(NEEDED\).*\[(lib(?:sellumaq|Judy)\.so\S*)\]", told("readelf", "-d", program) or "")
+    return needed and needed[1]
 
 
 def is_refused(room, installed, asked, says):
@@ -51,7 +60,7 @@ def is_refused(room, installed, asked, says):
     with open(f"{room}/refused/CMakeLists.txt", "w", encoding="ascii") as file:
         file.write(f"cmake_minimum_required(VERSION 3.16)\nproject(refused NONE)\n{asked}\n")
     command = ["cmake", "-S", f"{room}/refused", "-B", f"{room}/refused/build", f"-DCMAKE_PREFIX_PATH={installed}"]
-    ran = subprocess.run(command, stdout=subprocess.PIPE, stderr=subprocess.STDOUT, encoding="utf-8", check=False)
+    ran = run(command)
     return ran.returncode != 0 and says in " ".join(ran.stdout.split())
 
 
@@ -65,7 +74,8 @@ def try_cmake(room, installed):
     told("cmake", "--build", build)
     results = []
     for program, library, printed in PROGRAMS:
-        holds = os.path.exists(f"{build}/{program}") and linked(f"{build}/{program}") == library and (told(f"{build}/{program}") or "").endswith(printed)
+        built = f"{build}/{program}"
+        holds = os.path.exists(built) and linked(built) == library and (told(built) or "").endswith(printed)
         results.append(tell(f"a CMake project's {program}, linked to {library or 'no shared library of ours'}", holds))
     results += [tell(f"CMake refuses {asked}", is_refused(room, installed, asked, says)) for asked, says in REFUSED]
     return all(results)

@@ -1,5 +1,5 @@
-/* HP's names over Sellumaq's calls. Nothing is decided here but what the manual pages say of null pointers and of the errors, where a search that
- * finds nothing leaves its word, and how many bytes an array has. */
+/* HP's names over Sellumaq's calls. Nothing is decided here but what the manual pages say of null pointers and of the
+ * errors, where a search that finds nothing leaves its word, and how many bytes an array has. */
 #include "Judy.h"
 #include "../sellumaq.h"
 #include "memory.h"
@@ -137,8 +137,8 @@ PPvoid_t JudyLGet(Pcvoid_t array, Word_t key, PJError_t error) {
     return sellumaq_judyl_slot(&map, key, &slot) ? (PPvoid_t)slot : NULL;
 }
 
-/* A search for a key that finds none leaves its word where HP's library does: one further on its way, round the ends too; an array of no key
- * leaves it. Programs go on from there. The searches for words that are no keys leave theirs. */
+/* A search for a key that finds none leaves its word where HP's library does: one further on its way, round the ends too;
+ * an array of no key leaves it. Programs go on from there. The searches for words that are no keys leave theirs. */
 enum { UP = 1, DOWN = -1, STAYS = 0 };
 
 static void pass(Pcvoid_t array, Word_t *word, int step) {

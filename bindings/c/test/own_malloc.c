@@ -1,5 +1,5 @@
-/* A program that has a malloc of its own, of the four functions that the C library asks for and no more, as programs with an arena have. What
- * stands before a block is none of the C library's, so a call that reads it there as a size goes astray. */
+/* A program that has a malloc of its own, of the four functions that the C library asks for and no more, as programs with
+ * an arena have. What stands before a block is none of the C library's, so a call that reads a size there goes astray. */
 #include <Judy.h>
 
 #include <string.h>
@@ -8,7 +8,7 @@
 
 enum { KEYS = 20000, HEAD = 16 };
 
-/* Before a block stands how many bytes were asked for, upside down. No block is given out twice, and what is given back is filled. */
+/* Before a block stands how many bytes were asked for, upside down. No block is given out twice. */
 static _Alignas(16) unsigned char arena[192 << 20];
 static size_t taken, blocks, bytes;
 
@@ -43,19 +43,31 @@ void *realloc(void *block, size_t size) {
     return other;
 }
 
-/* An array's bytes are those that were asked for, but for the head of two words that stands before each block then. */
+static size_t bytes_before, blocks_before;
+
+/* The bytes that were asked for since, but for the head of two words that stands before each block then. */
+static Word_t asked(void) { return bytes - bytes_before - 2 * sizeof(Word_t) * (blocks - blocks_before); }
+
+static Word_t place(Word_t n) { return n * 0x9E3779B97F4A7C15; }
+
 static void words(void) {
     Pvoid_t set = NULL, map = NULL;
-    size_t bytes_before = bytes, blocks_before = blocks;
+    bytes_before = bytes, blocks_before = blocks;
     Word_t key, count, freed, *slot;
     int found;
     for (key = 0; key < KEYS; key++) J1S(found, set, key * key * 7919);
-    CHECK(Judy1MemUsed(set) == bytes - bytes_before - 2 * sizeof(Word_t) * (blocks - blocks_before));
-    for (key = 0; key < KEYS; key++) { JLI(slot, map, key * 0x9E3779B97F4A7C15); *slot = key; }
-    CHECK(Judy1MemUsed(set) + JudyLMemUsed(map) == bytes - bytes_before - 2 * sizeof(Word_t) * (blocks - blocks_before));
-    for (key = 0; key < KEYS; key += 2) { J1U(found, set, key * key * 7919); CHECK(found == 1); JLD(found, map, key * 0x9E3779B97F4A7C15); CHECK(found == 1); }
-    CHECK(Judy1MemUsed(set) + JudyLMemUsed(map) == bytes - bytes_before - 2 * sizeof(Word_t) * (blocks - blocks_before));
-    for (key = 1; key < KEYS; key += 2) { J1T(found, set, key * key * 7919); CHECK(found == 1); JLG(slot, map, key * 0x9E3779B97F4A7C15); CHECK(*slot == key); }
+    CHECK(Judy1MemUsed(set) == asked());
+    for (key = 0; key < KEYS; key++) { JLI(slot, map, place(key)); *slot = key; }
+    CHECK(Judy1MemUsed(set) + JudyLMemUsed(map) == asked());
+    for (key = 0; key < KEYS; key += 2) {
+        J1U(found, set, key * key * 7919); CHECK(found == 1);
+        JLD(found, map, place(key)); CHECK(found == 1);
+    }
+    CHECK(Judy1MemUsed(set) + JudyLMemUsed(map) == asked());
+    for (key = 1; key < KEYS; key += 2) {
+        J1T(found, set, key * key * 7919); CHECK(found == 1);
+        JLG(slot, map, place(key)); CHECK(*slot == key);
+    }
     J1C(count, set, 0, -1); CHECK(count == KEYS / 2);
     freed = Judy1MemUsed(set); CHECK(Judy1FreeArray(&set, PJE0) == freed);
     freed = JudyLMemUsed(map); CHECK(JudyLFreeArray(&map, PJE0) == freed);
@@ -64,7 +76,7 @@ static void words(void) {
 
 static void strings(void) {
     Pvoid_t map = NULL, hashed = NULL;
-    size_t bytes_before = bytes, blocks_before = blocks;
+    bytes_before = bytes, blocks_before = blocks;
     Word_t *slot, freed;
     char string[32];
     int found;

@@ -1,4 +1,5 @@
 /* How much stack the calls take: arrays of each kind are filled, read and emptied on a thread whose stack is painted first. What is no longer paint was used. */
+#define _GNU_SOURCE
 #include "../sellumaq.h"
 #include "check.h"
 #include <pthread.h>
