@@ -8,7 +8,7 @@ import subprocess
 from itertools import count
 
 LIBRARY = os.path.join(os.path.dirname(os.path.abspath(__file__)), "refuse_alloc.c")
-SECONDS = 10
+SECONDS = 60
 
 
 def lines(text):
