@@ -28,7 +28,7 @@ CALLS = $(shell grep -ow 'sellumaq_judy[1a-z]*_[a-z_]*\|sellumaq_version\|sellum
 OWN_FOLDERS = $(if $(filter-out /usr /usr/local,$(PREFIX)),"$(PYTHON_DIR)" "$(dir $(PYTHON_DIR))" "$(MAN)" "$(LIBDIR)" $(foreach name,bin include lib share,"$(PREFIX)/$(name)") "$(PREFIX)")
 
 # Where Python finds modules under PREFIX, by its own word; a folder of our own where there is no Python.
-PYTHON_DIR = $(or $(shell tools/python_dir $(PREFIX) 2>/dev/null),$(PREFIX)/share/sellumaq/python)
+PYTHON_DIR = $(or $(shell tools/python_dir "$(PREFIX)" 2>/dev/null),$(PREFIX)/share/sellumaq/python)
 
 # At how many keys `make bench` measures the arrays.
 KEYS = 10000 1000000
@@ -36,6 +36,7 @@ KEYS = 10000 1000000
 # Where the library for C is left, and what it is made of besides the compiled text.
 LIB := out/lib
 C_SOURCES := $(wildcard bindings/c/*.h bindings/c/hp/*)
+PYTHON_SOURCES := $(wildcard bindings/python/*.py bindings/python/pyproject.toml bindings/python/src/* bindings/python/sellumaq/*.py* bindings/c/sellumaq.h)
 RUST_FILES := $(patsubst bindings/rust/%,%,$(wildcard bindings/rust/Cargo.toml bindings/rust/README.md bindings/rust/src/*.rs bindings/rust/src/*/*.rs \
 	bindings/rust/sellumaq-sys/Cargo.toml bindings/rust/sellumaq-sys/README.md bindings/rust/sellumaq-sys/build.rs bindings/rust/sellumaq-sys/src/*.rs \
 	bindings/rust/serde/stand-in/Cargo.toml bindings/rust/serde/stand-in/src/*.rs))
@@ -51,14 +52,17 @@ REFUSER := out/refuse_alloc.so
 # What a program or a shared library can't be made to do by a fault of its caller: run its stack, or have its tables of calls written.
 HARDENED = -Wl,-z,relro,-z,now,-z,noexecstack
 
+# What a command that fails has begun isn't taken for done by the next one.
+.DELETE_ON_ERROR:
+
 .PHONY: all help lib python check test proved compiled dist bench fmt kit buildable install install-program install-library install-libjudy \
 	install-test uninstall clean
 
-all: judystore lib
+all: judystore lib python
 
 help:
-	@echo 'make             builds the program, ./judystore, and the library for C, out/lib, from compiled/: make judystore, make lib'
-	@echo 'make python      builds the Python package, and leaves it in out/python'
+	@echo 'make             builds the program, ./judystore, the library for C, out/lib, and the Python package, out/python, from compiled/:'
+	@echo '                 make judystore, make lib, make python'
 	@echo 'make check       tries all of it, as people use it and where memory is refused, from C, Rust and Python'
 	@echo 'make install     puts the program and the library for C, Rust and Python under PREFIX ($(PREFIX)); make uninstall takes them away'
 	@echo 'make install-libjudy  links the library of HP'"'"'s names to where the linker looks for libJudy'
@@ -81,7 +85,9 @@ buildable:
 
 judystore: compiled/judystore.s compiled/system.c | buildable
 	@mkdir -p out
-	@$(CC) $(C_FLAGS) -fPIE -pie -DFOR_PROGRAM $(HARDENED) $(CPPFLAGS) $(CFLAGS) $(LDFLAGS) compiled/judystore.s compiled/system.c -o out/judystore
+	@$(CC) -c compiled/judystore.s -o out/program.o
+	@$(CC) $(C_FLAGS) -fPIE -DFOR_PROGRAM $(CPPFLAGS) $(CFLAGS) $(JOINED) -c compiled/system.c -o out/program_system.o
+	@$(CC) -pie $(HARDENED) $(CFLAGS) $(LDFLAGS) out/program.o out/program_system.o -o out/judystore
 	@mv out/judystore $@
 	@echo 'built ./$@'
 
@@ -149,10 +155,15 @@ $(LIB)/libJudy.so: $(LIB)/judy.o
 	@ln -sf libJudy.so $(LIB)/libJudy.so.1
 	@echo 'built $@'
 
-# The Python package, ready to be imported: with the extension, where a C compiler and Python's headers are there.
-python: lib
+# The Python package, ready to be imported: with the extension, where a C compiler and Python's headers are there. What was built by one user
+# is installed by another, so it is built anew only where a source is newer.
+python: out/python/built
+
+out/python/built: $(LIB)/libsellumaq.a $(PYTHON_SOURCES)
+	@rm -rf out/python && mkdir -p out/python
 	@if command -v python3 >/dev/null 2>&1; then python3 bindings/python/build_package.py $(LIB) out/python; \
-	else mkdir -p out/python && cp -r bindings/python/sellumaq out/python; fi
+	else cp -r bindings/python/sellumaq out/python; fi
+	@touch $@
 
 $(REFUSER): tests/refuse_alloc.c
 	@mkdir -p out
@@ -160,7 +171,9 @@ $(REFUSER): tests/refuse_alloc.c
 
 # The same bytes of the same commit, by one version of git and of xz.
 dist:
-	@git archive --format=tar --prefix=sellumaq-$(VERSION)/ HEAD | xz -9e -T1 >sellumaq-$(VERSION).tar.xz
+	@git rev-parse -q --verify HEAD >/dev/null 2>&1 || { echo 'There is no commit here to pack: this is no clone of the repository.' >&2; exit 1; }
+	@mkdir -p out && git archive --format=tar --prefix=sellumaq-$(VERSION)/ HEAD >out/dist.tar
+	@xz -9e -T1 <out/dist.tar >sellumaq-$(VERSION).tar.xz
 	@echo 'packed sellumaq-$(VERSION).tar.xz'
 
 # Where the figures of a run are kept, of which the pages of figures are made.
@@ -242,4 +255,4 @@ fmt: kit
 	@for crate in crates/*/; do (cd $$crate && rt fmt) || exit 1; done
 
 clean:
-	rm -rf out judystore crates/*/out
+	rm -rf out judystore sellumaq-*.tar.xz crates/*/out
