@@ -96,7 +96,8 @@ proved: kit
 	@tools/prove judy_store judy_c
 	@mkdir -p out/proved
 	@(cd crates/judy_store && rt run </dev/null) >out/proofs/program.log 2>&1 || { echo 'NOT BUILT: see out/proofs/program.log' >&2; exit 1; }
-	@tools/archive >out/proofs/library.log 2>&1 || { echo 'NOT BUILT: see out/proofs/library.log' >&2; exit 1; }
+	@rm -f crates/judy_c/out/libjudy_c.a
+	@tools/compiled objects >out/proofs/library.log 2>&1 || { echo 'NOT BUILT: see out/proofs/library.log' >&2; exit 1; }
 	@cp crates/judy_store/out/judy_store out/proved/judystore
 	@cp crates/judy_c/out/libjudy_c.a out/proved
 	@tools/compiled compare .

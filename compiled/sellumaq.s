@@ -119463,7 +119463,7 @@ sellumaq_judysl_first_slot:
 	xorl	%ebp, %ebp
 .L05br0m7:
 	movzbl	%bpl, %eax
-	leaq	.Lswitch.table.sellumaq_judysl_prev_slot(%rip), %rcx
+	leaq	.Lconst.8n1bj0(%rip), %rcx
 	movl	(%rcx,%rax,4), %eax
 .L05br0m11:
 	addq	$24, %rsp
@@ -119572,7 +119572,7 @@ sellumaq_judysl_last_slot:
 	xorl	%ebp, %ebp
 .Lqpnkgn7:
 	movzbl	%bpl, %eax
-	leaq	.Lswitch.table.sellumaq_judysl_prev_slot(%rip), %rcx
+	leaq	.Lconst.8n1bj0(%rip), %rcx
 	movl	(%rcx,%rax,4), %eax
 .Lqpnkgn11:
 	addq	$24, %rsp
@@ -119681,7 +119681,7 @@ sellumaq_judysl_next_slot:
 	xorl	%ebp, %ebp
 .Ljqm8t77:
 	movzbl	%bpl, %eax
-	leaq	.Lswitch.table.sellumaq_judysl_prev_slot(%rip), %rcx
+	leaq	.Lconst.8n1bj0(%rip), %rcx
 	movl	(%rcx,%rax,4), %eax
 .Ljqm8t711:
 	addq	$24, %rsp
@@ -119790,7 +119790,7 @@ sellumaq_judysl_prev_slot:
 	xorl	%ebp, %ebp
 .Lim57y77:
 	movzbl	%bpl, %eax
-	leaq	.Lswitch.table.sellumaq_judysl_prev_slot(%rip), %rcx
+	leaq	.Lconst.8n1bj0(%rip), %rcx
 	movl	(%rcx,%rax,4), %eax
 .Lim57y711:
 	addq	$24, %rsp
@@ -120405,13 +120405,13 @@ sellumaq_judysl_prev:
 .Lconst.x69ibh:
 	.size	.Lconst.x69ibh, 0
 
-	.type	.Lswitch.table.sellumaq_judysl_prev_slot,@object
-	.section	.rodata..Lswitch.table.sellumaq_judysl_prev_slot,"a",@progbits
+	.type	.Lconst.8n1bj0,@object
+	.section	.rodata..Lconst.8n1bj0,"a",@progbits
 	.p2align	2, 0x0
-.Lswitch.table.sellumaq_judysl_prev_slot:
+.Lconst.8n1bj0:
 	.long	0
 	.long	4
 	.long	5
-	.size	.Lswitch.table.sellumaq_judysl_prev_slot, 12
+	.size	.Lconst.8n1bj0, 12
 
 	.section	.note.GNU-stack,"",@progbits
