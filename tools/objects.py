@@ -59,9 +59,10 @@ class Object:
 
     def given(self):
         """The names that it gives, each with its kind, how far it is seen, its place and its size. A label is no name."""
-        told = (each for each in self.symbols if not is_label(each[0]) and each[3] in self.place)
+        told = (each for each in self.symbols if not is_label(each[0]) and each[3] != UNDEFINED)
         named = (each for each in told if each[1] & 15 not in (SECTION_TYPE, FILE_TYPE))
-        return sorted((name, info, visible, self.place[section], value, size) for name, info, visible, section, value, size in named)
+        # A name that stands for a number, and in no section, keeps its own mark of that.
+        return sorted((name, info, visible, self.place.get(section, -section), value, size) for name, info, visible, section, value, size in named)
 
     def asked(self):
         """The names that it asks for."""
