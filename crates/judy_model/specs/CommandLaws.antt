@@ -34,7 +34,8 @@ module _ (word : List ℕ) (arguments : List (List ℕ)) (array : ArrayValue) wh
   -- It has this answer, and another array stands in the place of the one that it names.
   abbrev pub Changes : Answer → ArrayValue → Type 0
   Changes answer after =
-      (store : Store) (name : List ℕ) (line : Line) → IsTrue (is_name name) → array_named store name ≡ Some array → Says line (word ∷ name ∷ arguments) → step store line ≡ (Ok answer, with_array store name after)
+      (store : Store) (name : List ℕ) (line : Line) → IsTrue (is_name name) → array_named store name ≡ Some array → Says line (word ∷ name ∷ arguments) →
+      step store line ≡ (Ok answer, with_array store name after)
 
   -- It has this answer, and the store is as it was.
   abbrev pub Answers : Answer → Type 0
@@ -62,32 +63,38 @@ module _ {K : Type 0} {order : K → K → Ordering} (kind : ArrayOf order → A
   -- `put` answers the value that a key had, and leaves it the one given.
   abbrev pub PutWritesAPresentKey : Type 0
   PutWritesAPresentKey =
-      (array : ArrayOf order) (first second : List ℕ) (key : K) (value before : ℕ) → said first ≡ Some key → word_of second ≡ Some value → get array.map key ≡ Some before → Changes (codes "put") (first ∷ second ∷ []) (kind array) (was before) (kind (with_map array (write array.map key value)))
+      (array : ArrayOf order) (first second : List ℕ) (key : K) (value before : ℕ) → said first ≡ Some key → word_of second ≡ Some value → get array.map key ≡ Some before →
+      Changes (codes "put") (first ∷ second ∷ []) (kind array) (was before) (kind (with_map array (write array.map key value)))
 
   -- At a key that isn't there it answers `none` and changes nothing.
   abbrev pub PutLeavesAnAbsentKey : Type 0
   PutLeavesAnAbsentKey =
-      (array : ArrayOf order) (first second : List ℕ) (key : K) (value : ℕ) → said first ≡ Some key → word_of second ≡ Some value → get array.map key ≡ None → Answers (codes "put") (first ∷ second ∷ []) (kind array) nothing
+      (array : ArrayOf order) (first second : List ℕ) (key : K) (value : ℕ) → said first ≡ Some key → word_of second ≡ Some value → get array.map key ≡ None →
+      Answers (codes "put") (first ∷ second ∷ []) (kind array) nothing
 
   -- `ins` at a key that is there answers the value that it had, and leaves it the one given, however full the array is.
   abbrev pub InsWritesAPresentKey : Type 0
   InsWritesAPresentKey =
-      (array : ArrayOf order) (first second : List ℕ) (key : K) (value before : ℕ) → said first ≡ Some key → word_of second ≡ Some value → get array.map key ≡ Some before → Changes (codes "ins") (first ∷ second ∷ []) (kind array) (was before) (kind (with_map array (write array.map key value)))
+      (array : ArrayOf order) (first second : List ℕ) (key : K) (value before : ℕ) → said first ≡ Some key → word_of second ≡ Some value → get array.map key ≡ Some before →
+      Changes (codes "ins") (first ∷ second ∷ []) (kind array) (was before) (kind (with_map array (write array.map key value)))
 
   -- At a key that isn't there it answers 0, the value of a new key, and adds the key with the value given.
   abbrev pub InsAddsAnAbsentKey : Type 0
   InsAddsAnAbsentKey =
-      (array : ArrayOf order) (first second : List ℕ) (key : K) (value : ℕ) → said first ≡ Some key → word_of second ≡ Some value → get array.map key ≡ None → len array.map < array.limit → Changes (codes "ins") (first ∷ second ∷ []) (kind array) (was 0) (kind (with_map array (write (ins array.map key) key value)))
+      (array : ArrayOf order) (first second : List ℕ) (key : K) (value : ℕ) → said first ≡ Some key → word_of second ≡ Some value → get array.map key ≡ None →
+      len array.map < array.limit → Changes (codes "ins") (first ∷ second ∷ []) (kind array) (was 0) (kind (with_map array (write (ins array.map key) key value)))
 
   -- Such a key is refused where the array holds as many keys as its limit.
   abbrev pub InsIsRefusedAtTheLimit : Type 0
   InsIsRefusedAtTheLimit =
-      (array : ArrayOf order) (first second : List ℕ) (key : K) (value : ℕ) → said first ≡ Some key → word_of second ≡ Some value → get array.map key ≡ None → len array.map ≡ array.limit → IsRefused (codes "ins") (first ∷ second ∷ []) (kind array) full
+      (array : ArrayOf order) (first second : List ℕ) (key : K) (value : ℕ) → said first ≡ Some key → word_of second ≡ Some value → get array.map key ≡ None →
+      len array.map ≡ array.limit → IsRefused (codes "ins") (first ∷ second ∷ []) (kind array) full
 
   -- A delete by its word, `del` or `unset`, answers 1 at a key that is there, and takes it out.
   abbrev pub TakesOutAPresentKey : List ℕ → Type 0
   TakesOutAPresentKey word =
-      (array : ArrayOf order) (token : List ℕ) (key : K) (value : ℕ) → said token ≡ Some key → get array.map key ≡ Some value → Changes word (token ∷ []) (kind array) (flag true) (kind (with_map array (del array.map key)))
+      (array : ArrayOf order) (token : List ℕ) (key : K) (value : ℕ) → said token ≡ Some key → get array.map key ≡ Some value →
+      Changes word (token ∷ []) (kind array) (flag true) (kind (with_map array (del array.map key)))
 
   -- At a key that isn't there it answers 0 and changes nothing.
   abbrev pub LeavesAnAbsentKey : List ℕ → Type 0
@@ -97,7 +104,8 @@ module _ {K : Type 0} {order : K → K → Ordering} (kind : ArrayOf order → A
   -- `count` answers how many keys lie from the first one said to the second.
   abbrev pub CountsFromTheFirstToTheSecond : Type 0
   CountsFromTheFirstToTheSecond =
-      (array : ArrayOf order) (first second : List ℕ) (from to : K) → said first ≡ Some from → said second ≡ Some to → Answers (codes "count") (first ∷ second ∷ []) (kind array) (number (count array.map from to))
+      (array : ArrayOf order) (first second : List ℕ) (from to : K) → said first ≡ Some from → said second ≡ Some to →
+      Answers (codes "count") (first ∷ second ∷ []) (kind array) (number (count array.map from to))
 
 -- ---- searches: a kind, and what a token says to the search, a key or a number
 
@@ -110,7 +118,8 @@ module _ {K S : Type 0} {order : K → K → Ordering} (kind : ArrayOf order →
   -- The key that is found is the answer, with the value that it has.
   abbrev pub AnswersTheEntry : (K → ℕ → Answer) → List ℕ → (FinMap order ℕ → S → Option K) → Type 0
   AnswersTheEntry entry word search =
-      (array : ArrayOf order) (token : List ℕ) (from : S) (found : K) (value : ℕ) → said token ≡ Some from → search array.map from ≡ Some found → get array.map found ≡ Some value → Answers word (token ∷ []) (kind array) (entry found value)
+      (array : ArrayOf order) (token : List ℕ) (from : S) (found : K) (value : ℕ) → said token ≡ Some from → search array.map from ≡ Some found →
+      get array.map found ≡ Some value → Answers word (token ∷ []) (kind array) (entry found value)
 
   -- Where nothing is found, `none` is.
   abbrev pub AnswersNone : {A : Type 0} → List ℕ → (FinMap order ℕ → S → Option A) → Type 0

@@ -12,7 +12,8 @@ use Rattle.judy_model.specs.Kinds.{kind_named}
 use Rattle.judy_model.specs.Tokens.{word_of, name_of}
 use Rattle.judy_model.specs.KeyTokens.{string_key_of, bytes_key_of}
 use Rattle.judy_model.specs.Stores.{Store, array_named, with_array, with_new_array, without_array}
-use Rattle.judy_model.specs.Replies.{Answer, done, was, flag, number, entry, string_entry, freed, listed, nothing, Refusal, argument_count, bad_name, no_such_array, wrong_kind, bad_word, bad_key, bad_limit, exists, too_many_arrays, full}
+use Rattle.judy_model.specs.Replies.{Answer, done, was, flag, number, entry, string_entry, freed, listed, nothing, Refusal, argument_count, bad_name, no_such_array, wrong_kind}
+use Rattle.judy_model.specs.Replies.{bad_word, bad_key, bad_limit, exists, too_many_arrays, full}
 use Rattle.judy_model.specs.CommandWords as command
 use Rattle.judy_model.specs.CommandWords.{Neighbour, KeyCommand, PairCommand, Command}
 

@@ -1,6 +1,7 @@
 -- Which bytes are dumps, in which format and of which store: the fields in their order, each with what it must be.
 -- Bytes that are none have the flaw of the first check that fails. (This project's own.)
-use Rattle.std.specs.Prelude.{◌≡◌, ℕ, zero, suc, ◌+◌, Bool, true, not, ◌&&◌, ◌||◌, ◌==◌, nat_lt, nat_le, is_none, if◌then◌else◌, List, [], ◌∷◌, ◌++◌, length, take, bytes_eq, Option, Some, None, unwrap_or, Result, Ok}
+use Rattle.std.specs.Prelude.{◌≡◌, ℕ, zero, suc, ◌+◌, Bool, true, not, ◌&&◌, ◌||◌, ◌==◌, nat_lt, nat_le, is_none, if◌then◌else◌, List, [], ◌∷◌, ◌++◌, length, take, bytes_eq}
+use Rattle.std.specs.Prelude.{Option, Some, None, unwrap_or, Result, Ok}
 use Rattle.std.specs.declared.cmp.Ordering.{Ordering}
 use Rattle.std.specs.Ordering.{is_lt}
 use Rattle.std.specs.List.{list_all}
@@ -10,7 +11,8 @@ use Rattle.judy_model.specs.Keys.{word_order, byte_order}
 use Rattle.judy_model.specs.Arrays.{ArrayOf, ArrayValue, judy1, judyl, judysl, judyhs}
 use Rattle.judy_model.specs.Tokens.{is_name_byte}
 use Rattle.judy_model.specs.Stores.{Store, array_named, with_new_array}
-use Rattle.judy_model.specs.Fields.{Flaw, bad_magic, too_many, bad_name, same_name, bad_kind, bad_limit, bad_count, bad_key, bad_order, bad_prefix, Parser, ◌>>=◌, done, bytes, number, field, end, value_of}
+use Rattle.judy_model.specs.Fields.{Flaw, bad_magic, too_many, bad_name, same_name, bad_kind, bad_limit, bad_count, bad_key, bad_order, bad_prefix, Parser, ◌>>=◌, done, bytes}
+use Rattle.judy_model.specs.Fields.{number, field, end, value_of}
 use Rattle.judy_model.specs.DumpText.{Version, jdy1, jdy2, magic, shared_length, length_order}
 use Rattle.judy_model.specs.declared.keys.TheConstants.{LONGEST_KEY}
 

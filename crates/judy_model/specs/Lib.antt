@@ -37,3 +37,6 @@ pub mod CutRuns
 pub mod StringOrder
 pub mod RunEnds
 pub mod KeyLengths
+pub mod TwoMaps
+pub mod Ranges
+pub mod Prefixes

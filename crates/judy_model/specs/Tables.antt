@@ -22,6 +22,10 @@ bytes_keys longest = strings_to (numbers_below 256) longest
 unfoldable pub string_keys : List (List ℕ)
 string_keys = strings_to (filter (λ byte. nat_lt 0 byte) (numbers_below 256)) LONGEST_KEY
 
+-- The same whose longest key has so many bytes.
+unfoldable pub string_keys_to : ℕ → List (List ℕ)
+string_keys_to longest = strings_to (filter (λ byte. nat_lt 0 byte) (numbers_below 256)) longest
+
 -- The keys for which a function has an answer, each with that answer.
 abbrev pub tabled : (List ℕ → Option ℕ) → List (List ℕ) → List (List ℕ × ℕ)
 tabled answer = filter_map (λ key. option_map (λ value. (key, value)) (answer key))

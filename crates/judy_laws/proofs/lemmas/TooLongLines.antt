@@ -14,7 +14,8 @@ use Rattle.judy_model.specs.Replies.{Reply, Refusal, line_too_long, unknown_comm
 use Rattle.judy_model.specs.Kinds.{kind_named}
 use Rattle.judy_model.specs.CommandWords as command
 use Rattle.judy_model.specs.CommandWords.{KeyCommand, PairCommand, Command, command_named}
-use Rattle.judy_model.specs.Commands.{Outcome, ◌>>=◌, provided, limit_at, made, set_on_key, set_on_pair, map_on_key, map_on_pair, words_on_key, words_on_pair, strings_on_key, strings_on_pair, on_key, on_pair, freed_whole, at_name, carried_out, name_at, word_at, string_key_at, bytes_key_at, array_at}
+use Rattle.judy_model.specs.Commands.{Outcome, ◌>>=◌, provided, limit_at, made, set_on_key, set_on_pair, map_on_key, map_on_pair, words_on_key, words_on_pair, strings_on_key}
+use Rattle.judy_model.specs.Commands.{strings_on_pair, on_key, on_pair, freed_whole, at_name, carried_out, name_at, word_at, string_key_at, bytes_key_at, array_at}
 use Rattle.judy_model.specs.Steps.{outcome_of, outcome_of_tokens, carried_out_by_word, settled, step, Step}
 use Rattle.judy_model.proofs.lemmas.commands.StepLemmas.{Step-refused}
 
@@ -151,12 +152,14 @@ pair_never command key value (judysl array) = strings_pair_never command array k
 pair_never command key value (judyhs array) = map_pair_never judyhs command array (bytes_key_at key) value (a_bytes_key key)
 
 -- a command of one array: the rest of its checks, where the name is one of the store's
-named_never : {A : Type 0} (store : Store) (name : List ℕ) (rest : List ℕ → ArrayValue → Result A Refusal) → ((name : List ℕ) (array : ArrayValue) → NeverTooLong (rest name array)) → NeverTooLong (name_at name >>= (λ name. array_at store name >>= rest name))
+named_never : {A : Type 0} (store : Store) (name : List ℕ) (rest : List ℕ → ArrayValue → Result A Refusal) → ((name : List ℕ) (array : ArrayValue) → NeverTooLong (rest name array)) →
+    NeverTooLong (name_at name >>= (λ name. array_at store name >>= rest name))
 named_never store name rest h =
     followed (name_at name) _ (found (name_of name) bad_name (λ e. cc)) (λ name'.
     followed (array_at store name') _ (found (array_named store name') no_such_array (λ e. cc)) (h name'))
 
-at_name_never : (store : Store) (name : List ℕ) (effect : ArrayValue → Result (Outcome ArrayValue) Refusal) → ((array : ArrayValue) → NeverTooLong (effect array)) → NeverTooLong (at_name store name effect)
+at_name_never : (store : Store) (name : List ℕ) (effect : ArrayValue → Result (Outcome ArrayValue) Refusal) → ((array : ArrayValue) → NeverTooLong (effect array)) →
+    NeverTooLong (at_name store name effect)
 at_name_never store name effect h =
     named_never store name _ (λ name' array. followed (effect array) _ (h array) (λ outcome. given _))
 
@@ -197,7 +200,8 @@ of_tokens_never store (word ∷ arguments) =
     chosen (starts_with nat_eq word (59 ∷ [])) _ _ (given _) (by_word_never store word arguments)
 
 -- a line is refused so exactly where it is too long
-by_length : (store : Store) (long : Bool) (outcome : Result (Outcome Store) Refusal) → NeverTooLong outcome → (settled store (cond long (Err line_too_long) outcome)).0 ≡ Err line_too_long → long ≡ true
+by_length : (store : Store) (long : Bool) (outcome : Result (Outcome Store) Refusal) → NeverTooLong outcome → (settled store (cond long (Err line_too_long) outcome)).0 ≡ Err line_too_long →
+    long ≡ true
 by_length store true outcome never is = refl
 by_length store false (Ok outcome) never is = cc
 by_length store false (Err refusal) never is = let same : refusal ≡ line_too_long = cc in absurd (never (ap (λ why. Err why) same))

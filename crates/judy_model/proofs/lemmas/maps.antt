@@ -4,11 +4,10 @@ pub mod Ascending
 pub mod KeysLemmas
 pub mod TableLemmas
 pub mod ChangesLemmas
-pub mod SortedEntries
 pub mod Pairs
 pub mod SortedMaps
 pub mod Inserts
-pub mod Lent
 pub mod ValuesLemmas
 pub mod MadeMaps
 pub mod MapsOfPairs
+pub mod TwoMapsLemmas

@@ -4,6 +4,5 @@ pub mod EmptiesLemmas
 pub mod Places
 pub mod RankLemmas
 pub mod CountsLemmas
-pub mod FullRunLemmas
 pub mod AlikeLemmas
 pub mod RankLaws

@@ -1,5 +1,5 @@
-//! What each command answers and leaves, on a store of one array `a` that holds keys; each refusal that the command has behind those
-//! that all have.
+//! What each command answers and leaves, on a store of one array `a` that holds keys; each refusal that the command has
+//! behind those that all have.
 
 pub mod bytes;
 pub mod sets;

@@ -1,5 +1,5 @@
-//! How many keys are below a key, how many at or below it, and which key stands at a place, counted from 0: on a map of the words 2, 4
-//! and 7, and on one of the byte strings `ab`, a zero byte behind `ab`, and `b`.
+//! How many keys are below a key, how many at or below it, and which key stands at a place, counted from 0: on a map of
+//! the words 2, 4 and 7, and on one of the byte strings `ab`, a zero byte behind `ab`, and `b`.
 
 ghost use Rattle.std.specs.Prelude.{◌≡◌, [], codes, Some, None};
 ghost use Rattle.judy_model.specs.Counts.{rank, count_up_to, nth};

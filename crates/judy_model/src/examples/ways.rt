@@ -12,7 +12,8 @@ pub fn one_node_holds_all_keys()
     ensures of_34 { HoldsOnWay 33 7 8 (form_of 0 8 (range_with_len 0 34)) → ⊥ }
 {}
 
-/// With 256 there is a branch of 34 keys, and the bitmap leaf of 33 below it is on the way of the words from 0 to 255 alone.
+/// With 256 there is a branch of 34 keys, and the bitmap leaf of 33 below it is on the way of the words from 0 to 255
+/// alone.
 pub fn a_node_below_holds_fewer()
     ensures branch { HoldsOnWay 34 256 8 (form_of 0 8 (range_with_len 0 33 ++ 256 ∷ [])) }
     ensures below { HoldsOnWay 33 255 8 (form_of 0 8 (range_with_len 0 33 ++ 256 ∷ [])) }

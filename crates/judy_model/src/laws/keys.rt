@@ -7,8 +7,8 @@ ghost use Rattle.judy_model.specs.declared.keys.TheConstants.{LONGEST_KEY};
 ghost use Rattle.judy_model.specs.Tokens.{tokens_of};
 ghost use Rattle.judy_model.specs.KeyTokens.{key_of, bytes_key_of, string_key_of, printed_key};
 
-/// A byte string is a key wherever keys may be as long as it is or longer, and nowhere else; in a judyhs array they may have 1,024
-/// bytes.
+/// A byte string is a key wherever keys may be as long as it is or longer, and nowhere else; in a judyhs array they may
+/// have 1,024 bytes.
 pub fn a_byte_string_is_a_key_where_keys_may_be_as_long()
     ensures as_long { (key : List ℕ) → IsByteString key → IsBytesKeyTo (length key) key }
     ensures longer { (longest more : ℕ) (key : List ℕ) → longest ≤ more → IsBytesKeyTo longest key

@@ -6,8 +6,8 @@ ghost use Rattle.judy_model.specs.Keys.{IsStringKey};
 ghost use Rattle.judy_model.specs.KeyLengths.{IsBytesKeyTo};
 ghost use Rattle.judy_model.specs.Tables.{bytes_keys, string_keys, table};
 
-/// The lists of all keys hold the keys of arrays over byte strings, whatever length is the longest, and of judysl arrays, and
-/// nothing else.
+/// The lists of all keys hold the keys of arrays over byte strings, whatever length is the longest, and of judysl
+/// arrays, and nothing else.
 pub fn the_lists_hold_all_keys()
     ensures bytes { (longest : ℕ) (key : List ℕ) → Contains (bytes_keys longest) key
         ↔ IsBytesKeyTo longest key }

@@ -4,8 +4,8 @@ ghost use Rattle.std.specs.Prelude.{◌↔◌, ◌^◌, ◌≤◌, ℕ, List};
 ghost use Rattle.judy_model.specs.Shapes.{form_of, AllBelow};
 ghost use Rattle.judy_model.specs.Ways.{HoldsOnWay, AreAlike, Ascends};
 
-/// In a tree by the rule a node on the way of a word holds exactly 33 keys just where exactly 33 keys are the same as the word but for
-/// some number of lowest bytes.
+/// In a tree by the rule a node on the way of a word holds exactly 33 keys just where exactly 33 keys are the same as
+/// the word but for some number of lowest bytes.
 pub fn a_node_of_33_keys_is_33_keys_alike()
     ensures { (words width word : ℕ) (keys : List ℕ) → 1 ≤ width → AllBelow (256 ^ width) keys
         → Ascends 0 keys

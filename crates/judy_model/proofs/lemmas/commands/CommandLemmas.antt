@@ -20,7 +20,8 @@ pub record Names (word : List ℕ) (command : Command) : Type 0 where
   pub named : command_named word ≡ Some command
 
 -- a line that says a command does what the command does
-pub step-said : (store : Store) (line : Line) (word : List ℕ) (command : Command) (arguments : List (List ℕ)) → Names word command → Says line (word ∷ arguments) → step store line ≡ settled store (carried_out store command arguments)
+pub step-said : (store : Store) (line : Line) (word : List ℕ) (command : Command) (arguments : List (List ℕ)) → Names word command → Says line (word ∷ arguments) →
+    step store line ≡ settled store (carried_out store command arguments)
 step-said store line word command arguments names says =
     ap (λ long. settled store (cond long (Err line_too_long) (outcome_of_tokens store (tokens_of (text_of line))))) says.0
     ∙ ap (λ tokens. settled store (outcome_of_tokens store tokens)) says.1
@@ -28,14 +29,17 @@ step-said store line word command arguments names says =
     ∙ ap (λ found. settled store (ok_or found unknown_command >>= (λ command. carried_out store command arguments))) names.named
 
 -- the array of a name that stands in the store
-pub named_array : {A : Type 0} (store : Store) (name : List ℕ) (array : ArrayValue) (rest : List ℕ → ArrayValue → Result A Refusal) → IsTrue (is_name name) → array_named store name ≡ Some array → (name_at name >>= (λ name. array_at store name >>= rest name)) ≡ rest name array
+pub named_array : {A : Type 0} (store : Store) (name : List ℕ) (array : ArrayValue) (rest : List ℕ → ArrayValue → Result A Refusal) → IsTrue (is_name name) →
+    array_named store name ≡ Some array → (name_at name >>= (λ name. array_at store name >>= rest name)) ≡ rest name array
 named_array store name array rest is here =
     ap (λ b. ok_or (cond b (Some name) None) bad_name >>= (λ name. array_at store name >>= rest name)) is
     ∙ ap (λ found. ok_or found no_such_array >>= rest name) here
 
 -- what becomes of the store by what becomes of the array
-module _ (word : List ℕ) (command : Command) (arguments : List (List ℕ)) (names : Names word command) (effect : ArrayValue → Result (Outcome ArrayValue) Refusal) (does : (store : Store) (name : List ℕ) → carried_out store command (name ∷ arguments) ≡ at_name store name effect) (array : ArrayValue) where
-  done : (result : Result (Outcome ArrayValue) Refusal) → effect array ≡ result → (store : Store) (name : List ℕ) (line : Line) → IsTrue (is_name name) → array_named store name ≡ Some array → Says line (word ∷ name ∷ arguments) → step store line ≡ settled store (result >>= (λ outcome. Ok (within store name outcome)))
+module _ (word : List ℕ) (command : Command) (arguments : List (List ℕ)) (names : Names word command) (effect : ArrayValue → Result (Outcome ArrayValue) Refusal)
+    (does : (store : Store) (name : List ℕ) → carried_out store command (name ∷ arguments) ≡ at_name store name effect) (array : ArrayValue) where
+  done : (result : Result (Outcome ArrayValue) Refusal) → effect array ≡ result → (store : Store) (name : List ℕ) (line : Line) → IsTrue (is_name name) →
+      array_named store name ≡ Some array → Says line (word ∷ name ∷ arguments) → step store line ≡ settled store (result >>= (λ outcome. Ok (within store name outcome)))
   done result is store name line good here says =
       step-said store line word command (name ∷ arguments) names says
       ∙ ap (settled store) (does store name)

@@ -1,5 +1,6 @@
 -- Byte strings as key tokens say them and as they are printed.
-use Rattle.std.proofs.Common.{◌≡◌, ◌≢◌, ℕ, ◌+◌, ◌*◌, ◌/◌, ◌%◌, ◌<◌, Bool, true, false, cond, not, ◌==◌, nat_lt, nat_le, List, [], ◌∷◌, length, Option, Some, None, refl, sym, ap, ◌∙◌, arith, All, IfSome}
+use Rattle.std.proofs.Common.{◌≡◌, ◌≢◌, ℕ, ◌+◌, ◌*◌, ◌/◌, ◌%◌, ◌<◌, Bool, true, false, cond, not, ◌==◌, nat_lt, nat_le, List, [], ◌∷◌, length, Option, Some, None, refl, sym, ap}
+use Rattle.std.proofs.Common.{◌∙◌, arith, All, IfSome}
 use Rattle.std.specs.Prelude.{filter}
 use Rattle.std.specs.List.{list_all}
 use Rattle.std.proofs.lemmas.Bool.{and_parts, lt-ltb, le-leb, leb-true}
@@ -25,7 +26,8 @@ shown_is_byte n shown = let most = leb-true n 126 (and_parts (nat_le 33 n) (nat_
 digit_is_small : (sign : ℕ) → IfSome (digit_value sign) (λ value. value < 16)
 digit_is_small sign = grind (arith)
 
-with_byte-IsByteString : (high low : Option ℕ) (bytes : Option (List ℕ)) → IfSome high (λ value. value < 16) → IfSome low (λ value. value < 16) → IfSome bytes IsByteString → IfSome (with_byte high low bytes) IsByteString
+with_byte-IsByteString : (high low : Option ℕ) (bytes : Option (List ℕ)) → IfSome high (λ value. value < 16) → IfSome low (λ value. value < 16) → IfSome bytes IsByteString →
+    IfSome (with_byte high low bytes) IsByteString
 with_byte-IsByteString (Some high) (Some low) (Some bytes) h l rest = All-cons (λ byte. byte < 256) (high * 16 + low) bytes (omega arith) rest
 with_byte-IsByteString (Some high) (Some low) None h l rest = tt
 with_byte-IsByteString (Some high) None bytes h l rest = tt
@@ -66,7 +68,8 @@ is_string_key-IsStringKey key bytes good =
     let parts = and_parts (is_bytes_key key) (list_all (λ byte. not (byte == 0)) key) good in
     record { is_bytes_key = is_bytes_key-IsBytesKey key bytes parts.0; without_zero = All-from_test (λ byte. not (byte == 0)) (λ byte. byte ≢ 0) not_zero key parts.1 }
 
-passed : (test : List ℕ → Bool) (P : List ℕ → Type 0) → ((key : List ℕ) → IsByteString key → test key ≡ true → P key) → (said : Option (List ℕ)) → IfSome said IsByteString → IfSome (passing test said) P
+passed : (test : List ℕ → Bool) (P : List ℕ → Type 0) → ((key : List ℕ) → IsByteString key → test key ≡ true → P key) → (said : Option (List ℕ)) → IfSome said IsByteString →
+    IfSome (passing test said) P
 passed test P each None bytes = tt
 passed test P each (Some key) bytes = elim (test key) as (λ b. test key ≡ b → IfSome (cond b (Some key) None) P) [
   | true ↦ λ good. each key bytes good

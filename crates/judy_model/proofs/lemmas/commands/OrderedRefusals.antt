@@ -16,7 +16,8 @@ use Rattle.judy_model.specs.CommandLaws.{Says, RefusesItsArguments, RefusesABadN
 use Rattle.judy_model.proofs.lemmas.commands.CommandLemmas.{Names, step-said}
 
 -- A word that is no command is refused.
-pub unknown : (word : List ℕ) (arguments : List (List ℕ)) (store : Store) (line : Line) → IsFalse (starts_with nat_eq word (59 ∷ [])) → command_named word ≡ None → Says line (word ∷ arguments) → step store line ≡ (Err unknown_command, store)
+pub unknown : (word : List ℕ) (arguments : List (List ℕ)) (store : Store) (line : Line) → IsFalse (starts_with nat_eq word (59 ∷ [])) → command_named word ≡ None →
+    Says line (word ∷ arguments) → step store line ≡ (Err unknown_command, store)
 unknown word arguments store line plain none says =
     ap (λ long. settled store (cond long (Err line_too_long) (outcome_of_tokens store (tokens_of (text_of line))))) says.0
     ∙ ap (λ tokens. settled store (outcome_of_tokens store tokens)) says.1

@@ -23,7 +23,8 @@ module _ {A : Type 0} (P : A → Type 0) where
   found (Some value) refusal h = h
 
 -- the rest, where the first gives a value
-pub followed : {A B : Type 0} (P : A → Type 0) (Q : B → Type 0) (first : Result A Refusal) (rest : A → Result B Refusal) → IfOk first P → ((value : A) → P value → IfOk (rest value) Q) → IfOk (first >>= rest) Q
+pub followed : {A B : Type 0} (P : A → Type 0) (Q : B → Type 0) (first : Result A Refusal) (rest : A → Result B Refusal) → IfOk first P →
+    ((value : A) → P value → IfOk (rest value) Q) → IfOk (first >>= rest) Q
 followed P Q (Ok value) rest h k = k value h
 followed P Q (Err refusal) rest h k = tt
 
@@ -57,7 +58,9 @@ pub by_word : {A : Type 0} (Q : A → Type 0) (token : List ℕ) (rest : ℕ →
 by_word Q token rest each = followed IsWord Q (word_at token) rest (word_at-IsWord token) each
 
 -- the rest of the checks, by the array of the name that a token says
-pub by_name : {A : Type 0} (Q : A → Type 0) (store : Store) (token : List ℕ) (rest : List ℕ → ArrayValue → Result A Refusal) → ((name : List ℕ) (array : ArrayValue) → array_named store name ≡ Some array → IfOk (rest name array) Q) → IfOk (name_at token >>= (λ name. array_at store name >>= rest name)) Q
+pub by_name : {A : Type 0} (Q : A → Type 0) (store : Store) (token : List ℕ) (rest : List ℕ → ArrayValue → Result A Refusal) →
+    ((name : List ℕ) (array : ArrayValue) → array_named store name ≡ Some array → IfOk (rest name array) Q) → IfOk (name_at token >>= (λ name. array_at store name >>= rest name)) Q
 by_name Q store token rest each =
     followed (λ _. ⊤) Q (name_at token) _ (anything (name_at token)) (λ name _.
-    followed (λ array. array_named store name ≡ Some array) Q (array_at store name) _ (found (λ array. array_named store name ≡ Some array) (array_named store name) no_such_array (there (array_named store name))) (each name))
+    followed (λ array. array_named store name ≡ Some array) Q (array_at store name) _ (found (λ array. array_named store name ≡ Some array) (array_named store name) no_such_array
+    (there (array_named store name))) (each name))

@@ -13,7 +13,8 @@ use Rattle.judy_model.specs.Stores.{Store, array_named, with_array}
 use Rattle.judy_model.specs.Replies.{Refusal, wrong_kind, bad_limit, exists, too_many_arrays}
 use Rattle.judy_model.specs.CommandWords as command
 use Rattle.judy_model.specs.CommandWords.{KeyCommand, PairCommand, Command, only_reads}
-use Rattle.judy_model.specs.Commands.{Outcome, ◌>>=◌, set_on_key, set_on_pair, map_on_key, map_on_pair, words_on_key, words_on_pair, strings_on_key, strings_on_pair, overwritten, on_key, on_pair, freed_whole, at_name, name_at, word_at, string_key_at, bytes_key_at, limit_at, provided, made, carried_out}
+use Rattle.judy_model.specs.Commands.{Outcome, ◌>>=◌, set_on_key, set_on_pair, map_on_key, map_on_pair, words_on_key, words_on_pair, strings_on_key, strings_on_pair, overwritten}
+use Rattle.judy_model.specs.Commands.{on_key, on_pair, freed_whole, at_name, name_at, word_at, string_key_at, bytes_key_at, limit_at, provided, made, carried_out}
 use Rattle.judy_model.proofs.lemmas.commands.Outcomes.{chosen, followed, anything, by_word, by_name}
 
 -- a command that may add an array or a key
@@ -112,7 +113,8 @@ pair_fits which key value (judyhs array) = map_pair_fits judyhs which array (byt
 
 module _ (store : Store) where
   -- an array that is left as it was leaves the store as it was
-  named_fits : (command : Command) (token : List ℕ) (effect : ArrayValue → Result (Outcome ArrayValue) Refusal) → ((array : ArrayValue) → IfOk (effect array) (Fits command array)) → IfOk (at_name store token effect) (Fits command store)
+  named_fits : (command : Command) (token : List ℕ) (effect : ArrayValue → Result (Outcome ArrayValue) Refusal) → ((array : ArrayValue) → IfOk (effect array) (Fits command array)) →
+      IfOk (at_name store token effect) (Fits command store)
   named_fits command token effect fits =
       by_name (Fits command store) store token _ (λ name array here.
       followed (Fits command array) (Fits command store) (effect array) _ (fits array) (λ outcome fit.

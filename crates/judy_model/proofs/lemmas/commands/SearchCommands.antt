@@ -19,21 +19,29 @@ use Rattle.judy_model.proofs.lemmas.maps.ChangesLemmas.{del_absent}
 use Rattle.judy_model.proofs.lemmas.maps.Inserts.{ins_present, is_full_present, is_full_absent}
 use Rattle.judy_model.proofs.lemmas.commands.CommandLemmas.{Names, key-Changes, key-Answers, key-IsRefused, pair-Answers}
 
-module _ {K S : Type 0} {order : K → K → Ordering} (kind : ArrayOf order → ArrayValue) (said : List ℕ → Option S) (no_key : Refusal) (word : List ℕ) (which : KeyCommand) (names : Names word (command.on_key which)) where
+module _ {K S : Type 0} {order : K → K → Ordering} (kind : ArrayOf order → ArrayValue) (said : List ℕ → Option S) (no_key : Refusal) (word : List ℕ) (which : KeyCommand)
+    (names : Names word (command.on_key which)) where
   -- a command that shows what a search finds
-  searched : {A : Type 0} (search : FinMap order ℕ → S → Option A) (shown : FinMap order ℕ → Option A → Answer) → ((token : List ℕ) (array : ArrayOf order) → commands.on_key which token (kind array) ≡ (ok_or (said token) no_key >>= (λ key. Ok (unchanged (kind array) (shown array.map (search array.map key)))))) → (array : ArrayOf order) (token : List ℕ) (from : S) (found : Option A) → said token ≡ Some from → search array.map from ≡ found → commands.on_key which token (kind array) ≡ Ok (unchanged (kind array) (shown array.map found))
+  searched : {A : Type 0} (search : FinMap order ℕ → S → Option A) (shown : FinMap order ℕ → Option A → Answer) →
+      ((token : List ℕ) (array : ArrayOf order) → commands.on_key which token (kind array) ≡ (ok_or (said token) no_key >>=
+      (λ key. Ok (unchanged (kind array) (shown array.map (search array.map key)))))) → (array : ArrayOf order) (token : List ℕ) (from : S) (found : Option A) →
+      said token ≡ Some from → search array.map from ≡ found → commands.on_key which token (kind array) ≡ Ok (unchanged (kind array) (shown array.map found))
   searched search shown does array token from found is at =
       does token array
       ∙ ap (λ key. ok_or key no_key >>= (λ key. Ok (unchanged (kind array) (shown array.map (search array.map key))))) is
       ∙ ap (λ found. Ok (unchanged (kind array) (shown array.map found))) at
 
-  pub numbers : (search : FinMap order ℕ → S → Option ℕ) → ((token : List ℕ) (array : ArrayOf order) → commands.on_key which token (kind array) ≡ (ok_or (said token) no_key >>= (λ key. Ok (unchanged (kind array) (number_or_nothing (search array.map key)))))) → AnswersNumberOrNone kind said word search
+  pub numbers : (search : FinMap order ℕ → S → Option ℕ) → ((token : List ℕ) (array : ArrayOf order) →
+      commands.on_key which token (kind array) ≡ (ok_or (said token) no_key >>= (λ key. Ok (unchanged (kind array) (number_or_nothing (search array.map key)))))) →
+      AnswersNumberOrNone kind said word search
   numbers search does = (
     λ array token from found is at. key-Answers word which names token (kind array) (number found) (searched search (λ map. number_or_nothing) does array token from (Some found) is at),
     λ array token from is at. key-Answers word which names token (kind array) nothing (searched search (λ map. number_or_nothing) does array token from None is at),
   )
 
-  pub entries : (shown : K → ℕ → Answer) (search : FinMap order ℕ → S → Option K) → ((token : List ℕ) (array : ArrayOf order) → commands.on_key which token (kind array) ≡ (ok_or (said token) no_key >>= (λ key. Ok (unchanged (kind array) (entry_or_nothing shown array.map (search array.map key)))))) → AnswersEntryOrNone kind said shown word search
+  pub entries : (shown : K → ℕ → Answer) (search : FinMap order ℕ → S → Option K) → ((token : List ℕ) (array : ArrayOf order) →
+      commands.on_key which token (kind array) ≡ (ok_or (said token) no_key >>= (λ key. Ok (unchanged (kind array) (entry_or_nothing shown array.map (search array.map key)))))) →
+      AnswersEntryOrNone kind said shown word search
   entries shown search does = (
     λ array token from found value is at held. key-Answers word which names token (kind array) (shown found value) (
         searched search (λ map. entry_or_nothing shown map) does array token from (Some found) is at
@@ -71,7 +79,9 @@ pub by_count_of_strings : AnswersEntryOrNone judysl word_of string_entry (codes 
 by_count_of_strings = entries judysl word_of bad_word (codes "bycount") command.by_count by_count_names string_entry by_count (λ _ _. refl)
 
 -- counts
-module _ {K : Type 0} {order : K → K → Ordering} (kind : ArrayOf order → ArrayValue) (said : List ℕ → Option K) (no_key : Refusal) (does : (first second : List ℕ) (array : ArrayOf order) → commands.on_pair command.count first second (kind array) ≡ (ok_or (said first) no_key >>= (λ from. ok_or (said second) no_key >>= (λ to. Ok (unchanged (kind array) (number (count array.map from to))))))) where
+module _ {K : Type 0} {order : K → K → Ordering} (kind : ArrayOf order → ArrayValue) (said : List ℕ → Option K) (no_key : Refusal)
+    (does : (first second : List ℕ) (array : ArrayOf order) → commands.on_pair command.count first second (kind array) ≡
+    (ok_or (said first) no_key >>= (λ from. ok_or (said second) no_key >>= (λ to. Ok (unchanged (kind array) (number (count array.map from to))))))) where
   counts_of : CountsFromTheFirstToTheSecond kind said
   counts_of array first second from to is this =
       pair-Answers (codes "count") command.count (record { plain = refl; named = refl }) first second (kind array) (number (count array.map from to)) (
@@ -111,7 +121,8 @@ module _ (set : ArrayOf word_order) (token : List ℕ) (key : ℕ) (is : word_of
   removes : commands.on_key command.unset token (judy1 set) ≡ Ok (removed judy1 set key)
   removes = ap (λ key. ok_or key bad_word >>= (λ key. Ok (removed judy1 set key))) is
 
-  taken : (found : Option ℕ) → get set.map key ≡ found → (let was : Result (Outcome ArrayValue) Refusal = Ok (removed judy1 set key) in was) ≡ Ok (record { answer = flag (is_some found); after = judy1 (with_map set (del set.map key)); grows = false })
+  taken : (found : Option ℕ) → get set.map key ≡ found → (let was : Result (Outcome ArrayValue) Refusal = Ok (removed judy1 set key) in was) ≡
+      Ok (record { answer = flag (is_some found); after = judy1 (with_map set (del set.map key)); grows = false })
   taken found at = ap (λ found. Ok (record { answer = flag (is_some found); after = judy1 (with_map set (del set.map key)); grows = false })) at
 
   pub unset_present : (value : ℕ) → get set.map key ≡ Some value → Changes (codes "unset") (token ∷ []) (judy1 set) (flag true) (judy1 (with_map set (del set.map key)))

@@ -1,5 +1,6 @@
 -- How a line changes the number of arrays and keys.
-use Rattle.std.proofs.Common.{◌≡◌, ℕ, ◌+◌, ◌-◌, ◌<◌, ◌≤◌, ◌↔◌, Bool, true, false, cond, not, List, [], ◌∷◌, length, Option, Some, None, Result, Ok, Err, inl, inr, refl, sym, ap, ◌∙◌, true≢false, arith, IsTrue, IfOk, IfSome, nat_lt, nat_le, nat_eq, ok_or, codes, is_none, is_some}
+use Rattle.std.proofs.Common.{◌≡◌, ℕ, ◌+◌, ◌-◌, ◌<◌, ◌≤◌, ◌↔◌, Bool, true, false, cond, not, List, [], ◌∷◌, length, Option, Some, None, Result, Ok, Err, inl, inr, refl, sym, ap}
+use Rattle.std.proofs.Common.{◌∙◌, true≢false, arith, IsTrue, IfOk, IfSome, nat_lt, nat_le, nat_eq, ok_or, codes, is_none, is_some}
 use Rattle.std.specs.Prelude.{bytes_eq, ⊤, ◌&&◌}
 use Rattle.std.specs.List.{starts_with}
 use Rattle.std.specs.declared.cmp.Ordering.{Ordering}
@@ -17,7 +18,9 @@ use Rattle.judy_model.specs.Sizes.{size_of}
 use Rattle.judy_model.specs.Replies.{Refusal, no_memory, wrong_kind, bad_limit, exists, too_many_arrays, unknown_command}
 use Rattle.judy_model.specs.CommandWords as command
 use Rattle.judy_model.specs.CommandWords.{KeyCommand, PairCommand, Command, command_named}
-use Rattle.judy_model.specs.Commands.{Outcome, ◌>>=◌, added, inserted, overwritten, removed, set_on_key, set_on_pair, map_on_key, map_on_pair, words_on_key, words_on_pair, strings_on_key, strings_on_pair, on_key, on_pair, freed_whole, at_name, name_at, word_at, string_key_at, bytes_key_at, limit_at, provided, made, carried_out}
+use Rattle.judy_model.specs.Commands.{Outcome, ◌>>=◌, added, inserted, overwritten, removed, set_on_key, set_on_pair, map_on_key, map_on_pair, words_on_key, words_on_pair}
+use Rattle.judy_model.specs.Commands.{strings_on_key, strings_on_pair, on_key, on_pair, freed_whole, at_name, name_at, word_at, string_key_at, bytes_key_at, limit_at, provided}
+use Rattle.judy_model.specs.Commands.{made, carried_out}
 use Rattle.judy_model.specs.Steps.{outcome_of_tokens, outcome_of, settled, step, outcome_grows, grows, Step}
 use Rattle.judy_model.proofs.lemmas.maps.ChangesLemmas.{len-ins, len-del, write-ins}
 use Rattle.judy_model.proofs.lemmas.commands.StepLemmas.{outcome_of-never_no_memory, NeverNoMemory}
@@ -61,10 +64,12 @@ abbrev Counted : ArrayValue → Outcome ArrayValue → Type 0
 Counted array outcome = Adds (len_of array) (len_of outcome.after) outcome.grows
 
 -- of a kind of arrays with keys in an order
-module _ {K : Type 0} {order : K → K → Ordering} (total : IsTotalOrder order) (kind : ArrayOf order → ArrayValue) (sized : (array : ArrayOf order) → len_of (kind array) ≡ len array.map) (array : ArrayOf order) (key : K) where
+module _ {K : Type 0} {order : K → K → Ordering} (total : IsTotalOrder order) (kind : ArrayOf order → ArrayValue) (sized : (array : ArrayOf order) → len_of (kind array) ≡ len array.map)
+    (array : ArrayOf order) (key : K) where
   inserted_counted : IsAntisymmetric order → (value : ℕ) → IfOk (inserted kind array key value) (Counted (kind array))
   inserted_counted same value = chosen (Counted (kind array)) (is_full array key) _ _ (λ _. tt) (λ _.
-      Adds-put (contains_key array.map key) _ _ (sized _ ∙ ap len (write-ins total array.map key same value) ∙ len-insert total array.map key value ∙ ap (λ n. cond (contains_key array.map key) n (n + 1)) (sym (sized array))))
+      Adds-put (contains_key array.map key) _ _ (sized _ ∙ ap len (write-ins total array.map key same value) ∙ len-insert total array.map key value ∙
+      ap (λ n. cond (contains_key array.map key) n (n + 1)) (sym (sized array))))
 
   overwritten_counted : (value : ℕ) → Counted (kind array) (overwritten kind array key value (get array.map key))
   overwritten_counted value =
@@ -100,7 +105,8 @@ module _ (set : ArrayOf word_order) where
   set_pair_counted command.count key value = by_word _ key _ (λ from _. by_word _ value _ (λ to _. Adds-same (len set.map)))
 
 -- what all maps have, by the key that is said
-module _ {K : Type 0} {order : K → K → Ordering} (total : IsTotalOrder order) (same : IsAntisymmetric order) (kind : ArrayOf order → ArrayValue) (sized : (array : ArrayOf order) → len_of (kind array) ≡ len array.map) (array : ArrayOf order) (said : Result K Refusal) where
+module _ {K : Type 0} {order : K → K → Ordering} (total : IsTotalOrder order) (same : IsAntisymmetric order) (kind : ArrayOf order → ArrayValue)
+    (sized : (array : ArrayOf order) → len_of (kind array) ≡ len array.map) (array : ArrayOf order) (said : Result K Refusal) where
   by_key : (rest : K → Result (Outcome ArrayValue) Refusal) → ((key : K) → IfOk (rest key) (Counted (kind array))) → IfOk (said >>= rest) (Counted (kind array))
   by_key rest each = followed (λ _. ⊤) (Counted (kind array)) said rest (anything said) (λ key _. each key)
 
@@ -142,7 +148,8 @@ module _ (array : ArrayOf byte_order) where
   strings_key_counted command.test token = tt
   strings_key_counted command.get token = map_key_counted nat_list_cmp_total (slice_cmp-IsAntisymmetric nat_cmp-IsAntisymmetric) judysl (λ _. refl) array (string_key_at token) command.get
   strings_key_counted command.del token = map_key_counted nat_list_cmp_total (slice_cmp-IsAntisymmetric nat_cmp-IsAntisymmetric) judysl (λ _. refl) array (string_key_at token) command.del
-  strings_key_counted (command.neighbour side) token = by_key nat_list_cmp_total (slice_cmp-IsAntisymmetric nat_cmp-IsAntisymmetric) judysl (λ _. refl) array (string_key_at token) _ (λ key. Adds-same (len array.map))
+  strings_key_counted (command.neighbour side) token =
+      by_key nat_list_cmp_total (slice_cmp-IsAntisymmetric nat_cmp-IsAntisymmetric) judysl (λ _. refl) array (string_key_at token) _ (λ key. Adds-same (len array.map))
   strings_key_counted (command.empty side) token = tt
   strings_key_counted command.by_count token = by_word _ token _ (λ key _. Adds-same (len array.map))
 
@@ -176,10 +183,12 @@ emptied_counted (judyhs array) = none_left _ (len array.map)
 
 -- ---- the changes of a store
 
-size_of-with_array : (store : Store) (name : List ℕ) (array after : ArrayValue) → array_named store name ≡ Some array → size_of (with_array store name after) + len_of array ≡ size_of store + len_of after
+size_of-with_array : (store : Store) (name : List ℕ) (array after : ArrayValue) → array_named store name ≡ Some array →
+    size_of (with_array store name after) + len_of array ≡ size_of store + len_of after
 size_of-with_array [] name array after here = absurd (cc)
 size_of-with_array (entry ∷ store) name array after here =
-    elim (bytes_eq name entry.0) as (λ b. cond b (Some entry.1) (array_named store name) ≡ Some array → size_of (cond b ((entry.0, after) ∷ store) (entry ∷ with_array store name after)) + len_of array ≡ size_of (entry ∷ store) + len_of after) [
+    elim (bytes_eq name entry.0) as (λ b. cond b (Some entry.1) (array_named store name) ≡ Some array →
+    size_of (cond b ((entry.0, after) ∷ store) (entry ∷ with_array store name after)) + len_of array ≡ size_of (entry ∷ store) + len_of after) [
       | true ↦ λ is. let same : len_of entry.1 ≡ len_of array = ap len_of (let one : entry.1 ≡ array = cc in one) in omega arith
       | false ↦ λ later. let rest = size_of-with_array store name array after later in omega arith
     ] here
@@ -262,7 +271,8 @@ module _ (store : Store) where
   carried_out_grown (command.on_pair which) (name ∷ key ∷ value ∷ []) = named_grown name (on_pair which key value) (pair_counted which key value)
   carried_out_grown (command.on_pair which) (name ∷ key ∷ value ∷ more ∷ rest) = tt
 
-  pub outcome-Adds : (which : Command) (arguments : List (List ℕ)) (outcome : Outcome Store) → carried_out store which arguments ≡ Ok outcome → Adds (size_of store) (size_of outcome.after) outcome.grows
+  pub outcome-Adds : (which : Command) (arguments : List (List ℕ)) (outcome : Outcome Store) → carried_out store which arguments ≡ Ok outcome →
+      Adds (size_of store) (size_of outcome.after) outcome.grows
   outcome-Adds which arguments outcome is = IfOk-at_ok Grown is (carried_out_grown which arguments)
 
   of_tokens_grown : (tokens : List (List ℕ)) → IfOk (outcome_of_tokens store tokens) Grown

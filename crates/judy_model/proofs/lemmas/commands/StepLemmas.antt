@@ -9,11 +9,13 @@ use Rattle.judy_model.specs.Tokens.{word_of, name_of, tokens_of}
 use Rattle.judy_model.specs.KeyTokens.{string_key_of, bytes_key_of}
 use Rattle.judy_model.specs.Lines.{Line, is_too_long, text_of}
 use Rattle.judy_model.specs.Stores.{Store, array_named}
-use Rattle.judy_model.specs.Replies.{Reply, Refusal, line_too_long, unknown_command, argument_count, bad_name, no_such_array, wrong_kind, bad_word, bad_key, bad_limit, exists, too_many_arrays, full, no_memory}
+use Rattle.judy_model.specs.Replies.{Reply, Refusal, line_too_long, unknown_command, argument_count, bad_name, no_such_array, wrong_kind, bad_word, bad_key, bad_limit, exists}
+use Rattle.judy_model.specs.Replies.{too_many_arrays, full, no_memory}
 use Rattle.judy_model.specs.Kinds.{kind_named}
 use Rattle.judy_model.specs.CommandWords as command
 use Rattle.judy_model.specs.CommandWords.{KeyCommand, PairCommand, Command, command_named}
-use Rattle.judy_model.specs.Commands.{Outcome, ◌>>=◌, provided, limit_at, made, set_on_key, set_on_pair, map_on_key, map_on_pair, words_on_key, words_on_pair, strings_on_key, strings_on_pair, on_key, on_pair, freed_whole, at_name, carried_out, name_at, word_at, string_key_at, bytes_key_at, array_at}
+use Rattle.judy_model.specs.Commands.{Outcome, ◌>>=◌, provided, limit_at, made, set_on_key, set_on_pair, map_on_key, map_on_pair, words_on_key, words_on_pair, strings_on_key}
+use Rattle.judy_model.specs.Commands.{strings_on_pair, on_key, on_pair, freed_whole, at_name, carried_out, name_at, word_at, string_key_at, bytes_key_at, array_at}
 use Rattle.judy_model.specs.Steps.{outcome_of, outcome_of_tokens, carried_out_by_word, settled, step, outcome_grows, grows, Step}
 
 module _ {A : Type 0} where
@@ -149,12 +151,14 @@ pair_never command key value (judysl array) = strings_pair_never command array k
 pair_never command key value (judyhs array) = map_pair_never judyhs command array (bytes_key_at key) value (a_bytes_key key)
 
 -- a command of one array: the rest of its checks, where the name is one of the store's
-named_never : {A : Type 0} (store : Store) (name : List ℕ) (rest : List ℕ → ArrayValue → Result A Refusal) → ((name : List ℕ) (array : ArrayValue) → NeverNoMemory (rest name array)) → NeverNoMemory (name_at name >>= (λ name. array_at store name >>= rest name))
+named_never : {A : Type 0} (store : Store) (name : List ℕ) (rest : List ℕ → ArrayValue → Result A Refusal) → ((name : List ℕ) (array : ArrayValue) → NeverNoMemory (rest name array)) →
+    NeverNoMemory (name_at name >>= (λ name. array_at store name >>= rest name))
 named_never store name rest h =
     followed (name_at name) _ (found (name_of name) bad_name (λ e. cc)) (λ name'.
     followed (array_at store name') _ (found (array_named store name') no_such_array (λ e. cc)) (h name'))
 
-at_name_never : (store : Store) (name : List ℕ) (effect : ArrayValue → Result (Outcome ArrayValue) Refusal) → ((array : ArrayValue) → NeverNoMemory (effect array)) → NeverNoMemory (at_name store name effect)
+at_name_never : (store : Store) (name : List ℕ) (effect : ArrayValue → Result (Outcome ArrayValue) Refusal) → ((array : ArrayValue) → NeverNoMemory (effect array)) →
+    NeverNoMemory (at_name store name effect)
 at_name_never store name effect h =
     named_never store name _ (λ name' array. followed (effect array) _ (h array) (λ outcome. given _))
 
@@ -199,14 +203,16 @@ pub outcome_of-never_no_memory : (store : Store) (line : Line) → NeverNoMemory
 outcome_of-never_no_memory store line =
     chosen (is_too_long line) _ _ (refused line_too_long (λ e. cc)) (of_tokens_never store (tokens_of (text_of line)))
 
-settled_by : (before after : Store) (outcome : Result (Outcome Store) Refusal) (reply : Reply) → NeverNoMemory outcome → (reply, after) ≡ settled before outcome → reply ≡ Err no_memory → after ≡ before
+settled_by : (before after : Store) (outcome : Result (Outcome Store) Refusal) (reply : Reply) → NeverNoMemory outcome → (reply, after) ≡ settled before outcome →
+    reply ≡ Err no_memory → after ≡ before
 settled_by before after (Ok outcome) reply never e is = absurd (cc (ap (λ p. p.0) e))
 settled_by before after (Err refusal) reply never e is = ap (λ p. p.1) e
 
 pub step-refused : (store : Store) (line : Line) (refusal : Refusal) → outcome_of store line ≡ Err refusal → step store line ≡ (Err refusal, store)
 step-refused store line refusal e = ap (settled store) e
 
-pub Step-refused : (before after : Store) (line : Line) (refusal : Refusal) (reply : Reply) → outcome_of before line ≡ Err refusal → Step before line reply after → (reply ≡ Err refusal) × (after ≡ before)
+pub Step-refused : (before after : Store) (line : Line) (refusal : Refusal) (reply : Reply) → outcome_of before line ≡ Err refusal → Step before line reply after →
+    (reply ≡ Err refusal) × (after ≡ before)
 Step-refused before after line refusal reply e (inl is) =
     let s : (reply, after) ≡ (Err refusal, before) = is ∙ step-refused before line refusal e in
     (ap (λ p. p.0) s, ap (λ p. p.1) s)

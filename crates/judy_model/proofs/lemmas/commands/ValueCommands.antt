@@ -13,7 +13,8 @@ use Rattle.judy_model.specs.CommandWords as command
 use Rattle.judy_model.specs.CommandWords.{KeyCommand, PairCommand}
 use Rattle.judy_model.specs.Commands as commands
 use Rattle.judy_model.specs.Commands.{Outcome, ◌>>=◌, unchanged, number_or_nothing, overwritten, inserted, removed, value_of, map_on_key, map_on_pair, word_at}
-use Rattle.judy_model.specs.CommandLaws.{GetAnswersTheValue, GetOfAbsentIsNone, PutWritesAPresentKey, PutLeavesAnAbsentKey, InsWritesAPresentKey, InsAddsAnAbsentKey, InsIsRefusedAtTheLimit, TakesOutAPresentKey, LeavesAnAbsentKey, RefusesABadKey, RefusesABadFirst, RefusesABadSecond}
+use Rattle.judy_model.specs.CommandLaws.{GetAnswersTheValue, GetOfAbsentIsNone, PutWritesAPresentKey, PutLeavesAnAbsentKey, InsWritesAPresentKey, InsAddsAnAbsentKey}
+use Rattle.judy_model.specs.CommandLaws.{InsIsRefusedAtTheLimit, TakesOutAPresentKey, LeavesAnAbsentKey, RefusesABadKey, RefusesABadFirst, RefusesABadSecond}
 use Rattle.judy_model.proofs.lemmas.maps.ChangesLemmas.{del_absent}
 use Rattle.judy_model.proofs.lemmas.maps.Inserts.{get-insert_itself, ins_present, ins_absent, is_full_present, is_full_absent}
 use Rattle.judy_model.proofs.lemmas.commands.CommandLemmas.{Names, key-Changes, key-Answers, key-IsRefused, pair-Changes, pair-Answers, pair-IsRefused}
@@ -54,7 +55,8 @@ module _ {K : Type 0} {order : K → K → Ordering} (total : IsTotalOrder order
   del_names = record { plain = refl; named = refl }
 
   -- `get`
-  got : (array : ArrayOf order) (token : List ℕ) (key : K) (found : Option ℕ) → said token ≡ Some key → get array.map key ≡ found → commands.on_key command.get token (kind array) ≡ Ok (unchanged (kind array) (number_or_nothing found))
+  got : (array : ArrayOf order) (token : List ℕ) (key : K) (found : Option ℕ) → said token ≡ Some key → get array.map key ≡ found →
+      commands.on_key command.get token (kind array) ≡ Ok (unchanged (kind array) (number_or_nothing found))
   got array token key found is held =
       get_is token array
       ∙ ap (λ key. map_on_key kind command.get array (ok_or key no_key)) is
@@ -67,7 +69,8 @@ module _ {K : Type 0} {order : K → K → Ordering} (total : IsTotalOrder order
   get_none array token key is gone = key-Answers (codes "get") command.get get_names token (kind array) nothing (got array token key None is gone)
 
   -- `put`
-  overwrites : (array : ArrayOf order) (first second : List ℕ) (key : K) (value : ℕ) (found : Option ℕ) → said first ≡ Some key → word_of second ≡ Some value → get array.map key ≡ found → commands.on_pair command.put first second (kind array) ≡ Ok (overwritten kind array key value found)
+  overwrites : (array : ArrayOf order) (first second : List ℕ) (key : K) (value : ℕ) (found : Option ℕ) → said first ≡ Some key → word_of second ≡ Some value →
+      get array.map key ≡ found → commands.on_pair command.put first second (kind array) ≡ Ok (overwritten kind array key value found)
   overwrites array first second key value found is wrote held =
       put_is first second array
       ∙ ap (λ key. map_on_pair kind command.put array (ok_or key no_key) second) is
@@ -83,7 +86,8 @@ module _ {K : Type 0} {order : K → K → Ordering} (total : IsTotalOrder order
       pair-Answers (codes "put") command.put put_names first second (kind array) nothing (overwrites array first second key value None is wrote gone)
 
   -- `ins`
-  inserts : (array : ArrayOf order) (first second : List ℕ) (key : K) (value : ℕ) → said first ≡ Some key → word_of second ≡ Some value → commands.on_pair command.ins first second (kind array) ≡ inserted kind array key value
+  inserts : (array : ArrayOf order) (first second : List ℕ) (key : K) (value : ℕ) → said first ≡ Some key → word_of second ≡ Some value →
+      commands.on_pair command.ins first second (kind array) ≡ inserted kind array key value
   inserts array first second key value is wrote =
       ins_is first second array
       ∙ ap (λ key. map_on_pair kind command.ins array (ok_or key no_key) second) is
@@ -91,10 +95,12 @@ module _ {K : Type 0} {order : K → K → Ordering} (total : IsTotalOrder order
 
   -- what an insert does where the array isn't full for the key
   abbrev inserted_fits : ArrayOf order → K → ℕ → Result (Outcome ArrayValue) Refusal
-  inserted_fits array key value = Ok (record { answer = was (value_of (ins array.map key) key); after = kind (with_map array (write (ins array.map key) key value)); grows = not (contains_key array.map key) })
+  inserted_fits array key value =
+      Ok (record { answer = was (value_of (ins array.map key) key); after = kind (with_map array (write (ins array.map key) key value)); grows = not (contains_key array.map key) })
 
   -- an insert, by whether the array is full for the key and what its slot shows
-  inserted_at : (array : ArrayOf order) (key : K) (value shown : ℕ) → is_full array key ≡ false → value_of (ins array.map key) key ≡ shown → (after : FinMap order ℕ) → write (ins array.map key) key value ≡ after → inserted kind array key value ≡ Ok (record { answer = was shown; after = kind (with_map array after); grows = not (contains_key array.map key) })
+  inserted_at : (array : ArrayOf order) (key : K) (value shown : ℕ) → is_full array key ≡ false → value_of (ins array.map key) key ≡ shown → (after : FinMap order ℕ) →
+      write (ins array.map key) key value ≡ after → inserted kind array key value ≡ Ok (record { answer = was shown; after = kind (with_map array after); grows = not (contains_key array.map key) })
   inserted_at array key value shown fits slot after is =
       ap (λ b. cond b (Err full) (inserted_fits array key value)) fits
       ∙ ap (λ shown. Ok (record { answer = was shown; after = kind (with_map array (write (ins array.map key) key value)); grows = not (contains_key array.map key) })) slot
@@ -105,13 +111,15 @@ module _ {K : Type 0} {order : K → K → Ordering} (total : IsTotalOrder order
       let same_map = ins_present array.map key before held in
       pair-Changes (codes "ins") command.ins ins_names first second (kind array) _ (
       inserts array first second key value is wrote
-      ∙ inserted_at array key value before (is_full_present array key before held) (ap (λ map. value_of map key) same_map ∙ ap (λ found. unwrap_or found 0) held) _ (ap (λ map. write map key value) same_map))
+      ∙ inserted_at array key value before (is_full_present array key before held) (ap (λ map. value_of map key) same_map ∙ ap (λ found. unwrap_or found 0) held) _
+      (ap (λ map. write map key value) same_map))
 
   pub ins_adds : InsAddsAnAbsentKey kind said
   ins_adds array first second key value is wrote gone room =
       pair-Changes (codes "ins") command.ins ins_names first second (kind array) _ (
       inserts array first second key value is wrote
-      ∙ inserted_at array key value 0 (is_full_absent array key gone ∙ ne_eqb (len array.map) array.limit (λ e. omega (arith, e, room))) (ap (λ map. value_of map key) (ins_absent array.map key gone) ∙ ap (λ found. unwrap_or found 0) (get-insert_itself total array.map key 0)) _ refl)
+      ∙ inserted_at array key value 0 (is_full_absent array key gone ∙ ne_eqb (len array.map) array.limit (λ e. omega (arith, e, room)))
+      (ap (λ map. value_of map key) (ins_absent array.map key gone) ∙ ap (λ found. unwrap_or found 0) (get-insert_itself total array.map key 0)) _ refl)
 
   pub ins_full : InsIsRefusedAtTheLimit kind said
   ins_full array first second key value is wrote gone reached =

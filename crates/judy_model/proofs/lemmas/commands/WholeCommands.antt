@@ -24,7 +24,8 @@ list_names = record { plain = refl; named = refl }
 pub freed_array : (array : ArrayValue) → Changes (codes "free") [] array (freed (len_of array)) (emptied array)
 freed_array array = Changes-by (codes "free") command.free [] free_names commands.freed_whole (λ _ _. refl) array _ refl
 
-pub dropped_array : (array : ArrayValue) (store : Store) (name : List ℕ) (line : Line) → IsTrue (is_name name) → array_named store name ≡ Some array → Says line (codes "drop" ∷ name ∷ []) → step store line ≡ (Ok (freed (len_of array)), without_array store name)
+pub dropped_array : (array : ArrayValue) (store : Store) (name : List ℕ) (line : Line) → IsTrue (is_name name) → array_named store name ≡ Some array →
+    Says line (codes "drop" ∷ name ∷ []) → step store line ≡ (Ok (freed (len_of array)), without_array store name)
 dropped_array array store name line good here says =
     step-said store line (codes "drop") command.drop (name ∷ []) drop_names says
     ∙ ap (settled store) (named_array store name array (λ name array. Ok (record { answer = freed (len_of array); after = without_array store name; grows = false })) good here)

@@ -22,7 +22,8 @@ pub record IsListing {K : Type 0} {order : K → K → Ordering} (by : K → K �
   pub makes : (m : FinMap order ℕ) → from_entries {R = order} (listing m) ≡ m
   pub made : (pairs : List (K × ℕ)) → T (is_sorted by pairs) → listing (from_entries pairs) ≡ pairs
   pub to : (P : K × ℕ → Type 0) → ((key : K) (before after : ℕ) (other : K) → P (key, before) → P (other, after) → P (key, after)) → (m : FinMap order ℕ) → All P (map.entries m) → All P (listing m)
-  pub from : (P : K × ℕ → Type 0) → ((key : K) (before after : ℕ) (other : K) → P (key, before) → P (other, after) → P (key, after)) → (pairs : List (K × ℕ)) → All P pairs → All P (map.entries (from_entries {R = order} pairs))
+  pub from : (P : K × ℕ → Type 0) → ((key : K) (before after : ℕ) (other : K) → P (key, before) → P (other, after) → P (key, after)) → (pairs : List (K × ℕ)) →
+      All P pairs → All P (map.entries (from_entries {R = order} pairs))
 
 -- In their own order.
 pub entries-IsListing : {K : Type 0} {order : K → K → Ordering} → IsTotalOrder order → IsAntisymmetric order → IsListing {order = order} order map.entries
@@ -37,7 +38,8 @@ entries-IsListing total same = record {
 }
 
 -- In another.
-pub entries_by-IsListing : {K : Type 0} {order : K → K → Ordering} (by : K → K → Ordering) → IsTotalOrder order → IsAntisymmetric order → IsTotalOrder by → IsAntisymmetric by → IsListing {order = order} by (entries_by by)
+pub entries_by-IsListing : {K : Type 0} {order : K → K → Ordering} (by : K → K → Ordering) → IsTotalOrder order → IsAntisymmetric order → IsTotalOrder by →
+    IsAntisymmetric by → IsListing {order = order} by (entries_by by)
 entries_by-IsListing {order = order} by total same by_total by_same = record {
   total = by_total;
   sorted = λ m. entries_sorted _;
@@ -50,7 +52,8 @@ entries_by-IsListing {order = order} by total same by_total by_same = record {
 
 -- ---- what an array of one kind gives
 
-module _ {K : Type 0} {order : K → K → Ordering} (by : K → K → Ordering) (listing : FinMap order ℕ → List (K × ℕ)) (IsKey : K → Type 0) (IsValue : ℕ → Type 0) (key_text : Option K → K → List ℕ) (value_text : ℕ → List ℕ) (key : Option K → Parser K) (value : Parser ℕ)
+module _ {K : Type 0} {order : K → K → Ordering} (by : K → K → Ordering) (listing : FinMap order ℕ → List (K × ℕ)) (IsKey : K → Type 0) (IsValue : ℕ → Type 0)
+    (key_text : Option K → K → List ℕ) (value_text : ℕ → List ℕ) (key : Option K → Parser K) (value : Parser ℕ)
     (made : ArrayOf order → ArrayValue) (whole : ArrayValue → List ℕ) (limit count : ℕ) where
   -- An array of the kind and the limit, with so many keys.
   abbrev pub IsFilled : ArrayValue → Type 0
@@ -71,8 +74,12 @@ module _ {K : Type 0} {order : K → K → Ordering} (by : K → K → Ordering)
       (λ y fits.
       let inside = fits.0 in
       let held = listing inside.map in
-      let same : inside ≡ record { limit = limit; map = from_entries held } = λ t. record { limit = fits.2 t; map = sym (lists.makes inside.map) t } in
-      (held, (lists.long inside.map ∙ fits.3, Ascends-sorted by held (lists.sorted inside.map), lists.to P over inside.map fits.4), fits.1 ∙ ap made same, ap whole fits.1 ∙ spelled inside ∙ sym (append-nil (write held))))
+      let same : inside ≡ record { limit = limit; map = from_entries held } = λ t. record { limit = fits.2 t; map = sym (lists.makes inside.map) t } in (
+        held,
+        (lists.long inside.map ∙ fits.3, Ascends-sorted by held (lists.sorted inside.map), lists.to P over inside.map fits.4),
+        fits.1 ∙ ap made same,
+        ap whole fits.1 ∙ spelled inside ∙ sym (append-nil (write held)),
+      ))
       (λ held y fits same.
       let inside : ArrayOf order = record { limit = limit; map = from_entries held } in
       let sorted = sorted-Ascends by lists.total None held fits.1 in

@@ -1,5 +1,6 @@
 -- Arrays and stores: what is read of a dump is spelled so, and what is spelled so is read.
-use Rattle.std.proofs.Common.{◌≡◌, ℕ, zero, suc, ◌+◌, ◌^◌, ◌<◌, ◌≤◌, Bool, true, false, cond, ◌&&◌, ◌||◌, ◌==◌, ◌⊎◌, inl, inr, ⊎_elim, IsTrue, leb, ltb, List, [], ◌∷◌, ◌++◌, length, Option, Some, None, Result, Ok, Err, is_none, is_some, refl, sym, ap, subst, ◌∙◌, append_assoc, append-nil, arith, All}
+use Rattle.std.proofs.Common.{◌≡◌, ℕ, zero, suc, ◌+◌, ◌^◌, ◌<◌, ◌≤◌, Bool, true, false, cond, ◌&&◌, ◌||◌, ◌==◌, ◌⊎◌, inl, inr, ⊎_elim, IsTrue, leb, ltb, List, [], ◌∷◌, ◌++◌}
+use Rattle.std.proofs.Common.{length, Option, Some, None, Result, Ok, Err, is_none, is_some, refl, sym, ap, subst, ◌∙◌, append_assoc, append-nil, arith, All}
 use Rattle.std.specs.Prelude.{bytes_eq, ◌↔◌}
 use Rattle.std.specs.Result.{result_err}
 use Rattle.std.specs.declared.cmp.Ordering.{Ordering}
@@ -78,7 +79,8 @@ record Bounds (array : ArrayValue) : Type 0 where
   some : 1 ≤ limit_of array
   within : len_of array ≤ limit_of array
 
-bounds_of : {K : Type 0} {order : K → K → Ordering} {IsKey : K → Type 0} (made : ArrayOf order → ArrayValue) (inside : ArrayOf order) → IsArrayOf IsKey inside → limit_of (made inside) ≡ inside.limit → len_of (made inside) ≡ len inside.map → Bounds (made inside)
+bounds_of : {K : Type 0} {order : K → K → Ordering} {IsKey : K → Type 0} (made : ArrayOf order → ArrayValue) (inside : ArrayOf order) → IsArrayOf IsKey inside →
+    limit_of (made inside) ≡ inside.limit → len_of (made inside) ≡ len inside.map → Bounds (made inside)
 bounds_of made inside is same long = let some = is.holds_some in let within = is.within_limit in record { some = omega arith; within = omega arith }
 
 bounds : (array : ArrayValue) → IsArray array → Bounds array
@@ -110,10 +112,12 @@ IsLimited kind array = (kind_number array ≡ kind) × (limit_of array ≤ 42949
 abbrev IsBody : ArrayValue → Type 0
 IsBody array = IsArray array × (limit_of array ≤ 4294967295)
 
-counted-IsSpelled : (version : Version) (kind limit : ℕ) → is_kind kind ≡ true → 1 ≤ limit → limit ≤ 4294967295 → IsSpelled (IsCounted kind limit) (λ array. text.word (len_of array) ++ text.contents version array) (grammar.key_count limit >>= grammar.contents version kind limit)
+counted-IsSpelled : (version : Version) (kind limit : ℕ) → is_kind kind ≡ true → 1 ≤ limit → limit ≤ 4294967295 →
+    IsSpelled (IsCounted kind limit) (λ array. text.word (len_of array) ++ text.contents version array) (grammar.key_count limit >>= grammar.contents version kind limit)
 counted-IsSpelled version kind limit known some small =
     let checks : List ((ℕ → Bool) × Flaw) = ((λ count. leb count limit), bad_count) ∷ [] in
-    sequence-IsSpelled _ text.word (field (number 8) checks) (λ count array. (kind_number array ≡ kind) × (limit_of array ≡ limit) × (len_of array ≡ count) × IsArray array) (λ count. text.contents version) (grammar.contents version kind limit) (IsCounted kind limit) (λ array. text.word (len_of array) ++ text.contents version array)
+    sequence-IsSpelled _ text.word (field (number 8) checks) (λ count array. (kind_number array ≡ kind) × (limit_of array ≡ limit) × (len_of array ≡ count) × IsArray array)
+    (λ count. text.contents version) (grammar.contents version kind limit) (IsCounted kind limit) (λ array. text.word (len_of array) ++ text.contents version array)
     (field-IsSpelled _ text.word (number 8) checks (number-IsSpelled 8))
     (λ count p. contents-IsSpelled version limit count some small (leb-true count limit p.1.0) kind known)
     (λ array is.
@@ -122,13 +126,15 @@ counted-IsSpelled version kind limit known some small =
     (len_of array, (omega arith, (le-leb (len_of array) limit enough, tt)), (is.0, is.1, refl, is.2), refl))
     (λ count array p q. ((q.0, q.1, q.3), ap (λ n. text.word n ++ text.contents version array) q.2))
 
-limited-IsSpelled : (version : Version) (kind : ℕ) → is_kind kind ≡ true → IsSpelled (IsLimited kind) (λ array. text.word (limit_of array) ++ text.word (len_of array) ++ text.contents version array) (grammar.limit >>= λ limit. grammar.key_count limit >>= grammar.contents version kind limit)
+limited-IsSpelled : (version : Version) (kind : ℕ) → is_kind kind ≡ true → IsSpelled (IsLimited kind)
+    (λ array. text.word (limit_of array) ++ text.word (len_of array) ++ text.contents version array) (grammar.limit >>= λ limit. grammar.key_count limit >>= grammar.contents version kind limit)
 limited-IsSpelled version kind known =
     let checks : List ((ℕ → Bool) × Flaw) = (is_limit, bad_limit) ∷ [] in
     let bounded : (limit : ℕ) → is_limit limit ≡ true → (1 ≤ limit) × (limit ≤ 4294967295) = λ limit is.
     let both = and_parts (ltb 0 limit) (leb limit 4294967295) is in
     let above = ltb-true 0 limit both.0 in (omega arith, leb-true limit 4294967295 both.1) in
-    sequence-IsSpelled _ text.word (field (number 8) checks) (λ limit. IsCounted kind limit) (λ limit array. text.word (len_of array) ++ text.contents version array) (λ limit. grammar.key_count limit >>= grammar.contents version kind limit) (IsLimited kind) (λ array. text.word (limit_of array) ++ text.word (len_of array) ++ text.contents version array)
+    sequence-IsSpelled _ text.word (field (number 8) checks) (λ limit. IsCounted kind limit) (λ limit array. text.word (len_of array) ++ text.contents version array)
+    (λ limit. grammar.key_count limit >>= grammar.contents version kind limit) (IsLimited kind) (λ array. text.word (limit_of array) ++ text.word (len_of array) ++ text.contents version array)
     (field-IsSpelled _ text.word (number 8) checks (number-IsSpelled 8))
     (λ limit p. let b = bounded limit p.1.0 in counted-IsSpelled version kind limit known b.0 b.1)
     (λ array is.
@@ -142,7 +148,8 @@ body-IsSpelled : (version : Version) → IsSpelled IsBody (text.body version) (g
 body-IsSpelled version =
     let checks : List ((ℕ → Bool) × Flaw) = (is_kind, bad_kind) ∷ [] in
     let later : ArrayValue → List ℕ = λ array. text.word (limit_of array) ++ text.word (len_of array) ++ text.contents version array in
-    sequence-IsSpelled _ (low_bytes 1) (field (number 1) checks) IsLimited (λ kind. later) (λ kind. grammar.limit >>= λ limit. grammar.key_count limit >>= grammar.contents version kind limit) IsBody (text.body version)
+    sequence-IsSpelled _ (low_bytes 1) (field (number 1) checks) IsLimited (λ kind. later) (λ kind. grammar.limit >>= λ limit. grammar.key_count limit >>=
+    grammar.contents version kind limit) IsBody (text.body version)
     (field-IsSpelled _ (low_bytes 1) (number 1) checks (number-IsSpelled 1))
     (λ kind p. limited-IsSpelled version kind p.1.0)
     (λ array is. (kind_number array, (kind_is_byte array, (known_kind array, tt)), (refl, is.1, is.0), refl))
@@ -150,9 +157,11 @@ body-IsSpelled version =
 
 array-IsSpelled : (version : Version) (earlier : Store) → IsSpelled (λ array. IsNewName earlier array.0 × IsBody array.1) (array_text version) (grammar.array version earlier)
 array-IsSpelled version earlier =
-    sequence-IsSpelled (IsNewName earlier) text.name_text (grammar.name earlier) (λ name array. (array.0 ≡ name) × IsBody array.1) (λ name array. text.body version array.1) (λ name. grammar.body version >>= λ held. done (name, held)) (λ array. IsNewName earlier array.0 × IsBody array.1) (array_text version)
+    sequence-IsSpelled (IsNewName earlier) text.name_text (grammar.name earlier) (λ name array. (array.0 ≡ name) × IsBody array.1) (λ name array. text.body version array.1)
+    (λ name. grammar.body version >>= λ held. done (name, held)) (λ array. IsNewName earlier array.0 × IsBody array.1) (array_text version)
     (name-IsSpelled earlier)
-    (λ name _. sequence-IsSpelled IsBody (text.body version) (grammar.body version) (λ held array. array ≡ (name, held)) (λ held array. []) (λ held. done (name, held)) (λ array. (array.0 ≡ name) × IsBody array.1) (λ array. text.body version array.1)
+    (λ name _. sequence-IsSpelled IsBody (text.body version) (grammar.body version) (λ held array. array ≡ (name, held)) (λ held array. []) (λ held. done (name, held))
+    (λ array. (array.0 ≡ name) × IsBody array.1) (λ array. text.body version array.1)
     (body-IsSpelled version)
     (λ held _. done-IsSpelled (name, held))
     (λ array is. (array.1, is.1, (λ t. (is.0 t, array.1)), sym (append-nil (text.body version array.1))))
@@ -171,7 +180,8 @@ module _ (earlier : Store) (name : List ℕ) (held : ArrayValue) where
   good_more room new body is =
       (IsStore-lasts.with_new_array earlier name held new.0 new.1 room body.0 body.1 is.0, IsRegular-lasts.with_new_array earlier name held new.0 new.1 room body.0 body.1 is.1)
 
-arrays_back : (version : Version) (count : ℕ) (earlier : Store) (input : List ℕ) (store : Store) (rest : List ℕ) → length earlier + count ≤ 64 → IsGood earlier → IsByteString input → grammar.arrays version earlier count input ≡ Ok (store, rest)
+arrays_back : (version : Version) (count : ℕ) (earlier : Store) (input : List ℕ) (store : Store) (rest : List ℕ) → length earlier + count ≤ 64 → IsGood earlier →
+    IsByteString input → grammar.arrays version earlier count input ≡ Ok (store, rest)
     → (later : Store) × (store ≡ earlier ++ later) × (length later ≡ count) × (input ≡ flat_map (array_text version) later ++ rest) × IsGood store × IsByteString rest
 arrays_back version zero earlier input store rest room good are is =
     let d = done_ok earlier input store rest is in
@@ -182,8 +192,14 @@ arrays_back version (suc count) earlier input store rest room good are is =
     let b = (array-IsSpelled version earlier).back input next f.0.1 are f.1 in
     let more = with_new_array earlier next.0 next.1 in
     let long : length more ≡ length earlier + 1 = length-append earlier (next ∷ []) in
-    let c = arrays_back version count more f.0.1 store rest (omega arith) (good_more earlier next.0 next.1 (omega arith) b.1.0 b.1.1 good) b.2 f.2 in
-    (next ∷ c.0, c.1 ∙ append_assoc earlier (next ∷ []) c.0, ap suc c.2, b.0 ∙ ap (λ t. array_text version next ++ t) c.3 ∙ sym (append_assoc (array_text version next) (flat_map (array_text version) c.0) rest), c.4, c.5)
+    let c = arrays_back version count more f.0.1 store rest (omega arith) (good_more earlier next.0 next.1 (omega arith) b.1.0 b.1.1 good) b.2 f.2 in (
+      next ∷ c.0,
+      c.1 ∙ append_assoc earlier (next ∷ []) c.0,
+      ap suc c.2,
+      b.0 ∙ ap (λ t. array_text version next ++ t) c.3 ∙ sym (append_assoc (array_text version next) (flat_map (array_text version) c.0) rest),
+      c.4,
+      c.5,
+    )
 
 absent : {A : Type 0} (o : Option A) → is_some o ≡ false → is_none o ≡ true
 absent None e = refl
@@ -229,7 +245,8 @@ module _ (earlier : Store) (next : List ℕ × ArrayValue) (later : Store) where
     at_middle (λ array. limit_of array ≤ 4294967295) next.1 (values_of later) (values_of earlier) (subst (All (λ array. limit_of array ≤ 4294967295)) values_in_a_row is.1),
   )
 
-arrays_again : (version : Version) (later earlier : Store) (rest : List ℕ) → IsGood (earlier ++ later) → grammar.arrays version earlier (length later) (flat_map (array_text version) later ++ rest) ≡ Ok (earlier ++ later, rest)
+arrays_again : (version : Version) (later earlier : Store) (rest : List ℕ) → IsGood (earlier ++ later) →
+    grammar.arrays version earlier (length later) (flat_map (array_text version) later ++ rest) ≡ Ok (earlier ++ later, rest)
 arrays_again version [] earlier rest good = ap (λ store. Ok (store, rest)) (sym (append-nil earlier))
 arrays_again version (next ∷ later) earlier rest good =
     let more = with_new_array earlier next.0 next.1 in
@@ -304,7 +321,8 @@ last_back version made input read rest is =
     let f = followed_ok (end input) (λ _. done (version, made)) (read, rest) is in
     (end_ok input f.0 f.1, (done_ok (version, made) f.0.1 read rest f.2).0)
 
-whole_text : (version : Version) (input : List ℕ) (count : ℕ) (texts left : List ℕ) (later store : Store) → input ≡ low_bytes 4 count ++ texts → texts ≡ flat_map (array_text version) later ++ left → left ≡ [] → length later ≡ count → later ≡ store → IsGood store
+whole_text : (version : Version) (input : List ℕ) (count : ℕ) (texts left : List ℕ) (later store : Store) → input ≡ low_bytes 4 count ++ texts →
+    texts ≡ flat_map (array_text version) later ++ left → left ≡ [] → length later ≡ count → later ≡ store → IsGood store
     → (input ≡ low_bytes 4 (length store) ++ flat_map (array_text version) store) × IsGood store
 whole_text version input count texts left later store counted listed nothing long same good =
     let write = flat_map (array_text version) in
@@ -312,7 +330,8 @@ whole_text version input count texts left later store counted listed nothing lon
     let number : count ≡ length store = sym long ∙ ap length same in
     (counted ∙ (λ t. low_bytes 4 (number t) ++ arrays t), good)
 
-count_back : (version : Version) (input : List ℕ) (read : Version × Store) (rest : List ℕ) → IsByteString input → after_magic version input ≡ Ok (read, rest) → (version ≡ read.0) × (input ≡ low_bytes 4 (length read.1) ++ flat_map (array_text version) read.1) × IsGood read.1
+count_back : (version : Version) (input : List ℕ) (read : Version × Store) (rest : List ℕ) → IsByteString input → after_magic version input ≡ Ok (read, rest) →
+    (version ≡ read.0) × (input ≡ low_bytes 4 (length read.1) ++ flat_map (array_text version) read.1) × IsGood read.1
 count_back version input read rest are is =
     let f = followed_ok (field (number 4) count_checks input) (after_count version) (read, rest) is in
     let n = count-IsSpelled.back input f.0.0 f.0.1 are f.1 in
@@ -333,7 +352,8 @@ dump_back version dump store are is =
     let c = count_back f.0.0 f.0.1 (version, store) e.0 m.2 f.2 in
     let named : f.0.0 ≡ version = c.0 in
     let counted = low_bytes 4 (length store) in
-    let parts : dump ≡ magic version ++ (counted ++ flat_map (array_text version) store) = m.0 ∙ ap (λ rest. magic f.0.0 ++ rest) c.1 ∙ ap (λ v. magic v ++ (counted ++ flat_map (array_text v) store)) named in
+    let parts : dump ≡ magic version ++ (counted ++ flat_map (array_text version) store) = m.0 ∙ ap (λ rest. magic f.0.0 ++ rest) c.1 ∙
+    ap (λ v. magic v ++ (counted ++ flat_map (array_text v) store)) named in
     (parts ∙ sym (append_assoc (magic version) counted (flat_map (array_text version) store)), c.2.0, c.2.1)
 
 -- The dump of a regular store gives it.
@@ -343,15 +363,18 @@ dump_again version store is regular =
     let few = is.within_limit in
     let one = begins-IsSpelled.again version (low_bytes 4 (length store) ++ texts) tt in
     let two = count-IsSpelled.again (length store) texts (omega arith, (le-leb (length store) 64 few, tt)) in
-    let three : grammar.arrays version [] (length store) texts ≡ Ok (store, []) = ap (grammar.arrays version [] (length store)) (sym (append-nil texts)) ∙ arrays_again version store [] [] (is, regular) in
-    ap value_of (ap grammar.store (append_assoc (magic version) (low_bytes 4 (length store)) texts) ∙ ap (λ read. followed_by read after_magic) one ∙ ap (λ read. followed_by read (after_count version)) two ∙ ap (λ read. followed_by read (at_last version)) three)
+    let three : grammar.arrays version [] (length store) texts ≡ Ok (store, []) = ap (grammar.arrays version [] (length store)) (sym (append-nil texts)) ∙
+    arrays_again version store [] [] (is, regular) in
+    ap value_of (ap grammar.store (append_assoc (magic version) (low_bytes 4 (length store)) texts) ∙ ap (λ read. followed_by read after_magic) one ∙
+    ap (λ read. followed_by read (after_count version)) two ∙ ap (λ read. followed_by read (at_last version)) three)
 
 one_ok : {A : Type 0} (read : Result A Flaw) (one other : A) → read ≡ Ok one → read ≡ Ok other → one ≡ other
 one_ok {A} (Ok given) one other is also = let same : ◌≡◌ {A = Result A Flaw} (Ok one) (Ok other) = sym is ∙ also in cc
 one_ok (Err flaw) one other is also = absurd cc
 
 -- Bytes give one store at most, in one format.
-pub one_store : (one_version other_version : Version) (dump : List ℕ) (store other : Store) → IsDump one_version dump store → IsDump other_version dump other → (one_version ≡ other_version) × (store ≡ other)
+pub one_store : (one_version other_version : Version) (dump : List ℕ) (store other : Store) → IsDump one_version dump store → IsDump other_version dump other →
+    (one_version ≡ other_version) × (store ≡ other)
 one_store one_version other_version dump store other is also =
     let same = one_ok (read_of dump) (one_version, store) (other_version, other) is also in
     (ap (λ (pair : Version × Store). pair.0) same, ap (λ (pair : Version × Store). pair.1) same)

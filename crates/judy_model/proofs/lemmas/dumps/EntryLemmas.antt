@@ -55,7 +55,8 @@ module _ {K : Type 0} (key_text : Option K → K → List ℕ) (value_text : ℕ
   entries_text before (pair ∷ pairs) = (key_text before pair.0 ++ value_text pair.1) ++ entries_text (Some pair.0) pairs
 
 -- Where no key is told by the one before, they are written one after another.
-pub entries_text-alike : {K : Type 0} (key_text : K → List ℕ) (value_text : ℕ → List ℕ) (before : Option K) (pairs : List (K × ℕ)) → flat_map (λ pair. key_text pair.0 ++ value_text pair.1) pairs ≡ entries_text (λ before. key_text) value_text before pairs
+pub entries_text-alike : {K : Type 0} (key_text : K → List ℕ) (value_text : ℕ → List ℕ) (before : Option K) (pairs : List (K × ℕ)) →
+    flat_map (λ pair. key_text pair.0 ++ value_text pair.1) pairs ≡ entries_text (λ before. key_text) value_text before pairs
 entries_text-alike key_text value_text before [] = refl
 entries_text-alike key_text value_text before (pair ∷ pairs) = ap (λ t. (key_text pair.0 ++ value_text pair.1) ++ t) (entries_text-alike key_text value_text (Some pair.0) pairs)
 
@@ -63,7 +64,8 @@ module _ {K : Type 0} (IsKey : K → Type 0) (IsValue : ℕ → Type 0) where
   abbrev pub IsEntry : K × ℕ → Type 0
   IsEntry pair = IsKey pair.0 × IsValue pair.1
 
-module _ {K : Type 0} (order : K → K → Ordering) (IsKey : K → Type 0) (IsValue : ℕ → Type 0) (key_text : Option K → K → List ℕ) (value_text : ℕ → List ℕ) (key : Option K → Parser K) (value : Parser ℕ) where
+module _ {K : Type 0} (order : K → K → Ordering) (IsKey : K → Type 0) (IsValue : ℕ → Type 0) (key_text : Option K → K → List ℕ) (value_text : ℕ → List ℕ)
+    (key : Option K → Parser K) (value : Parser ℕ) where
   abbrev Fits : K × ℕ → Type 0
   Fits = IsEntry IsKey IsValue
 
@@ -89,17 +91,22 @@ module _ {K : Type 0} (order : K → K → Ordering) (IsKey : K → Type 0) (IsV
               let c = values.back f.0.1 g.0.0 g.0.1 b.2 g.1 in
               let d = done_ok (f.0.0, g.0.0) g.0.1 pair rest g.2 in
               let made : K × ℕ = (f.0.0, g.0.0) in
-              subst (λ (p : K × ℕ). (input ≡ entry_text before p ++ rest) × (IsTrue (is_above order before p.0) × Fits p) × IsByteString rest) d.0
-              (b.0 ∙ ap (λ t. key_text before f.0.0 ++ t) (c.0 ∙ ap (λ t. value_text g.0.0 ++ t) d.1) ∙ sym (append_assoc (key_text before f.0.0) (value_text g.0.0) rest), (b.1.1.0, (b.1.0, c.1)), subst IsByteString d.1 c.2);
+              subst (λ (p : K × ℕ). (input ≡ entry_text before p ++ rest) × (IsTrue (is_above order before p.0) × Fits p) × IsByteString rest) d.0 (
+                b.0 ∙ ap (λ t. key_text before f.0.0 ++ t) (c.0 ∙ ap (λ t. value_text g.0.0 ++ t) d.1) ∙ sym (append_assoc (key_text before f.0.0) (value_text g.0.0) rest),
+                (b.1.1.0, (b.1.0, c.1)),
+                subst IsByteString d.1 c.2,
+              );
         }
 
-    again-none : (before : Option K) (pairs : List (K × ℕ)) (rest : List ℕ) → (length pairs ≡ 0) × Ascends order before pairs × All Fits pairs → entries order key value before 0 (texts before pairs ++ rest) ≡ Ok (pairs, rest)
+    again-none : (before : Option K) (pairs : List (K × ℕ)) (rest : List ℕ) → (length pairs ≡ 0) × Ascends order before pairs × All Fits pairs →
+        entries order key value before 0 (texts before pairs ++ rest) ≡ Ok (pairs, rest)
     again-none before [] rest fits = refl
     again-none before (pair ∷ pairs) rest fits = absurd (let l = fits.0 in omega arith)
 
     again-more : (count : ℕ) (before : Option K) → IfSome before IsKey
         → ((before : Option K) → IfSome before IsKey → IsSpelled (λ pairs. (length pairs ≡ count) × Ascends order before pairs × All Fits pairs) (texts before) (entries order key value before count))
-        → (pairs : List (K × ℕ)) (rest : List ℕ) → (length pairs ≡ suc count) × Ascends order before pairs × All Fits pairs → entries order key value before (suc count) (texts before pairs ++ rest) ≡ Ok (pairs, rest)
+        → (pairs : List (K × ℕ)) (rest : List ℕ) → (length pairs ≡ suc count) × Ascends order before pairs × All Fits pairs →
+        entries order key value before (suc count) (texts before pairs ++ rest) ≡ Ok (pairs, rest)
     again-more count before was others [] rest fits = absurd (let l = fits.0 in omega arith)
     again-more count before was others (pair ∷ pairs) rest fits =
         let here = All-head Fits pair pairs fits.2 in
@@ -109,7 +116,8 @@ module _ {K : Type 0} (order : K → K → Ordering) (IsKey : K → Type 0) (IsV
         ap (entries order key value before (suc count)) regrouped ∙ rw (one, two) refl
 
     -- So many entries in order.
-    pub entries-IsSpelled : (count : ℕ) (before : Option K) → IfSome before IsKey → IsSpelled (λ pairs. (length pairs ≡ count) × Ascends order before pairs × All Fits pairs) (texts before) (entries order key value before count)
+    pub entries-IsSpelled : (count : ℕ) (before : Option K) → IfSome before IsKey → IsSpelled (λ pairs. (length pairs ≡ count) × Ascends order before pairs × All Fits pairs)
+        (texts before) (entries order key value before count)
     entries-IsSpelled zero before was = record {
       again = again-none before;
       back = λ input pairs rest are is.

@@ -1,5 +1,6 @@
 -- Fields that are spelled in one way: what is read is spelled so, and what is spelled so is read.
-use Rattle.std.proofs.Common.{◌≡◌, ℕ, zero, suc, ◌+◌, ◌/◌, ◌^◌, ◌<◌, ◌≤◌, Bool, true, false, cond, ltb, List, [], ◌∷◌, ◌++◌, length, take, drop, Result, Ok, Err, refl, sym, ap, subst, ◌∙◌, append_assoc, arith, IsTrue}
+use Rattle.std.proofs.Common.{◌≡◌, ℕ, zero, suc, ◌+◌, ◌/◌, ◌^◌, ◌<◌, ◌≤◌, Bool, true, false, cond, ltb, List, [], ◌∷◌, ◌++◌, length, take, drop, Result, Ok, Err, refl, sym, ap}
+use Rattle.std.proofs.Common.{subst, ◌∙◌, append_assoc, arith, IsTrue}
 use Rattle.std.proofs.lemmas.Bool.{ltb-false, le-ltb}
 use Rattle.std.proofs.lemmas.List.{take_at, drop_at, take-append-drop, length-append, length-take}
 use Rattle.std.proofs.lemmas.List.Elements.{All-nil, All-cons, All-take, All-drop}
@@ -16,7 +17,8 @@ pub record IsSpelled {A : Type 0} (Fits : A → Type 0) (text : A → List ℕ) 
   pub back : (input : List ℕ) (value : A) (rest : List ℕ) → IsByteString input → part input ≡ Ok (value, rest) → (input ≡ text value ++ rest) × Fits value × IsByteString rest
 
 -- A part that gave a value, and what followed.
-pub followed_ok : {A B : Type 0} (read : Result (A × List ℕ) Flaw) (rest : A → Parser B) (given : B × List ℕ) → followed_by read rest ≡ Ok given → (first : A × List ℕ) × (read ≡ Ok first) × (rest first.0 first.1 ≡ Ok given)
+pub followed_ok : {A B : Type 0} (read : Result (A × List ℕ) Flaw) (rest : A → Parser B) (given : B × List ℕ) → followed_by read rest ≡ Ok given →
+    (first : A × List ℕ) × (read ≡ Ok first) × (rest first.0 first.1 ≡ Ok given)
 followed_ok (Ok first) rest given is = (first, refl, is)
 followed_ok (Err flaw) rest given is = absurd cc
 
@@ -118,8 +120,11 @@ bytes-IsSpelled count = record {
       let one : take count input ≡ read = ap (λ pair. pair.0) w.1 in
       let two : drop count input ≡ rest = ap (λ pair. pair.1) w.1 in
       let enough = ltb-false (length input) count w.0 in
-      let l : length (take count input) ≡ count = let m = length-take count input in omega arith in
-      (sym (take-append-drop count input) ∙ (λ t. one t ++ two t), (ap length (sym one) ∙ l, subst IsByteString one (All-take (λ byte. byte < 256) count input are)), subst IsByteString two (All-drop (λ byte. byte < 256) count input are));
+      let l : length (take count input) ≡ count = let m = length-take count input in omega arith in (
+        sym (take-append-drop count input) ∙ (λ t. one t ++ two t),
+        (ap length (sym one) ∙ l, subst IsByteString one (All-take (λ byte. byte < 256) count input are)),
+        subst IsByteString two (All-drop (λ byte. byte < 256) count input are),
+      );
 }
 
 low_bytes-IsByteString : (width value : ℕ) → IsByteString (low_bytes width value)

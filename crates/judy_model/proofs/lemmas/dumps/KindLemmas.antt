@@ -68,7 +68,8 @@ last_kind kind known not_one not_two not_three =
 
 module _ (version : Version) (limit count : ℕ) (some : 1 ≤ limit) (small : limit ≤ 4294967295) (within : count ≤ limit) where
   -- An array of a limit that scripts give, with no more keys than that.
-  IsArrayOf-filled : {K : Type 0} {order : K → K → Ordering} (IsKey : K → Type 0) (inside : ArrayOf order) → inside.limit ≡ limit → len inside.map ≡ count → All (λ pair. IsKey pair.0 × IsWord pair.1) (map.entries inside.map) → IsArrayOf IsKey inside
+  IsArrayOf-filled : {K : Type 0} {order : K → K → Ordering} (IsKey : K → Type 0) (inside : ArrayOf order) → inside.limit ≡ limit → len inside.map ≡ count →
+      All (λ pair. IsKey pair.0 × IsWord pair.1) (map.entries inside.map) → IsArrayOf IsKey inside
   IsArrayOf-filled IsKey inside same long all = record {
     holds_some = omega arith;
     limit_is_word = omega arith;
@@ -81,25 +82,29 @@ module _ (version : Version) (limit count : ℕ) (some : 1 ≤ limit) (small : l
   abbrev pub IsContents : ℕ → ArrayValue → Type 0
   IsContents kind array = (kind_number array ≡ kind) × (limit_of array ≡ limit) × (len_of array ≡ count) × IsArray array
 
-  set_inside : (array : ArrayValue) → IsContents 1 array → IsFilled word_order map.entries IsWord (λ value. value ≡ 0) (λ before. text.word) (λ value. []) (λ before. grammar.word) grammar.no_value judy1 (text.contents version) limit count array
+  set_inside : (array : ArrayValue) → IsContents 1 array → IsFilled word_order map.entries IsWord (λ value. value ≡ 0) (λ before. text.word) (λ value. [])
+      (λ before. grammar.word) grammar.no_value judy1 (text.contents version) limit count array
   set_inside (judy1 inside) is = (inside, refl, is.1, is.2, entries_are IsWord (λ value. value ≡ 0) (map.entries inside.map) is.3.0.keys_are is.3.1)
   set_inside (judyl inside) is = absurd (let k = is.0 in omega arith)
   set_inside (judysl inside) is = absurd (let k = is.0 in omega arith)
   set_inside (judyhs inside) is = absurd (let k = is.0 in omega arith)
 
-  words_inside : (array : ArrayValue) → IsContents 2 array → IsFilled word_order map.entries IsWord IsWord (λ before. text.word) text.word (λ before. grammar.word) grammar.word judyl (text.contents version) limit count array
+  words_inside : (array : ArrayValue) → IsContents 2 array → IsFilled word_order map.entries IsWord IsWord (λ before. text.word) text.word
+      (λ before. grammar.word) grammar.word judyl (text.contents version) limit count array
   words_inside (judy1 inside) is = absurd (let k = is.0 in omega arith)
   words_inside (judyl inside) is = (inside, refl, is.1, is.2, entries_are IsWord IsWord (map.entries inside.map) is.3.keys_are is.3.values_are)
   words_inside (judysl inside) is = absurd (let k = is.0 in omega arith)
   words_inside (judyhs inside) is = absurd (let k = is.0 in omega arith)
 
-  strings_inside : (array : ArrayValue) → IsContents 3 array → IsFilled byte_order map.entries IsStringKey IsWord (key_text version) text.word (grammar.string_key version) grammar.word judysl (text.contents version) limit count array
+  strings_inside : (array : ArrayValue) → IsContents 3 array → IsFilled byte_order map.entries IsStringKey IsWord (key_text version) text.word
+      (grammar.string_key version) grammar.word judysl (text.contents version) limit count array
   strings_inside (judy1 inside) is = absurd (let k = is.0 in omega arith)
   strings_inside (judyl inside) is = absurd (let k = is.0 in omega arith)
   strings_inside (judysl inside) is = (inside, refl, is.1, is.2, entries_are IsStringKey IsWord (map.entries inside.map) is.3.keys_are is.3.values_are)
   strings_inside (judyhs inside) is = absurd (let k = is.0 in omega arith)
 
-  byte_strings_inside : (array : ArrayValue) → IsContents 4 array → IsFilled length_order (entries_by length_order) IsBytesKey IsWord (λ before. text.string) text.word (λ before. grammar.string) grammar.word judyhs (text.contents version) limit count array
+  byte_strings_inside : (array : ArrayValue) → IsContents 4 array → IsFilled length_order (entries_by length_order) IsBytesKey IsWord (λ before. text.string) text.word
+      (λ before. grammar.string) grammar.word judyhs (text.contents version) limit count array
   byte_strings_inside (judy1 inside) is = absurd (let k = is.0 in omega arith)
   byte_strings_inside (judyl inside) is = absurd (let k = is.0 in omega arith)
   byte_strings_inside (judysl inside) is = absurd (let k = is.0 in omega arith)
@@ -119,40 +124,54 @@ module _ (version : Version) (limit count : ℕ) (some : 1 ≤ limit) (small : l
   byte_strings_text inside = entries_text-alike text.string text.word None (entries_by length_order inside.map)
 
   set-IsSpelled : IsSpelled (IsContents 1) (text.contents version) (filled judy1 limit (grammar.entries word_order (λ before. grammar.word) grammar.no_value None count))
-  set-IsSpelled = retold-IsSpelled (IsFilled word_order map.entries IsWord (λ value. value ≡ 0) (λ before. text.word) (λ value. []) (λ before. grammar.word) grammar.no_value judy1 (text.contents version) limit count) (IsContents 1) (text.contents version) _
+  set-IsSpelled =
+      retold-IsSpelled (IsFilled word_order map.entries IsWord (λ value. value ≡ 0) (λ before. text.word) (λ value. []) (λ before. grammar.word) grammar.no_value judy1
+      (text.contents version) limit count) (IsContents 1) (text.contents version) _
       (λ array is. subst (IsContents 1) (sym is.1) (
         refl,
         is.2,
         is.3,
-        (IsArrayOf-filled IsWord is.0 is.2 is.3 (All-weaker (λ pair. IsWord pair.0 × (pair.1 ≡ 0)) (λ pair. IsWord pair.0 × IsWord pair.1) (λ pair both. (both.0, (let e = both.1 in omega arith))) (map.entries is.0.map) is.4), values_are IsWord (λ value. value ≡ 0) (map.entries is.0.map) is.4),
+        (
+          IsArrayOf-filled IsWord is.0 is.2 is.3 (All-weaker (λ pair. IsWord pair.0 × (pair.1 ≡ 0)) (λ pair. IsWord pair.0 × IsWord pair.1)
+              (λ pair both. (both.0, (let e = both.1 in omega arith))) (map.entries is.0.map) is.4),
+          values_are IsWord (λ value. value ≡ 0) (map.entries is.0.map) is.4,
+        ),
       ))
       set_inside
       (filled-IsSpelled word_order map.entries IsWord (λ value. value ≡ 0) (λ before. text.word) (λ value. []) (λ before. grammar.word) grammar.no_value judy1 (text.contents version) limit count
       (entries-IsListing nat_cmp_total nat_cmp-IsAntisymmetric) (λ before _. word-IsSpelled) (done-IsSpelled 0) set_text)
 
   words-IsSpelled : IsSpelled (IsContents 2) (text.contents version) (filled judyl limit (grammar.entries word_order (λ before. grammar.word) grammar.word None count))
-  words-IsSpelled = retold-IsSpelled (IsFilled word_order map.entries IsWord IsWord (λ before. text.word) text.word (λ before. grammar.word) grammar.word judyl (text.contents version) limit count) (IsContents 2) (text.contents version) _
+  words-IsSpelled =
+      retold-IsSpelled (IsFilled word_order map.entries IsWord IsWord (λ before. text.word) text.word (λ before. grammar.word) grammar.word judyl (text.contents version) limit count)
+      (IsContents 2) (text.contents version) _
       (λ array is. subst (IsContents 2) (sym is.1) (refl, is.2, is.3, IsArrayOf-filled IsWord is.0 is.2 is.3 is.4))
       words_inside
       (filled-IsSpelled word_order map.entries IsWord IsWord (λ before. text.word) text.word (λ before. grammar.word) grammar.word judyl (text.contents version) limit count
       (entries-IsListing nat_cmp_total nat_cmp-IsAntisymmetric) (λ before _. word-IsSpelled) word-IsSpelled words_text)
 
   strings-IsSpelled : IsSpelled (IsContents 3) (text.contents version) (filled judysl limit (grammar.entries byte_order (grammar.string_key version) grammar.word None count))
-  strings-IsSpelled = retold-IsSpelled (IsFilled byte_order map.entries IsStringKey IsWord (key_text version) text.word (grammar.string_key version) grammar.word judysl (text.contents version) limit count) (IsContents 3) (text.contents version) _
+  strings-IsSpelled =
+      retold-IsSpelled (IsFilled byte_order map.entries IsStringKey IsWord (key_text version) text.word (grammar.string_key version) grammar.word judysl (text.contents version) limit count)
+      (IsContents 3) (text.contents version) _
       (λ array is. subst (IsContents 3) (sym is.1) (refl, is.2, is.3, IsArrayOf-filled IsStringKey is.0 is.2 is.3 is.4))
       strings_inside
       (filled-IsSpelled byte_order map.entries IsStringKey IsWord (key_text version) text.word (grammar.string_key version) grammar.word judysl (text.contents version) limit count
       (entries-IsListing nat_list_cmp_total byte_order-IsAntisymmetric) (string_key-IsSpelled version) word-IsSpelled strings_text)
 
   byte_strings-IsSpelled : IsSpelled (IsContents 4) (text.contents version) (filled judyhs limit (grammar.entries length_order (λ before. grammar.string) grammar.word None count))
-  byte_strings-IsSpelled = retold-IsSpelled (IsFilled length_order (entries_by length_order) IsBytesKey IsWord (λ before. text.string) text.word (λ before. grammar.string) grammar.word judyhs (text.contents version) limit count) (IsContents 4) (text.contents version) _
+  byte_strings-IsSpelled =
+      retold-IsSpelled (IsFilled length_order (entries_by length_order) IsBytesKey IsWord (λ before. text.string) text.word (λ before. grammar.string) grammar.word judyhs
+      (text.contents version) limit count) (IsContents 4) (text.contents version) _
       (λ array is. subst (IsContents 4) (sym is.1) (refl, is.2, is.3, IsArrayOf-filled IsBytesKey is.0 is.2 is.3 is.4))
       byte_strings_inside
       (filled-IsSpelled length_order (entries_by length_order) IsBytesKey IsWord (λ before. text.string) text.word (λ before. grammar.string) grammar.word judyhs (text.contents version) limit count
       (entries_by-IsListing length_order nat_list_cmp_total byte_order-IsAntisymmetric length_order-total length_order-IsAntisymmetric) (λ before _. string-IsSpelled) word-IsSpelled byte_strings_text)
 
   abbrev not_words : ℕ → Parser ArrayValue
-  not_words kind = cond (kind == 3) (filled judysl limit (grammar.entries byte_order (grammar.string_key version) grammar.word None count)) (filled judyhs limit (grammar.entries length_order (λ before. grammar.string) grammar.word None count))
+  not_words kind =
+      cond (kind == 3) (filled judysl limit (grammar.entries byte_order (grammar.string_key version) grammar.word None count))
+      (filled judyhs limit (grammar.entries length_order (λ before. grammar.string) grammar.word None count))
 
   abbrev not_set : ℕ → Parser ArrayValue
   not_set kind = cond (kind == 2) (filled judyl limit (grammar.entries word_order (λ before. grammar.word) grammar.word None count)) (not_words kind)
@@ -160,13 +179,21 @@ module _ (version : Version) (limit count : ℕ) (some : 1 ≤ limit) (small : l
   -- What stands behind an array's kind, its limit and the number of its keys.
   pub contents-IsSpelled : (kind : ℕ) → is_kind kind ≡ true → IsSpelled (IsContents kind) (text.contents version) (contents version kind limit count)
   contents-IsSpelled kind known =
-      elim (kind == 1) as (λ b. kind == 1 ≡ b → IsSpelled (IsContents kind) (text.contents version) (cond b (filled judy1 limit (grammar.entries word_order (λ before. grammar.word) grammar.no_value None count)) (not_set kind))) [
-        | true ↦ λ is. subst (λ k. IsSpelled (IsContents k) (text.contents version) (filled judy1 limit (grammar.entries word_order (λ before. grammar.word) grammar.no_value None count))) (sym (eqb-true kind 1 is)) set-IsSpelled
-        | false ↦ λ not_one. elim (kind == 2) as (λ b. kind == 2 ≡ b → IsSpelled (IsContents kind) (text.contents version) (cond b (filled judyl limit (grammar.entries word_order (λ before. grammar.word) grammar.word None count)) (not_words kind))) [
-          | true ↦ λ is. subst (λ k. IsSpelled (IsContents k) (text.contents version) (filled judyl limit (grammar.entries word_order (λ before. grammar.word) grammar.word None count))) (sym (eqb-true kind 2 is)) words-IsSpelled
-          | false ↦ λ not_two. elim (kind == 3) as (λ b. kind == 3 ≡ b → IsSpelled (IsContents kind) (text.contents version) (cond b (filled judysl limit (grammar.entries byte_order (grammar.string_key version) grammar.word None count)) (filled judyhs limit (grammar.entries length_order (λ before. grammar.string) grammar.word None count)))) [
-            | true ↦ λ is. subst (λ k. IsSpelled (IsContents k) (text.contents version) (filled judysl limit (grammar.entries byte_order (grammar.string_key version) grammar.word None count))) (sym (eqb-true kind 3 is)) strings-IsSpelled
-            | false ↦ λ not_three. subst (λ k. IsSpelled (IsContents k) (text.contents version) (filled judyhs limit (grammar.entries length_order (λ before. grammar.string) grammar.word None count))) (sym (last_kind kind known not_one not_two not_three)) byte_strings-IsSpelled
-          ] refl
-        ] refl
+      elim (kind == 1) as (λ b. kind == 1 ≡ b → IsSpelled (IsContents kind) (text.contents version) (cond b
+      (filled judy1 limit (grammar.entries word_order (λ before. grammar.word) grammar.no_value None count)) (not_set kind))) [
+        | true ↦ λ is. subst (λ k. IsSpelled (IsContents k) (text.contents version) (filled judy1 limit (grammar.entries word_order (λ before. grammar.word) grammar.no_value None count)))
+            (sym (eqb-true kind 1 is)) set-IsSpelled
+        | false ↦ λ not_one. elim (kind == 2) as (λ b. kind == 2 ≡ b → IsSpelled (IsContents kind) (text.contents version)
+            (cond b (filled judyl limit (grammar.entries word_order (λ before. grammar.word) grammar.word None count)) (not_words kind))) [
+              | true ↦ λ is. subst (λ k. IsSpelled (IsContents k) (text.contents version) (filled judyl limit (grammar.entries word_order (λ before. grammar.word) grammar.word None count)))
+                  (sym (eqb-true kind 2 is)) words-IsSpelled
+              | false ↦ λ not_two. elim (kind == 3) as (λ b. kind == 3 ≡ b → IsSpelled (IsContents kind) (text.contents version)
+                  (cond b (filled judysl limit (grammar.entries byte_order (grammar.string_key version) grammar.word None count))
+                  (filled judyhs limit (grammar.entries length_order (λ before. grammar.string) grammar.word None count)))) [
+                    | true ↦ λ is. subst (λ k. IsSpelled (IsContents k) (text.contents version) (filled judysl limit
+                        (grammar.entries byte_order (grammar.string_key version) grammar.word None count))) (sym (eqb-true kind 3 is)) strings-IsSpelled
+                    | false ↦ λ not_three. subst (λ k. IsSpelled (IsContents k) (text.contents version) (filled judyhs limit
+                        (grammar.entries length_order (λ before. grammar.string) grammar.word None count))) (sym (last_kind kind known not_one not_two not_three)) byte_strings-IsSpelled
+                  ] refl
+            ] refl
       ] refl

@@ -46,7 +46,8 @@ module _ {K : Type 0} (order : K → K → Ordering) (key : Option K → Parser 
   no_entries_left before (suc count) = record { cases = inr (rw (cut before) refl) }
 
   -- Of so many entries the first ones are there.
-  entries_left : (listed count : ℕ) (before : Option K) (input : List ℕ) (held : List (K × ℕ)) → listed ≤ count → entries order key value before listed input ≡ Ok (held, []) → WholeOrCut (entries order key value before count input)
+  entries_left : (listed count : ℕ) (before : Option K) (input : List ℕ) (held : List (K × ℕ)) → listed ≤ count → entries order key value before listed input ≡ Ok (held, []) →
+      WholeOrCut (entries order key value before count input)
   entries_left zero count before input held few is =
       let d = done_ok [] input held [] is in
       subst (λ rest. WholeOrCut (entries order key value before count rest)) (sym d.1) (no_entries_left before count)
@@ -63,7 +64,8 @@ module _ {K : Type 0} (order : K → K → Ordering) (key : Option K → Parser 
     array_of : List (K × ℕ) → ArrayValue
     array_of held = made (record { limit = limit; map = from_entries held })
 
-    filled_left : (listed count : ℕ) (input : List ℕ) (array : ArrayValue) → listed ≤ count → filled made limit (entries order key value None listed) input ≡ Ok (array, []) → WholeOrCut (filled made limit (entries order key value None count) input)
+    filled_left : (listed count : ℕ) (input : List ℕ) (array : ArrayValue) → listed ≤ count → filled made limit (entries order key value None listed) input ≡ Ok (array, []) →
+        WholeOrCut (filled made limit (entries order key value None count) input)
     unfolding array_of
     filled_left listed count input array few is =
         let f = followed_ok (entries order key value None listed input) (λ held. done (array_of held)) (array, []) is in
@@ -98,9 +100,11 @@ no_string_left : (version : Version) (before : Option (List ℕ)) → grammar.st
 no_string_left jdy1 before = refl
 no_string_left jdy2 before = refl
 
-contents_left : (version : Version) (kind limit listed count : ℕ) (input : List ℕ) (array : ArrayValue) → listed ≤ count → grammar.contents version kind limit listed input ≡ Ok (array, []) → WholeOrCut (grammar.contents version kind limit count input)
+contents_left : (version : Version) (kind limit listed count : ℕ) (input : List ℕ) (array : ArrayValue) → listed ≤ count → grammar.contents version kind limit listed input ≡ Ok (array, []) →
+    WholeOrCut (grammar.contents version kind limit count input)
 contents_left version kind limit listed count input array few is =
-    by_tests (kind == 1) (kind == 2) (kind == 3) (sets limit listed) (words limit listed) (strings version limit listed) (byte_strings limit listed) (sets limit count) (words limit count) (strings version limit count) (byte_strings limit count) input array
+    by_tests (kind == 1) (kind == 2) (kind == 3) (sets limit listed) (words limit listed) (strings version limit listed) (byte_strings limit listed) (sets limit count)
+    (words limit count) (strings version limit count) (byte_strings limit count) input array
     (filled_left word_order (λ before. grammar.word) grammar.no_value (λ before. refl) judy1 limit listed count input array few)
     (filled_left word_order (λ before. grammar.word) grammar.word (λ before. refl) judyl limit listed count input array few)
     (filled_left byte_order (grammar.string_key version) grammar.word (no_string_left version) judysl limit listed count input array few)
@@ -114,7 +118,8 @@ no_arrays_left version earlier zero = whole_done earlier
 no_arrays_left version earlier (suc count) = record { cases = inr refl }
 
 -- Of so many arrays some are there, and the next one or a part of it.
-arrays_left : (version : Version) (earlier count : ℕ) (before : Store) (input : List ℕ) (made : Store × List ℕ) → earlier < count → grammar.arrays version before earlier input ≡ Ok made → WholeOrCut (grammar.array version made.0 made.1) → WholeOrCut (grammar.arrays version before count input)
+arrays_left : (version : Version) (earlier count : ℕ) (before : Store) (input : List ℕ) (made : Store × List ℕ) → earlier < count → grammar.arrays version before earlier input ≡ Ok made →
+    WholeOrCut (grammar.array version made.0 made.1) → WholeOrCut (grammar.arrays version before count input)
 arrays_left version earlier zero before input made few is next = absurd (omega arith)
 arrays_left version zero (suc count) before input made few is next =
     let d = done_ok before input made.0 made.1 is in
@@ -138,7 +143,8 @@ abbrev up_to_entry_of : Version → ℕ → ℕ → Parser (ℕ × ℕ)
 up_to_entry_of version listed arrays =
     grammar.kind >>= λ kind. grammar.limit >>= λ limit. grammar.key_count limit >>= λ keys. grammar.contents version kind limit listed >>= λ _. done (arrays, keys)
 
-body_left : (version : Version) (listed arrays : ℕ) (input : List ℕ) (said : (ℕ × ℕ) × List ℕ) → up_to_entry_of version listed arrays input ≡ Ok said → listed ≤ said.0.1 → said.1 ≡ [] → WholeOrCut (grammar.body version input) × (said.0.0 ≡ arrays)
+body_left : (version : Version) (listed arrays : ℕ) (input : List ℕ) (said : (ℕ × ℕ) × List ℕ) → up_to_entry_of version listed arrays input ≡ Ok said →
+    listed ≤ said.0.1 → said.1 ≡ [] → WholeOrCut (grammar.body version input) × (said.0.0 ≡ arrays)
 body_left version listed arrays input said is some ends =
     let kind = followed_ok (grammar.kind input) _ said is in
     let limit = followed_ok (grammar.limit kind.0.1) _ said kind.2 in
@@ -153,14 +159,16 @@ body_left version listed arrays input said is some ends =
     )
 
 -- An array behind others, up to an entry.
-array_left : (version : Version) (listed arrays : ℕ) (made : Store) (input : List ℕ) (said : (ℕ × ℕ) × List ℕ) → (grammar.name made >>= λ _. up_to_entry_of version listed arrays) input ≡ Ok said → listed ≤ said.0.1 → said.1 ≡ [] → WholeOrCut (grammar.array version made input) × (said.0.0 ≡ arrays)
+array_left : (version : Version) (listed arrays : ℕ) (made : Store) (input : List ℕ) (said : (ℕ × ℕ) × List ℕ) →
+    (grammar.name made >>= λ _. up_to_entry_of version listed arrays) input ≡ Ok said → listed ≤ said.0.1 → said.1 ≡ [] → WholeOrCut (grammar.array version made input) × (said.0.0 ≡ arrays)
 array_left version listed arrays made input said is some ends =
     let name = followed_ok (grammar.name made input) (λ _. up_to_entry_of version listed arrays) said is in
     let body = body_left version listed arrays name.0.1 said name.2 some ends in
     (behind (grammar.name made input) _ name.0 name.1 (at_end (grammar.body version name.0.1) (λ held. done (name.0.0, held)) body.0 (λ held. whole_done (name.0.0, held))), body.1)
 
 -- All arrays, of which some stand before one that is there up to an entry.
-all_left : (version : Version) (earlier listed arrays : ℕ) (input : List ℕ) (said : (ℕ × ℕ) × List ℕ) → (grammar.arrays version [] earlier >>= λ made. grammar.name made >>= λ _. up_to_entry_of version listed arrays) input ≡ Ok said → earlier < said.0.0 → listed ≤ said.0.1 → said.1 ≡ []
+all_left : (version : Version) (earlier listed arrays : ℕ) (input : List ℕ) (said : (ℕ × ℕ) × List ℕ) →
+    (grammar.arrays version [] earlier >>= λ made. grammar.name made >>= λ _. up_to_entry_of version listed arrays) input ≡ Ok said → earlier < said.0.0 → listed ≤ said.0.1 → said.1 ≡ []
     → WholeOrCut (grammar.arrays version [] arrays input)
 all_left version earlier listed arrays input said is few some ends =
     let made = followed_ok (grammar.arrays version [] earlier input) (λ made. grammar.name made >>= λ _. up_to_entry_of version listed arrays) said is in

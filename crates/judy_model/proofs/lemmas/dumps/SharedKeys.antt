@@ -1,5 +1,6 @@
 -- Keys behind a front that they share with the key before: what is read is spelled so, and what is spelled so is read.
-use Rattle.std.proofs.Common.{◌≡◌, ℕ, suc, ◌+◌, ◌^◌, ◌<◌, ◌≤◌, ◌≢◌, Bool, true, false, cond, ◌==◌, leb, IfSome, List, [], ◌∷◌, ◌++◌, length, take, drop, flat_map, Option, None, Some, unwrap_or, refl, sym, ap, subst, ◌∙◌, append-nil, arith}
+use Rattle.std.proofs.Common.{◌≡◌, ℕ, suc, ◌+◌, ◌^◌, ◌<◌, ◌≤◌, ◌≢◌, Bool, true, false, cond, ◌==◌, leb, IfSome, List, [], ◌∷◌, ◌++◌, length, take, drop, flat_map, Option, None}
+use Rattle.std.proofs.Common.{Some, unwrap_or, refl, sym, ap, subst, ◌∙◌, append-nil, arith}
 use Rattle.std.proofs.lemmas.Bool.{eqb-true, eq-eqb, le-leb, leb-true}
 use Rattle.std.proofs.lemmas.List.{drop_at, length-append, length-drop, length-take-le, take-append-drop}
 use Rattle.std.proofs.lemmas.List.Elements.{All-nil, All-append, All-take, All-drop}
@@ -111,7 +112,10 @@ module _ (before : List ℕ) (was : IsStringKey before) where
         let all = is.1 in
         let same = ap (shared_length before) whole ∙ is.0.0 in (
           drop shared key,
-          ((omega arith, All-drop (λ byte. byte < 256) shared key is.0.1.is_bytes_key.is_byte_string), (All-without_zero (drop shared key) (All-drop (λ byte. byte ≢ 0) shared key is.0.1.without_zero), (eq-eqb _ shared same, tt))),
+          (
+            (omega arith, All-drop (λ byte. byte < 256) shared key is.0.1.is_bytes_key.is_byte_string),
+            (All-without_zero (drop shared key) (All-drop (λ byte. byte ≢ 0) shared key is.0.1.without_zero), (eq-eqb _ shared same, tt)),
+          ),
           sym whole,
           sym (append-nil (drop shared key)),
         ))

@@ -90,7 +90,8 @@ chain-buckets_of unit low keys some up = (chain-both unit low keys some up).0
 pub start-block : (unit from whole block byte : ℕ) → from ≡ whole * unit → from + (block + byte) * unit ≡ (whole + (block + byte)) * unit
 start-block unit from whole block byte is = let spread = add-mul whole (block + byte) unit in omega arith
 
-pub FromBlock-joined : (unit from whole block low : ℕ) (buckets : List Bucket) → from ≡ whole * unit → AreChained unit low buckets → FromBlock unit (whole + block + low) (joined from block unit buckets)
+pub FromBlock-joined : (unit from whole block low : ℕ) (buckets : List Bucket) → from ≡ whole * unit → AreChained unit low buckets →
+    FromBlock unit (whole + block + low) (joined from block unit buckets)
 FromBlock-joined unit from whole block low [] is chain = tt
 FromBlock-joined unit from whole block low (bucket ∷ buckets) is chain =
     let start = from + (block + bucket.0) * unit in

@@ -53,13 +53,15 @@ pub buckets_of-keys_of_buckets : (unit low : ℕ) (buckets : List Bucket) → Ar
 buckets_of-keys_of_buckets unit low [] are = refl
 buckets_of-keys_of_buckets unit low (bucket ∷ buckets) are =
     ap (λ byte. buckets_of unit (raise (byte * unit) bucket.1 ++ keys_of_buckets unit 0 buckets)) (let e : 0 + bucket.0 ≡ bucket.0 = omega arith in e)
-    ∙ buckets_of-behind unit bucket.0 bucket.1 (keys_of_buckets unit 0 buckets) buckets are.2 are.3 (buckets_of-keys_of_buckets unit (bucket.0 + 1) buckets are.4) (apart_below unit bucket.0 buckets are.4)
+    ∙ buckets_of-behind unit bucket.0 bucket.1 (keys_of_buckets unit 0 buckets) buckets are.2 are.3 (buckets_of-keys_of_buckets unit (bucket.0 + 1) buckets are.4)
+    (apart_below unit bucket.0 buckets are.4)
 
 -- What stands before the bytes of buckets.
 pub keys_of_buckets-block : (unit block : ℕ) (buckets : List Bucket) → keys_of_buckets unit block buckets ≡ raise (block * unit) (keys_of_buckets unit 0 buckets)
 keys_of_buckets-block unit block [] = refl
 keys_of_buckets-block unit block (bucket ∷ buckets) =
-    let start : (block + bucket.0) * unit ≡ block * unit + (0 + bucket.0) * unit = let spread = add-mul block bucket.0 unit in let none : (0 + bucket.0) * unit ≡ bucket.0 * unit = ap (λ n. n * unit) (let e : 0 + bucket.0 ≡ bucket.0 = omega arith in e) in omega arith in
+    let start : (block + bucket.0) * unit ≡ block * unit + (0 + bucket.0) * unit = let spread = add-mul block bucket.0 unit in
+    let none : (0 + bucket.0) * unit ≡ bucket.0 * unit = ap (λ n. n * unit) (let e : 0 + bucket.0 ≡ bucket.0 = omega arith in e) in omega arith in
     (λ t. sym (raise-raise (block * unit) ((0 + bucket.0) * unit) ((block + bucket.0) * unit) bucket.1 start) t ++ keys_of_buckets-block unit block buckets t)
     ∙ sym (raise-append (block * unit) (raise ((0 + bucket.0) * unit) bucket.1) (keys_of_buckets unit 0 buckets))
 
@@ -160,7 +162,8 @@ pub form_of-buckets : (words width total : ℕ) (shared : List ℕ) (buckets : L
     → form_of words total keys ≡ branch shared (bytes_of buckets) (length keys) ∷ forms_of (form_of words width) buckets
 form_of-buckets words width total shared buckets keys long some are_bytes are two same many =
     let inner = keys_of_buckets (256 ^ width) 0 buckets in
-    let start : number_of shared * 256 * 256 ^ width ≡ number_of shared * 256 ^ suc width = mul_assoc (number_of shared) 256 (256 ^ width) ∙ ap (λ n. number_of shared * n) (sym (pow-succ' 256 width)) in
+    let start : number_of shared * 256 * 256 ^ width ≡ number_of shared * 256 ^ suc width = mul_assoc (number_of shared) 256 (256 ^ width) ∙
+    ap (λ n. number_of shared * n) (sym (pow-succ' 256 width)) in
     let moved : keys ≡ raise (number_of shared * 256 ^ suc width) inner = same ∙ keys_of_buckets-block (256 ^ width) (number_of shared * 256) buckets ∙ ap (λ n. raise n inner) start in
     let lengths : length keys ≡ length inner = ap length moved ∙ length-raise (number_of shared * 256 ^ suc width) inner in
     ap (form_of words total) moved

@@ -1,5 +1,6 @@
 -- Forms: what a form by the rule holds, that nothing in it is loose, and which form keys have that share bytes.
-use Rattle.std.proofs.Common.{◌≡◌, ℕ, zero, suc, ◌+◌, ◌-◌, ◌*◌, ◌/◌, ◌%◌, ◌^◌, ◌<◌, ◌≤◌, ◌⊎◌, inl, inr, ⊎_elim, true, false, cond, eqb, leb, List, [], ◌∷◌, ◌++◌, length, sym, refl, ap, ◌∙◌, arith, append_assoc, length-append}
+use Rattle.std.proofs.Common.{◌≡◌, ℕ, zero, suc, ◌+◌, ◌-◌, ◌*◌, ◌/◌, ◌%◌, ◌^◌, ◌<◌, ◌≤◌, ◌⊎◌, inl, inr, ⊎_elim, true, false, cond, eqb, leb, List, [], ◌∷◌, ◌++◌, length, sym, refl}
+use Rattle.std.proofs.Common.{ap, ◌∙◌, arith, append_assoc, length-append}
 use Rattle.std.proofs.Math.Nat.{div-le_self, mul_assoc, add-mul, pow-suc, pow-succ'}
 use Rattle.std.proofs.lemmas.Nat.{div-add-mod'}
 use Rattle.std.proofs.lemmas.Bool.{eqb-true, eqb-false, leb-true, leb-false, lt-leb}
@@ -22,15 +23,17 @@ pub by_number-cases : (P : Form → Type 0) (words width : ℕ) (keys : List ℕ
     → (32 < length keys → P many)
     → P (by_number words width keys many)
 by_number-cases P words width keys many none few some lots =
-    elim (eqb (length keys) 0) as (λ b. eqb (length keys) 0 ≡ b → P (cond b [] (cond (leb (length keys) (immediate_limit words width)) (immediate keys ∷ []) (cond (leb (length keys) 32) (leaf keys ∷ []) many)))) [
+    elim (eqb (length keys) 0) as (λ b. eqb (length keys) 0 ≡ b → P (cond b [] (cond (leb (length keys) (immediate_limit words width)) (immediate keys ∷ [])
+    (cond (leb (length keys) 32) (leaf keys ∷ []) many)))) [
       | true ↦ λ e. none (eqb-true (length keys) 0 e)
-      | false ↦ λ e. elim (leb (length keys) (immediate_limit words width)) as (λ b. leb (length keys) (immediate_limit words width) ≡ b → P (cond b (immediate keys ∷ []) (cond (leb (length keys) 32) (leaf keys ∷ []) many))) [
-        | true ↦ λ within. few (let apart = eqb-false (length keys) 0 e in omega arith) (leb-true _ _ within)
-        | false ↦ λ beyond. elim (leb (length keys) 32) as (λ b. leb (length keys) 32 ≡ b → P (cond b (leaf keys ∷ []) many)) [
-          | true ↦ λ within. some (leb-false _ _ beyond) (leb-true _ _ within)
-          | false ↦ λ more. lots (leb-false _ _ more)
-        ] refl
-      ] refl
+      | false ↦ λ e. elim (leb (length keys) (immediate_limit words width)) as (λ b. leb (length keys) (immediate_limit words width) ≡ b →
+          P (cond b (immediate keys ∷ []) (cond (leb (length keys) 32) (leaf keys ∷ []) many))) [
+            | true ↦ λ within. few (let apart = eqb-false (length keys) 0 e in omega arith) (leb-true _ _ within)
+            | false ↦ λ beyond. elim (leb (length keys) 32) as (λ b. leb (length keys) 32 ≡ b → P (cond b (leaf keys ∷ []) many)) [
+              | true ↦ λ within. some (leb-false _ _ beyond) (leb-true _ _ within)
+              | false ↦ λ more. lots (leb-false _ _ more)
+            ] refl
+          ] refl
     ] refl
 
 -- ---- nothing is loose
@@ -73,7 +76,8 @@ loose_in-form_behind words (suc (suc below)) skipped keys =
     by_number-cases (λ form. loose_in form ≡ 0) words (suc (suc below)) keys
     (split_by (λ skip rest. form_behind words (suc below) skip rest) skipped (length keys) (buckets_of (256 ^ suc below) keys))
     (λ _. refl) (λ _ _. refl) (λ _ _. refl)
-    (λ many. loose_in-split_by (λ skip rest. form_behind words (suc below) skip rest) (λ skip rest. loose_in-form_behind words (suc below) skip rest) skipped (length keys) (buckets_of (256 ^ suc below) keys) many)
+    (λ many. loose_in-split_by (λ skip rest. form_behind words (suc below) skip rest) (λ skip rest. loose_in-form_behind words (suc below) skip rest) skipped
+    (length keys) (buckets_of (256 ^ suc below) keys) many)
 
 pub loose_in-form_of : (words width : ℕ) (keys : List ℕ) → loose_in (form_of words width keys) ≡ 0
 loose_in-form_of words width keys = loose_in-form_behind words width [] keys

@@ -1,6 +1,7 @@
 -- The nodes on the way of a word in the rule's form: one holds 33 keys exactly where 33 keys are the same as the word but for some number of
 -- lowest bytes.
-use Rattle.std.proofs.Common.{◌≡◌, ℕ, zero, suc, ◌+◌, ◌-◌, ◌*◌, ◌/◌, ◌^◌, ◌<◌, ◌≤◌, ◌⊎◌, ◌↔◌, inl, inr, ⊎_elim, List, [], ◌∷◌, ◌++◌, length, sym, refl, ap, ◌∙◌, subst, arith, append_assoc, length-append}
+use Rattle.std.proofs.Common.{◌≡◌, ℕ, zero, suc, ◌+◌, ◌-◌, ◌*◌, ◌/◌, ◌^◌, ◌<◌, ◌≤◌, ◌⊎◌, ◌↔◌, inl, inr, ⊎_elim, List, [], ◌∷◌, ◌++◌, length, sym, refl, ap, ◌∙◌, subst, arith}
+use Rattle.std.proofs.Common.{append_assoc, length-append}
 use Rattle.std.proofs.Math.Nat.{add-mul, mul_assoc, pow-succ', mul-div_cancel, zero-div}
 use Rattle.std.proofs.lemmas.Nat.{pow-add}
 use Rattle.std.proofs.lemmas.List.{append-nil}
@@ -90,7 +91,8 @@ buckets_way form width from whole block low word (bucket ∷ buckets) places nod
     let front = raise start bucket.1 in
     let begins = start-block unit from whole block bucket.0 is in
     let within : InBlock unit (whole + (block + bucket.0)) front = InBlock-raise unit (whole + (block + bucket.0)) start bucket.1 begins chain.2 in
-    let later = subst (λ n. FromBlock unit n behind) (let e : whole + block + (bucket.0 + 1) ≡ whole + (block + bucket.0) + 1 = omega arith in e) (FromBlock-joined unit from whole block (bucket.0 + 1) buckets is chain.4) in
+    let later = subst (λ n. FromBlock unit n behind) (let e : whole + block + (bucket.0 + 1) ≡ whole + (block + bucket.0) + 1 = omega arith in e)
+    (FromBlock-joined unit from whole block (bucket.0 + 1) buckets is chain.4) in
     let other_places = places_of from width block (bytes_of buckets) ++ places in
     let other_nodes = forms_of (form []) buckets ++ nodes in
     let here : HoldsAt 33 word ((start, width) ∷ other_places) (form [] bucket.1 ++ other_nodes) ↔ (Has width word front ⊎ HoldsAt 33 word other_places other_nodes) =
@@ -119,13 +121,15 @@ base_block : (from block wide base width : ℕ) (skipped : List ℕ) → from �
     → base ≡ (block * 256 ^ (wide - width) + number_of skipped) * 256 ^ width
 base_block from block wide base width skipped is narrow begins =
     let unit : block * 256 ^ wide ≡ block * 256 ^ (wide - width) * 256 ^ width =
-    ap (λ n. block * 256 ^ n) (let e : wide ≡ wide - width + width = omega arith in e) ∙ ap (λ u. block * u) (pow-add 256 (wide - width) width) ∙ sym (mul_assoc block (256 ^ (wide - width)) (256 ^ width)) in
+    ap (λ n. block * 256 ^ n) (let e : wide ≡ wide - width + width = omega arith in e) ∙ ap (λ u. block * u) (pow-add 256 (wide - width) width) ∙
+    sym (mul_assoc block (256 ^ (wide - width)) (256 ^ width)) in
     let spread = add-mul (block * 256 ^ (wide - width)) (number_of skipped) (256 ^ width) in
     omega arith
 
 whole_block : (from block wide width : ℕ) → from ≡ block * 256 ^ wide → width ≤ wide → from ≡ block * 256 ^ (wide - width) * 256 ^ width
 whole_block from block wide width is narrow =
-    is ∙ ap (λ n. block * 256 ^ n) (let e : wide ≡ wide - width + width = omega arith in e) ∙ ap (λ u. block * u) (pow-add 256 (wide - width) width) ∙ sym (mul_assoc block (256 ^ (wide - width)) (256 ^ width))
+    is ∙ ap (λ n. block * 256 ^ n) (let e : wide ≡ wide - width + width = omega arith in e) ∙ ap (λ u. block * u) (pow-add 256 (wide - width) width) ∙
+    sym (mul_assoc block (256 ^ (wide - width)) (256 ^ width))
 
 split_way : (form : List ℕ → List ℕ → Form) (width from block wide base word : ℕ) (skipped : List ℕ) (keys : List ℕ) (buckets : List Bucket) (places : List Place) (nodes : Form)
     → TellsWay form width → from ≡ block * 256 ^ wide → wide ≡ length skipped + suc width → base ≡ from + number_of skipped * 256 ^ suc width
@@ -156,13 +160,15 @@ split_way form width from block wide base word skipped keys (bucket ∷ other �
       λ one. ⊎_elim
           (λ (h : LeadsTo word (from, wide) × (length keys ≡ 33)). let e = h.1 in inl (whole_way from block wide word (raise base keys) is within h.0 (omega arith)))
           (λ further. ⊎_elim
-          (λ (h : Has width word (joined from (number_of skipped * 256) (256 ^ width) all)). let least = h.1 in inl (h.0, (let e : h.0 ≤ wide = omega arith in e), ap (alike (256 ^ h.0) word) (sym same) ∙ h.2))
+          (λ (h : Has width word (joined from (number_of skipped * 256) (256 ^ width) all)). let least = h.1 in
+          inl (h.0, (let e : h.0 ≤ wide = omega arith in e), ap (alike (256 ^ h.0) word) (sym same) ∙ h.2))
           (λ last. inr last)
           (kids.0 (subst below_it lower further)))
           one,
       λ back. ⊎_elim
           (λ (h : Has wide word (raise base keys)). ⊎_elim
-          (λ (below_all : width < h.0). let more : suc width ≤ h.0 = omega arith in let found = node_way from block wide word part (suc width) h.0 (raise base keys) is within inner more h.1 h.2 in let e = found.1 in inl (found.0, (let e : length keys ≡ 33 = omega arith in e)))
+          (λ (below_all : width < h.0). let more : suc width ≤ h.0 = omega arith in let found = node_way from block wide word part (suc width) h.0
+          (raise base keys) is within inner more h.1 h.2 in let e = found.1 in inl (found.0, (let e : length keys ≡ 33 = omega arith in e)))
           (λ (fewer : h.0 ≤ width). inr (subst below_it (sym lower) (kids.1 (inl (h.0, fewer, ap (alike (256 ^ h.0) word) same ∙ h.2)))))
           (cases_lt width h.0))
           (λ last. inr (subst below_it (sym lower) (kids.1 (inr last))))
@@ -212,7 +218,8 @@ tells_way words (suc (suc lower)) some from block wide base word skipped keys pl
     let width = suc lower in
     let lengths = length-raise base keys in
     let buckets = buckets_of (256 ^ width) keys in
-    let start : base ≡ from + number_of skipped * 256 * 256 ^ width = begins ∙ ap (λ n. from + n) (ap (λ unit. number_of skipped * unit) (pow-succ' 256 width) ∙ sym (mul_assoc (number_of skipped) 256 (256 ^ width))) in
+    let start : base ≡ from + number_of skipped * 256 * 256 ^ width = begins ∙ ap (λ n. from + n) (ap (λ unit. number_of skipped * unit) (pow-succ' 256 width) ∙
+    sym (mul_assoc (number_of skipped) 256 (256 ^ width))) in
     by_number-cases (λ form. HoldsAt 33 word ((from, wide) ∷ places) (form ++ nodes) ↔ (Has wide word (raise base keys) ⊎ HoldsAt 33 word places nodes))
     words (suc width) keys (split_by (λ skip rest. form_behind words width skip rest) skipped (length keys) buckets)
     (λ none. let never : ⊥ = omega arith in absurd never)

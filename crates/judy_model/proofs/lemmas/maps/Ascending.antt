@@ -1,5 +1,6 @@
 -- Lists in strictly ascending order: their members, what `find` finds in them, and what a filter keeps.
-use Rattle.std.proofs.Common.{◌≡◌, ℕ, zero, suc, ◌<◌, Bool, true, false, cond, ◌||◌, ◌⊎◌, inl, inr, ⊎_elim, List, [], ◌∷◌, reverse, length, filter, find, slice_get, Contains, get_or, Option, Some, None, sym, refl, ap, ◌∙◌, subst, arith, true≢false, Ordering, Less, is_le}
+use Rattle.std.proofs.Common.{◌≡◌, ℕ, zero, suc, ◌<◌, Bool, true, false, cond, ◌||◌, ◌⊎◌, inl, inr, ⊎_elim, List, [], ◌∷◌, reverse, length, filter, find, slice_get, Contains}
+use Rattle.std.proofs.Common.{get_or, Option, Some, None, sym, refl, ap, ◌∙◌, subst, arith, true≢false, Ordering, Less, is_le}
 use Rattle.std.specs.Ordering.{eq_by_cmp, is_eq}
 use Rattle.std.specs.List.{list_any, AllByRecursion}
 use Rattle.std.specs.List.Sorted.{IsStrictlySortedBy}
@@ -94,7 +95,8 @@ module _ {K : Type 0} where
     list_any-from_among (x ∷ xs) key here =
         elim (eq_by_cmp order key x) as (λ b. eq_by_cmp order key x ≡ b → (b || list_any (eq_by_cmp order key) xs) ≡ true) [
           | true ↦ λ tied. refl
-          | false ↦ λ apart. ⊎_elim (λ e. not_both (eq_by_cmp order key x) (ap (λ other. eq_by_cmp order key other) (sym e) ∙ eq_by_cmp_itself key) apart) (λ later. list_any-from_among xs key later) here
+          | false ↦ λ apart. ⊎_elim (λ e. not_both (eq_by_cmp order key x) (ap (λ other. eq_by_cmp order key other) (sym e) ∙ eq_by_cmp_itself key) apart)
+              (λ later. list_any-from_among xs key later) here
         ] refl
 
 -- ---- what `find` finds
@@ -134,11 +136,16 @@ module _ {K : Type 0} {order : K → K → Ordering} (total : IsTotalOrder order
   find_least [] ascending = λ key here. absurd here
   find_least (x ∷ xs) ascending =
       elim (p x) as (λ b. p x ≡ b → LeastAmong order p (x ∷ xs) (cond b (Some x) (find p xs))) [
-        | true ↦ λ passes. (inl refl, passes, λ key here _. ⊎_elim (λ e. ap (λ other. is_le (order x other)) e ∙ le_itself total x) (λ later. ap is_le (all_among (λ other. order x other ≡ Less) xs key ascending.0 later)) here)
+        | true ↦ λ passes. (
+          inl refl,
+          passes,
+          λ key here _. ⊎_elim (λ e. ap (λ other. is_le (order x other)) e ∙ le_itself total x) (λ later. ap is_le (all_among (λ other. order x other ≡ Less) xs key ascending.0 later)) here,
+        )
         | false ↦ λ fails. past_first x xs (find p xs) fails (find_least xs ascending.1)
       ] refl
 
-  before_last : (x : K) (xs : List K) (found : Option K) → AllByRecursion (λ other. order x other ≡ Less) xs → GreatestAmong order p xs found → GreatestAmong order p (x ∷ xs) (option_or found (cond (p x) (Some x) None))
+  before_last : (x : K) (xs : List K) (found : Option K) → AllByRecursion (λ other. order x other ≡ Less) xs → GreatestAmong order p xs found →
+      GreatestAmong order p (x ∷ xs) (option_or found (cond (p x) (Some x) None))
   before_last x xs (Some greatest) below some = (
     inr some.0,
     some.1,

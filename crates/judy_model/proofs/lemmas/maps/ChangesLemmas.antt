@@ -7,10 +7,6 @@ use Rattle.std.proofs.lemmas.Bool.{cond-true, cond-false, false_from_ne_true}
 use Rattle.judy_model.specs.Arrays.{ins, write, del}
 use Rattle.judy_model.proofs.lemmas.orders.Orders.{equal_is, same_from_tie}
 
--- To insert a key that the map contains changes nothing.
-pub ins_present : {K : Type 0} {order : K → K → Ordering} (map : FinMap order ℕ) (key : K) → IsTrue (contains_key map key) → ins map key ≡ map
-ins_present map key held = cond-true (contains_key map key) map (insert map key 0) held
-
 -- To insert a key that it doesn't contain adds it with the value 0.
 pub ins_absent : {K : Type 0} {order : K → K → Ordering} (map : FinMap order ℕ) (key : K) → contains_key map key ≡ false → ins map key ≡ insert map key 0
 ins_absent map key absent = cond-false (contains_key map key) map (insert map key 0) absent

@@ -24,8 +24,10 @@ right_of false right h = absurd h
 module _ {K : Type 0} (order : K → K → Ordering) where
   below_each : (x : K) (pairs : List (K × ℕ)) → T (below_all order x pairs) → AllByRecursion (λ other. order x other ≡ Less) (map (λ e. e.0) pairs)
   below_each x [] h = tt
-  below_each x (pair ∷ pairs) h =
-      (less_is (order x pair.0) (true_is (is_lt (order x pair.0)) (left_of (is_lt (order x pair.0)) (below_all order x pairs) h)), below_each x pairs (right_of (is_lt (order x pair.0)) (below_all order x pairs) h))
+  below_each x (pair ∷ pairs) h = (
+    less_is (order x pair.0) (true_is (is_lt (order x pair.0)) (left_of (is_lt (order x pair.0)) (below_all order x pairs) h)),
+    below_each x pairs (right_of (is_lt (order x pair.0)) (below_all order x pairs) h),
+  )
 
   -- The keys of entries in order ascend.
   pub ascending_from_is_sorted : (pairs : List (K × ℕ)) → T (is_sorted order pairs) → IsStrictlySortedBy order (map (λ e. e.0) pairs)

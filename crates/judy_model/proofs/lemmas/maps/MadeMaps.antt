@@ -3,7 +3,8 @@ use Rattle.std.proofs.Common.{◌≡◌, ℕ, suc, ◌+◌, Bool, true, false, c
 use Rattle.std.specs.declared.cmp.Ordering.{Ordering}
 use Rattle.std.specs.Ordering.{is_lt, is_eq, eq_by_cmp}
 use Rattle.std.specs.Cmp.{IsTotalOrder, tied_itself}
-use Rattle.std.specs.FinMap.{FinMap, IsAntisymmetric, find, put, is_sorted, empty, from_sorted, from_entries, entries, get, len, get-entries, get-from_entries, get-from_sorted, entries-from_sorted, entries-insert, len-entries, len-empty, len-insert, same_map}
+use Rattle.std.specs.FinMap.{FinMap, IsAntisymmetric, find, put, is_sorted, empty, from_sorted, from_entries, entries, get, len, get-entries, get-from_entries, get-from_sorted}
+use Rattle.std.specs.FinMap.{entries-from_sorted, entries-insert, len-entries, len-empty, len-insert, same_map}
 use Rattle.std.specs.FinMap.Entries.{below_all, by_order}
 use Rattle.std.proofs.lemmas.List.Elements.{All-nil, All-cons, All-head, All-tail}
 use Rattle.judy_model.proofs.lemmas.maps.Tests.{left_of, right_of}
@@ -45,7 +46,8 @@ module _ {K : Type 0} (one other : K → K → Ordering) (one_total : IsTotalOrd
   find-below : (key : K) (pairs : List (K × ℕ)) → T (below_all one key pairs) → find other key pairs ≡ None
   find-below key [] below = refl
   find-below key (pair ∷ pairs) below =
-      sym (ap (λ b. cond b (Some pair.1) (find other key pairs)) (same_ties key pair.0)) ∙ ap (λ b. cond b (Some pair.1) (find other key pairs)) (apart (one key pair.0) (left_of _ _ below)) ∙ find-below key pairs (right_of _ _ below)
+      sym (ap (λ b. cond b (Some pair.1) (find other key pairs)) (same_ties key pair.0)) ∙ ap (λ b. cond b (Some pair.1) (find other key pairs))
+      (apart (one key pair.0) (left_of _ _ below)) ∙ find-below key pairs (right_of _ _ below)
 
   -- A map has as many keys as the list in order that it is made of.
   pub len-from_entries : (pairs : List (K × ℕ)) → T (is_sorted one pairs) → len (from_entries {R = other} pairs) ≡ length pairs
@@ -62,7 +64,8 @@ module _ {K : Type 0} (one other : K → K → Ordering) (one_total : IsTotalOrd
   entries-made_twice pairs sorted =
       let made = from_entries {R = other} pairs in
       let is : from_entries {R = one} (entries made) ≡ from_sorted pairs = same_map one_total one_same _ _ (λ key.
-      get-from_entries one_total (entries made) key ∙ find-alike key (entries made) ∙ sym (get-entries made key) ∙ get-from_entries other_total pairs key ∙ sym (find-alike key pairs) ∙ sym (get-from_sorted one pairs key sorted)) in
+      get-from_entries one_total (entries made) key ∙ find-alike key (entries made) ∙ sym (get-entries made key) ∙ get-from_entries other_total pairs key ∙
+      sym (find-alike key pairs) ∙ sym (get-from_sorted one pairs key sorted)) in
       ap entries is ∙ entries-from_sorted one pairs sorted
 
   -- A map that is made of another's entries in the other order is that map.
@@ -70,19 +73,22 @@ module _ {K : Type 0} (one other : K → K → Ordering) (one_total : IsTotalOrd
   made_twice m =
       let made = from_entries {R = one} (entries m) in
       same_map other_total other_same _ _ (λ key.
-      get-from_entries other_total (entries made) key ∙ sym (find-alike key (entries made)) ∙ sym (get-entries made key) ∙ get-from_entries one_total (entries m) key ∙ find-alike key (entries m) ∙ sym (get-entries m key))
+      get-from_entries other_total (entries made) key ∙ sym (find-alike key (entries made)) ∙ sym (get-entries made key) ∙ get-from_entries one_total (entries m) key ∙
+      find-alike key (entries m) ∙ sym (get-entries m key))
 
 module _ {K : Type 0} {order : K → K → Ordering} (total : IsTotalOrder order) (same : IsAntisymmetric order) where
   -- A map that is made of entries in order has these.
   pub entries-made : (pairs : List (K × ℕ)) → T (is_sorted order pairs) → entries (from_entries {R = order} pairs) ≡ pairs
   entries-made pairs sorted =
-      ap entries (same_map total same (from_entries pairs) (from_sorted pairs) (λ key. get-from_entries total pairs key ∙ sym (get-from_sorted order pairs key sorted))) ∙ entries-from_sorted order pairs sorted
+      ap entries (same_map total same (from_entries pairs) (from_sorted pairs) (λ key. get-from_entries total pairs key ∙ sym (get-from_sorted order pairs key sorted))) ∙
+      entries-from_sorted order pairs sorted
 
   -- A map is made of its entries.
   pub made_of_entries : (m : FinMap order ℕ) → from_entries {R = order} (entries m) ≡ m
   made_of_entries m = same_map total same _ _ (λ key. get-from_entries total (entries m) key ∙ sym (get-entries m key))
 
-module _ {K : Type 0} {order : K → K → Ordering} (total : IsTotalOrder order) (P : K × ℕ → Type 0) (P-over : (key : K) (before after : ℕ) (other : K) → P (key, before) → P (other, after) → P (key, after)) where
+module _ {K : Type 0} {order : K → K → Ordering} (total : IsTotalOrder order) (P : K × ℕ → Type 0) (P-over : (key : K) (before after : ℕ) (other : K) →
+    P (key, before) → P (other, after) → P (key, after)) where
   All-put : (key : K) (value : ℕ) (pairs : List (K × ℕ)) → P (key, value) → All P pairs → All P (put order key value pairs)
   All-put key value [] here all = All-cons P (key, value) [] here (All-nil P)
   All-put key value (pair ∷ pairs) here all =
@@ -98,4 +104,5 @@ module _ {K : Type 0} {order : K → K → Ordering} (total : IsTotalOrder order
   pub All-made : (pairs : List (K × ℕ)) → All P pairs → All P (entries (from_entries {R = order} pairs))
   All-made [] all = subst (All P) (sym (no_pairs (entries (empty {X = ℕ} {R = order})) (sym (len-entries (empty {X = ℕ} {R = order})) ∙ len-empty order ℕ))) (All-nil P)
   All-made (pair ∷ pairs) all =
-      subst (All P) (sym (entries-insert total (from_entries pairs) pair.0 pair.1)) (All-put pair.0 pair.1 (entries (from_entries pairs)) (All-head P pair pairs all) (All-made pairs (All-tail P pair pairs all)))
+      subst (All P) (sym (entries-insert total (from_entries pairs) pair.0 pair.1)) (All-put pair.0 pair.1 (entries (from_entries pairs)) (All-head P pair pairs all)
+      (All-made pairs (All-tail P pair pairs all)))

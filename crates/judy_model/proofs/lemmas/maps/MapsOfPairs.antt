@@ -4,7 +4,8 @@ use Rattle.std.specs.Prelude.{filter, slice_get}
 use Rattle.std.specs.Ordering.{is_lt, is_le, eq_by_cmp}
 use Rattle.std.specs.Cmp.{IsTotalOrder, nat_cmp_total}
 use Rattle.std.specs.Cmp.Lexicographic.{nat_list_cmp_total}
-use Rattle.std.specs.FinMap.{FinMap, empty, keys, contains_key, IsAntisymmetric, nat_cmp-IsAntisymmetric, slice_cmp-IsAntisymmetric, entries, get, len, insert, remove, from_sorted, find, put, is_sorted, entries-from_sorted, get-from_sorted}
+use Rattle.std.specs.FinMap.{FinMap, empty, keys, contains_key, IsAntisymmetric, nat_cmp-IsAntisymmetric, slice_cmp-IsAntisymmetric, entries, get, len, insert, remove, from_sorted}
+use Rattle.std.specs.FinMap.{find, put, is_sorted, entries-from_sorted, get-from_sorted}
 use Rattle.std.specs.FinMap.Entries.{where_key}
 use Rattle.judy_model.specs.Keys.{word_order, byte_order}
 use Rattle.judy_model.specs.Neighbours as neighbours
@@ -80,14 +81,16 @@ module _ (map : FinMap word_order ℕ) (from : ℕ) where
 
   pub first_empty-behind : contains_key map from ≡ true → contains_key map (from + 1) ≡ false → ltb (from + 1) (2 ^ 64) ≡ true → first_empty map from ≡ Some (from + 1)
   first_empty-behind here absent small =
-      first_empty_run map from (from + 1) (omega arith) (ltb-true (from + 1) (2 ^ 64) small) absent (λ key low high. let e : from ≡ key = omega (arith, low, high) in subst (λ key. contains_key map key ≡ true) e here)
+      first_empty_run map from (from + 1) (omega arith) (ltb-true (from + 1) (2 ^ 64) small) absent (λ key low high. let e : from ≡ key = omega (arith, low, high) in
+      subst (λ key. contains_key map key ≡ true) e here)
 
   pub next_empty-behind : contains_key map (from + 1) ≡ false → ltb (from + 1) (2 ^ 64) ≡ true → next_empty map from ≡ Some (from + 1)
   next_empty-behind absent small = next_empty_run map from (from + 1) (omega arith) (ltb-true (from + 1) (2 ^ 64) small) absent (λ key low high. absurd (omega (arith, low, high)))
 
   pub next_empty-two_behind : contains_key map (from + 1) ≡ true → contains_key map (from + 2) ≡ false → ltb (from + 2) (2 ^ 64) ≡ true → next_empty map from ≡ Some (from + 2)
   next_empty-two_behind behind absent small =
-      next_empty_run map from (from + 2) (omega arith) (ltb-true (from + 2) (2 ^ 64) small) absent (λ key low high. let e : from + 1 ≡ key = omega (arith, low, high) in subst (λ key. contains_key map key ≡ true) e behind)
+      next_empty_run map from (from + 2) (omega arith) (ltb-true (from + 2) (2 ^ 64) small) absent (λ key low high. let e : from + 1 ≡ key = omega (arith, low, high) in
+      subst (λ key. contains_key map key ≡ true) e behind)
 
   pub next_empty-none : leb (2 ^ 64) (from + 1) ≡ true → next_empty map from ≡ None
   next_empty-none end = next_empty_run_none map from (λ key low high. absurd (omega (arith, low, high, leb-true (2 ^ 64) (from + 1) end)))
@@ -98,7 +101,8 @@ module _ (map : FinMap word_order ℕ) (from : ℕ) where
   pub last_empty-before : contains_key map from ≡ true → ltb 0 from ≡ true → contains_key map (from - 1) ≡ false → ltb from (2 ^ 64) ≡ true → last_empty map from ≡ Some (from - 1)
   last_empty-before here some absent small =
       let above = ltb-true 0 from some in
-      last_empty_run map from (from - 1) (omega arith) (omega (arith, ltb-true from (2 ^ 64) small)) absent (λ key low high is_word. let e : from ≡ key = omega (arith, low, high, above) in subst (λ key. contains_key map key ≡ true) e here)
+      last_empty_run map from (from - 1) (omega arith) (omega (arith, ltb-true from (2 ^ 64) small)) absent
+      (λ key low high is_word. let e : from ≡ key = omega (arith, low, high, above) in subst (λ key. contains_key map key ≡ true) e here)
 
   pub prev_empty-before : ltb 0 from ≡ true → contains_key map (from - 1) ≡ false → ltb from (2 ^ 64) ≡ true → prev_empty map from ≡ Some (from - 1)
   prev_empty-before some absent small =
@@ -108,12 +112,24 @@ module _ (map : FinMap word_order ℕ) (from : ℕ) where
   pub prev_empty-two_before : ltb 1 from ≡ true → contains_key map (from - 1) ≡ true → contains_key map (from - 2) ≡ false → ltb from (2 ^ 64) ≡ true → prev_empty map from ≡ Some (from - 2)
   prev_empty-two_before some before absent small =
       let above = ltb-true 1 from some in
-      prev_empty_run map from (from - 2) (omega (arith, above)) (omega (arith, ltb-true from (2 ^ 64) small)) absent (λ key low high is_word. let e : from - 1 ≡ key = omega (arith, low, high, above) in subst (λ key. contains_key map key ≡ true) e before)
+      prev_empty_run map from (from - 2) (omega (arith, above)) (omega (arith, ltb-true from (2 ^ 64) small)) absent
+      (λ key low high is_word. let e : from - 1 ≡ key = omega (arith, low, high, above) in subst (λ key. contains_key map key ≡ true) e before)
 
 pub prev_empty-none : (map : FinMap word_order ℕ) → prev_empty map 0 ≡ None
 prev_empty-none map = prev_empty_run_none map 0 (λ key below is_word. absurd (omega (arith, below)))
 
-pub ruleset empties_computed = (first_empty-here, first_empty-behind, next_empty-behind, next_empty-two_behind, next_empty-none, last_empty-here, last_empty-before, prev_empty-before, prev_empty-two_before, prev_empty-none)
+pub ruleset empties_computed = (
+  first_empty-here,
+  first_empty-behind,
+  next_empty-behind,
+  next_empty-two_behind,
+  next_empty-none,
+  last_empty-here,
+  last_empty-before,
+  prev_empty-before,
+  prev_empty-two_before,
+  prev_empty-none,
+)
 
 -- of words
 pub words-entries : (pairs : List (ℕ × ℕ)) → is_sorted word_order pairs ≡ true → entries (from_sorted {R = word_order} pairs) ≡ pairs
@@ -128,7 +144,8 @@ words-len = long word_order
 pub words-insert : (pairs : List (ℕ × ℕ)) (key value : ℕ) → is_sorted word_order pairs ≡ true → insert (from_sorted {R = word_order} pairs) key value ≡ from_sorted (put word_order key value pairs)
 words-insert pairs key value rising = written word_order pairs rising nat_cmp_total key value
 
-pub words-remove : (pairs : List (ℕ × ℕ)) (key : ℕ) → is_sorted word_order pairs ≡ true → remove (from_sorted {R = word_order} pairs) key ≡ from_sorted (where_key word_order (λ other. not (eq_by_cmp word_order key other)) pairs)
+pub words-remove : (pairs : List (ℕ × ℕ)) (key : ℕ) → is_sorted word_order pairs ≡ true → remove (from_sorted {R = word_order} pairs) key ≡
+    from_sorted (where_key word_order (λ other. not (eq_by_cmp word_order key other)) pairs)
 words-remove pairs key rising = taken_out word_order pairs rising nat_cmp_total nat_cmp-IsAntisymmetric key
 
 pub words-empty : (empty {X = ℕ} {R = word_order}) ≡ from_sorted []
@@ -146,10 +163,12 @@ bytes-get pairs key rising = found byte_order pairs rising key
 pub bytes-len : (pairs : List (List ℕ × ℕ)) → is_sorted byte_order pairs ≡ true → len (from_sorted {R = byte_order} pairs) ≡ length pairs
 bytes-len = long byte_order
 
-pub bytes-insert : (pairs : List (List ℕ × ℕ)) (key : List ℕ) (value : ℕ) → is_sorted byte_order pairs ≡ true → insert (from_sorted {R = byte_order} pairs) key value ≡ from_sorted (put byte_order key value pairs)
+pub bytes-insert : (pairs : List (List ℕ × ℕ)) (key : List ℕ) (value : ℕ) → is_sorted byte_order pairs ≡ true →
+    insert (from_sorted {R = byte_order} pairs) key value ≡ from_sorted (put byte_order key value pairs)
 bytes-insert pairs key value rising = written byte_order pairs rising nat_list_cmp_total key value
 
-pub bytes-remove : (pairs : List (List ℕ × ℕ)) (key : List ℕ) → is_sorted byte_order pairs ≡ true → remove (from_sorted {R = byte_order} pairs) key ≡ from_sorted (where_key byte_order (λ other. not (eq_by_cmp byte_order key other)) pairs)
+pub bytes-remove : (pairs : List (List ℕ × ℕ)) (key : List ℕ) → is_sorted byte_order pairs ≡ true → remove (from_sorted {R = byte_order} pairs) key ≡
+    from_sorted (where_key byte_order (λ other. not (eq_by_cmp byte_order key other)) pairs)
 bytes-remove pairs key rising = taken_out byte_order pairs rising nat_list_cmp_total (slice_cmp-IsAntisymmetric nat_cmp-IsAntisymmetric) key
 
 pub bytes-empty : (empty {X = ℕ} {R = byte_order}) ≡ from_sorted []

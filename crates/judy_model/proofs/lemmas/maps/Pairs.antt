@@ -32,12 +32,14 @@ module _ {K X : Type 0} (order : K → K → Ordering) (total : IsTotalOrder ord
   below_all-at k (pair ∷ pairs) (suc at) d h within = below_all-at k pairs at d (right_of _ _ h) (omega arith)
 
   -- Where the key stands further on, the first pair has a smaller one.
-  pub head_below : (key : K) (pair : K × X) (pairs : List (K × X)) (at : ℕ) (d : K × X) → T (is_sorted order (pair ∷ pairs)) → at < length pairs → order (get_or pairs at d).0 key ≡ Equal → order key pair.0 ≡ Greater
+  pub head_below : (key : K) (pair : K × X) (pairs : List (K × X)) (at : ℕ) (d : K × X) → T (is_sorted order (pair ∷ pairs)) → at < length pairs →
+      order (get_or pairs at d).0 key ≡ Equal → order key pair.0 ≡ Greater
   head_below key pair pairs at d h within e =
       turned_Less order total pair.0 key (sym (alike_right total (get_or pairs at d).0 key pair.0 e) ∙ below_all-at pair.0 pairs at d (left_of _ _ h) within)
 
   -- The key at a place is found, with the value that stands there.
-  pub find-at : (pairs : List (K × X)) (key : K) (at : ℕ) (d : K × X) → T (is_sorted order pairs) → at < length pairs → order (get_or pairs at d).0 key ≡ Equal → find order key pairs ≡ Some (get_or pairs at d).1
+  pub find-at : (pairs : List (K × X)) (key : K) (at : ℕ) (d : K × X) → T (is_sorted order pairs) → at < length pairs → order (get_or pairs at d).0 key ≡ Equal →
+      find order key pairs ≡ Some (get_or pairs at d).1
   find-at [] key at d h within e = absurd (omega arith)
   find-at (pair ∷ pairs) key zero d h within e =
       ap (λ r. cond (is_eq r) (Some pair.1) (find order key pairs)) (tied_back total pair.0 key e)

@@ -5,7 +5,8 @@ use Rattle.std.specs.declared.cmp.Ordering.{Ordering}
 use Rattle.std.specs.Ordering.{is_eq, eq_by_cmp}
 use Rattle.std.specs.Cmp.{IsTotalOrder, alike_right, eq_by_cmp_equiv, Equal-is}
 use Rattle.std.specs.List as list
-use Rattle.std.specs.FinMap.{FinMap, IsAntisymmetric, find, put, is_sorted, empty, from_sorted, get, insert, remove, len, entries-from_sorted, entries-insert, get-from_sorted, get-remove, get_tied, len-entries, empty_of_len, same_entries_map, same_map}
+use Rattle.std.specs.FinMap.{FinMap, IsAntisymmetric, find, put, is_sorted, empty, from_sorted, get, insert, remove, len, entries-from_sorted, entries-insert, get-from_sorted}
+use Rattle.std.specs.FinMap.{get-remove, get_tied, len-entries, empty_of_len, same_entries_map, same_map}
 use Rattle.std.specs.FinMap.Entries.{where_key, is_sorted-put, is_sorted-where_key, find-where_key}
 
 -- A choice by the opposite test.
@@ -26,7 +27,8 @@ module _ {K X : Type 0} (order : K → K → Ordering) (total : IsTotalOrder ord
   -- A put into the map is a put into its pairs, which stay in order.
   pub insert-from_sorted : (pairs : List (K × X)) (key : K) (value : X) → T (is_sorted order pairs) → insert (from_sorted {R = order} pairs) key value ≡ from_sorted (put order key value pairs)
   insert-from_sorted pairs key value h =
-      same_entries_map _ _ (entries-insert total _ key value ∙ ap (put order key value) (entries-from_sorted order pairs h) ∙ sym (entries-from_sorted order (put order key value pairs) (is_sorted-put order total key value pairs h)))
+      same_entries_map _ _ (entries-insert total _ key value ∙ ap (put order key value) (entries-from_sorted order pairs h) ∙
+      sym (entries-from_sorted order (put order key value pairs) (is_sorted-put order total key value pairs h)))
 
 module _ {K X : Type 0} {order : K → K → Ordering} (total : IsTotalOrder order) (same : IsAntisymmetric order) where
   -- A key that the map doesn't hold is removed from it in vain.
@@ -39,7 +41,8 @@ module _ {K X : Type 0} {order : K → K → Ordering} (total : IsTotalOrder ord
       ] refl)
 
   -- A delete from the map is one from its pairs.
-  pub remove-from_sorted : (pairs : List (K × X)) (key : K) → T (is_sorted order pairs) → remove (from_sorted {R = order} pairs) key ≡ from_sorted (where_key order (λ other. not (eq_by_cmp order key other)) pairs)
+  pub remove-from_sorted : (pairs : List (K × X)) (key : K) → T (is_sorted order pairs) → remove (from_sorted {R = order} pairs) key ≡
+      from_sorted (where_key order (λ other. not (eq_by_cmp order key other)) pairs)
   remove-from_sorted pairs key h = same_map total same _ _ (λ q.
       get-remove total _ key q
       ∙ ap (cond (eq_by_cmp order q key) None) (get-from_sorted order pairs q h)

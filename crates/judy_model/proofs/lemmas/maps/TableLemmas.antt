@@ -1,6 +1,7 @@
 -- Tables: which keys the lists of all keys hold, and what the table of a function answers, so that two
 -- functions that differ at one key have tables that differ by one insert or one removal.
-use Rattle.std.proofs.Common.{◌≡◌, ◌≢◌, ℕ, zero, suc, ◌<◌, ◌≤◌, Bool, true, false, cond, ◌||◌, nat_lt, inl, inr, ⊎_elim, ◌⊎◌, List, [], ◌∷◌, ◌++◌, map, length, filter, All, Option, Some, None, sym, refl, ap, ◌∙◌, subst, arith, ltb-true, lt-ltb, true≢false}
+use Rattle.std.proofs.Common.{◌≡◌, ◌≢◌, ℕ, zero, suc, ◌<◌, ◌≤◌, Bool, true, false, cond, ◌||◌, nat_lt, inl, inr, ⊎_elim, ◌⊎◌, List, [], ◌∷◌, ◌++◌, map, length, filter, All, Option}
+use Rattle.std.proofs.Common.{Some, None, sym, refl, ap, ◌∙◌, subst, arith, ltb-true, lt-ltb, true≢false}
 use Rattle.std.specs.List.{AllByRecursion, list_any, cons_option, flat_map}
 use Rattle.std.specs.Option.{option_map}
 use Rattle.std.specs.Ordering.{eq_by_cmp, is_eq}
@@ -11,9 +12,9 @@ use Rattle.std.proofs.lemmas.List.Elements.{recursion_from_All, All-from_recursi
 use Rattle.std.proofs.lemmas.Bool.{false_from_ne_true}
 use Rattle.std.proofs.lemmas.Option.{none-some}
 use Rattle.judy_model.specs.Keys.{IsStringKey, byte_order}
-use Rattle.judy_model.specs.KeyLengths.{IsBytesKeyTo}
+use Rattle.judy_model.specs.KeyLengths.{IsBytesKeyTo, IsStringKeyTo}
 use Rattle.judy_model.specs.Empties.{numbers_below}
-use Rattle.judy_model.specs.Tables.{strings_to, bytes_keys, string_keys, tabled, table}
+use Rattle.judy_model.specs.Tables.{strings_to, bytes_keys, string_keys, string_keys_to, tabled, table}
 use Rattle.judy_model.specs.declared.keys.TheConstants.{LONGEST_KEY}
 use Rattle.judy_model.proofs.lemmas.orders.Orders.{same_from_tie}
 use Rattle.judy_model.proofs.lemmas.maps.Ascending.{Among, Among-filter, among_from_filter, Among-list_any, list_any-from_among, all_from_among, all_among}
@@ -70,7 +71,8 @@ module _ (alphabet : List ℕ) where
   Among-strings_to zero [] all within = inl refl
   Among-strings_to zero (byte ∷ rest) all within = let never : ⊥ = omega arith in absurd never
   Among-strings_to (suc most) [] all within = inl refl
-  Among-strings_to (suc most) (byte ∷ rest) all within = inr (Among-flat_map _ alphabet byte (byte ∷ rest) all.0 (Among-map (λ others. byte ∷ others) (strings_to alphabet most) rest (Among-strings_to most rest all.1 (omega arith))))
+  Among-strings_to (suc most) (byte ∷ rest) all within =
+      inr (Among-flat_map _ alphabet byte (byte ∷ rest) all.0 (Among-map (λ others. byte ∷ others) (strings_to alphabet most) rest (Among-strings_to most rest all.1 (omega arith))))
 
   among_from_strings_to : (most : ℕ) (key : List ℕ) → Among (strings_to alphabet most) key → AllByRecursion (Among alphabet) key × (length key ≤ most)
   unfolding strings_to
@@ -86,7 +88,8 @@ module _ (alphabet : List ℕ) where
       here
 
   -- Where the alphabet is the bytes that pass, the strings are those of bytes that pass.
-  strings_to-all : (P : ℕ → Type 0) → ((byte : ℕ) → P byte → Among alphabet byte) → ((byte : ℕ) → Among alphabet byte → P byte) → (most : ℕ) (key : List ℕ) → All P key → length key ≤ most → Among (strings_to alphabet most) key
+  strings_to-all : (P : ℕ → Type 0) → ((byte : ℕ) → P byte → Among alphabet byte) → ((byte : ℕ) → Among alphabet byte → P byte) → (most : ℕ) (key : List ℕ) →
+      All P key → length key ≤ most → Among (strings_to alphabet most) key
   strings_to-all P there only most key all within =
       Among-strings_to most key (all_from_among (Among alphabet) key (λ byte here. there byte (all_among P key byte (recursion_from_All P key all) here))) within
 
@@ -99,8 +102,11 @@ module _ (alphabet : List ℕ) where
 pub bytes_keys-all : (longest : ℕ) → ListsAll (bytes_keys longest) (IsBytesKeyTo longest)
 unfolding bytes_keys
 bytes_keys-all longest = record {
-  there = λ key is. strings_to-all (numbers_below 256) (λ byte. byte < 256) (λ byte below. Among-numbers_below 256 byte below) (λ byte here. below_from_among 256 byte here) longest key is.is_byte_string is.within_limit;
-  only = λ key here. let are = strings_to-only (numbers_below 256) (λ byte. byte < 256) (λ byte inside. below_from_among 256 byte inside) longest key here in record { is_byte_string = are.0; within_limit = are.1 };
+  there =
+      λ key is. strings_to-all (numbers_below 256) (λ byte. byte < 256) (λ byte below. Among-numbers_below 256 byte below)
+      (λ byte here. below_from_among 256 byte here) longest key is.is_byte_string is.within_limit;
+  only = λ key here. let are = strings_to-only (numbers_below 256) (λ byte. byte < 256) (λ byte inside. below_from_among 256 byte inside) longest key here in
+      record { is_byte_string = are.0; within_limit = are.1 };
 }
 
 -- The bytes from 1 to 255.
@@ -115,22 +121,39 @@ without_zero byte here =
     let some : 0 < byte = ltb-true 0 byte are.1 in
     (below_from_among 256 byte are.0, λ e. omega arith)
 
--- `string_keys` lists the keys of judysl arrays.
-pub string_keys-all : ListsAll string_keys IsStringKey
-unfolding string_keys
-string_keys-all = record {
+-- `string_keys_to` lists the keys of arrays over strings.
+pub string_keys_to-all : (longest : ℕ) → ListsAll (string_keys_to longest) (IsStringKeyTo longest)
+unfolding string_keys_to
+string_keys_to-all longest = record {
   there = λ key is. strings_to-all
       (filter (λ b. nat_lt 0 b) (numbers_below 256))
       (λ byte. (byte < 256) × (byte ≢ 0))
       byte_without_zero
       without_zero
-      LONGEST_KEY
+      longest
       key
       (λ k d within. (is.is_bytes_key.is_byte_string k d within, is.without_zero k d within))
       is.is_bytes_key.within_limit;
   only = λ key here.
-      let are = strings_to-only (filter (λ b. nat_lt 0 b) (numbers_below 256)) (λ byte. (byte < 256) × (byte ≢ 0)) without_zero LONGEST_KEY key here in
+      let are = strings_to-only (filter (λ b. nat_lt 0 b) (numbers_below 256)) (λ byte. (byte < 256) × (byte ≢ 0)) without_zero longest key here in
       record { is_bytes_key = record { is_byte_string = λ k d within. (are.0 k d within).0; within_limit = are.1 }; without_zero = λ k d within. (are.0 k d within).1 };
+}
+
+-- A key of a judysl array is a string of at most 1,024 bytes.
+pub string_key_to : (key : List ℕ) → IsStringKey key → IsStringKeyTo LONGEST_KEY key
+string_key_to key is =
+    record { is_bytes_key = record { is_byte_string = is.is_bytes_key.is_byte_string; within_limit = is.is_bytes_key.within_limit }; without_zero = is.without_zero }
+
+pub string_key_of : (key : List ℕ) → IsStringKeyTo LONGEST_KEY key → IsStringKey key
+string_key_of key is =
+    record { is_bytes_key = record { is_byte_string = is.is_bytes_key.is_byte_string; within_limit = is.is_bytes_key.within_limit }; without_zero = is.without_zero }
+
+-- `string_keys` lists the keys of judysl arrays.
+pub string_keys-all : ListsAll string_keys IsStringKey
+unfolding string_keys string_keys_to
+string_keys-all = record {
+  there = λ key is. (string_keys_to-all LONGEST_KEY).there key (string_key_to key is);
+  only = λ key here. string_key_of key ((string_keys_to-all LONGEST_KEY).only key here);
 }
 
 -- ---- what a table answers
@@ -147,11 +170,13 @@ either_none : (b : Bool) (found : Option ℕ) → found ≡ None → cond b foun
 either_none true found none = none
 either_none false found none = refl
 
-find-here : (key other : List ℕ) (found : Option ℕ) (pairs : List (List ℕ × ℕ)) → eq_by_cmp byte_order key other ≡ true → (found ≡ None → find byte_order key pairs ≡ None) → find byte_order key (cons_option (option_map (λ value. (other, value)) found) pairs) ≡ found
+find-here : (key other : List ℕ) (found : Option ℕ) (pairs : List (List ℕ × ℕ)) → eq_by_cmp byte_order key other ≡ true → (found ≡ None → find byte_order key pairs ≡ None) →
+    find byte_order key (cons_option (option_map (λ value. (other, value)) found) pairs) ≡ found
 find-here key other None pairs tied later = later refl
 find-here key other (Some value) pairs tied later = ap (λ b. cond b (Some value) (find byte_order key pairs)) tied
 
-find-later : (key other : List ℕ) (found : Option ℕ) (pairs : List (List ℕ × ℕ)) → eq_by_cmp byte_order key other ≡ false → find byte_order key (cons_option (option_map (λ value. (other, value)) found) pairs) ≡ find byte_order key pairs
+find-later : (key other : List ℕ) (found : Option ℕ) (pairs : List (List ℕ × ℕ)) → eq_by_cmp byte_order key other ≡ false →
+    find byte_order key (cons_option (option_map (λ value. (other, value)) found) pairs) ≡ find byte_order key pairs
 find-later key other None pairs apart = refl
 find-later key other (Some value) pairs apart = ap (λ b. cond b (Some value) (find byte_order key pairs)) apart
 
@@ -177,7 +202,9 @@ module _ {keys : List (List ℕ)} {IsKey : List ℕ → Type 0} (all : ListsAll 
 
   -- At what is no key it answers none.
   pub get-table_bad : (key : List ℕ) → ¬ (IsKey key) → get (table keys answer) key ≡ None
-  get-table_bad key bad = get-tabled key ∙ ap (λ b. cond b (answer key) None) (false_from_ne_true (list_any (eq_by_cmp byte_order key) keys) (λ found. bad (all.only key (Among-list_any byte_order_total byte_order_same keys key found))))
+  get-table_bad key bad =
+      get-tabled key ∙ ap (λ b. cond b (answer key) None) (false_from_ne_true (list_any (eq_by_cmp byte_order key) keys)
+      (λ found. bad (all.only key (Among-list_any byte_order_total byte_order_same keys key found))))
 
   -- It answers a value just at the keys for which its function does, and the same.
   pub table_some : (key : List ℕ) (value : ℕ) → get (table keys answer) key ≡ Some value → IsKey key × (answer key ≡ Some value)
@@ -211,7 +238,8 @@ module _ {keys : List (List ℕ)} {IsKey : List ℕ → Type 0} (all : ListsAll 
   table_none answer none = same_map byte_order_total byte_order_same (table keys answer) empty (λ key. none_at answer key (none key) ∙ sym (get-empty byte_order key))
 
   -- A function that has another answer at one key has the table with that answer inserted.
-  pub table_insert : (before after : List ℕ → Option ℕ) (key : List ℕ) (value : ℕ) → IsKey key → after key ≡ Some value → ((other : List ℕ) → IsKey other → other ≢ key → after other ≡ before other) → table keys after ≡ insert (table keys before) key value
+  pub table_insert : (before after : List ℕ → Option ℕ) (key : List ℕ) (value : ℕ) → IsKey key → after key ≡ Some value →
+      ((other : List ℕ) → IsKey other → other ≢ key → after other ≡ before other) → table keys after ≡ insert (table keys before) key value
   table_insert before after key value is here elsewhere = same_map byte_order_total byte_order_same (table keys after) (insert (table keys before) key value) (λ other.
       elim (eq_by_cmp byte_order other key) as (λ b. eq_by_cmp byte_order other key ≡ b → get (table keys after) other ≡ cond b (Some value) (get (table keys before) other)) [
         | true ↦ λ tied. ap (get (table keys after)) (same_from_tie byte_order_same other key tied) ∙ get-table all after key is ∙ here
@@ -220,7 +248,8 @@ module _ {keys : List (List ℕ)} {IsKey : List ℕ → Type 0} (all : ListsAll 
       ∙ sym (get-insert byte_order_total (table keys before) key value other))
 
   -- A function that has no answer at one key any more has the table with that key removed.
-  pub table_remove : (before after : List ℕ → Option ℕ) (key : List ℕ) → (IsKey key → after key ≡ None) → ((other : List ℕ) → IsKey other → other ≢ key → after other ≡ before other) → table keys after ≡ remove (table keys before) key
+  pub table_remove : (before after : List ℕ → Option ℕ) (key : List ℕ) → (IsKey key → after key ≡ None) → ((other : List ℕ) → IsKey other → other ≢ key → after other ≡ before other) →
+      table keys after ≡ remove (table keys before) key
   table_remove before after key here elsewhere = same_map byte_order_total byte_order_same (table keys after) (remove (table keys before) key) (λ other.
       elim (eq_by_cmp byte_order other key) as (λ b. eq_by_cmp byte_order other key ≡ b → get (table keys after) other ≡ cond b None (get (table keys before) other)) [
         | true ↦ λ tied. ap (get (table keys after)) (same_from_tie byte_order_same other key tied) ∙ none_at after key here

@@ -99,14 +99,16 @@ above_zero : (byte : ℕ) → byte ≢ 0 → 0 < byte
 above_zero byte other = omega arith
 
 -- the zero byte at the end doesn't change the order
-byte_order-ended : (left right : List ℕ) → AllByRecursion (λ byte. byte ≢ 0) left → AllByRecursion (λ byte. byte ≢ 0) right → byte_order (ended_by_zero left) (ended_by_zero right) ≡ byte_order left right
+byte_order-ended : (left right : List ℕ) → AllByRecursion (λ byte. byte ≢ 0) left → AllByRecursion (λ byte. byte ≢ 0) right →
+    byte_order (ended_by_zero left) (ended_by_zero right) ≡ byte_order left right
 byte_order-ended [] [] l r = refl
 byte_order-ended [] (byte ∷ right) l r = decides 0 byte [] (right ++ 0 ∷ []) (above_zero byte r.0)
 byte_order-ended (byte ∷ left) [] l r =
     ap (λ answer. ordering_then answer (byte_order (left ++ 0 ∷ []) [])) (sym (nat_cmp_is byte 0 Greater (above_zero byte l.0)))
 byte_order-ended (a ∷ left) (b ∷ right) l r = ap (ordering_then (nat_cmp a b)) (byte_order-ended left right l.1 r.1)
 
-Less-ended : (left right : List ℕ) → AllByRecursion (λ byte. byte ≢ 0) left → AllByRecursion (λ byte. byte ≢ 0) right → byte_order left right ≡ Less → DiffersBelow (ended_by_zero left) (ended_by_zero right)
+Less-ended : (left right : List ℕ) → AllByRecursion (λ byte. byte ≢ 0) left → AllByRecursion (λ byte. byte ≢ 0) right → byte_order left right ≡ Less →
+    DiffersBelow (ended_by_zero left) (ended_by_zero right)
 Less-ended [] [] l r less = cc
 Less-ended [] (byte ∷ right) l r less = DiffersBelow-here 0 byte [] (right ++ 0 ∷ []) (above_zero byte r.0)
 Less-ended (byte ∷ left) [] l r less = cc

@@ -1,5 +1,6 @@
 -- The keys that a count counts, and the key that a count gives back.
-use Rattle.std.proofs.Common.{◌≡◌, ℕ, zero, suc, ◌<◌, ◌≤◌, ◌&&◌, ◌⊎◌, ◌↔◌, inl, inr, ⊎_elim, List, [], ◌∷◌, length, filter, Contains, IsTrue, Some, None, sym, refl, ap, ◌∙◌, arith, Ordering, is_le, le-leb}
+use Rattle.std.proofs.Common.{◌≡◌, ℕ, zero, suc, ◌<◌, ◌≤◌, ◌&&◌, ◌⊎◌, ◌↔◌, inl, inr, ⊎_elim, List, [], ◌∷◌, length, filter, Contains, IsTrue, Some, None, sym, refl, ap, ◌∙◌, arith}
+use Rattle.std.proofs.Common.{Ordering, is_le, le-leb}
 use Rattle.std.specs.Cmp.{IsTotalOrder}
 use Rattle.std.specs.List.Sorted.{IsStrictlySortedBy}
 use Rattle.std.specs.FinMap.{FinMap, IsAntisymmetric, keys, contains_key, len}
@@ -28,7 +29,8 @@ module _ {K : Type 0} {order : K → K → Ordering} where
 
   module _ (total : IsTotalOrder order) (same : IsAntisymmetric order) where
     -- They are the keys of the map at or above the one and at or below the other.
-    pub Contains-keys_between : (map : FinMap order ℕ) (from to key : K) → Contains (keys_between map from to) key ↔ (IsTrue (contains_key map key) × IsTrue (is_le (order from key)) × IsTrue (is_le (order key to)))
+    pub Contains-keys_between : (map : FinMap order ℕ) (from to key : K) → Contains (keys_between map from to) key ↔
+        (IsTrue (contains_key map key) × IsTrue (is_le (order from key)) × IsTrue (is_le (order key to)))
     unfolding keys_between
     Contains-keys_between map from to key =
         let between = λ (other : K). is_le (order from other) && is_le (order other to) in (
@@ -36,7 +38,8 @@ module _ {K : Type 0} {order : K → K → Ordering} where
               let parts = among_from_filter between (keys map) key (among_from_Contains (filter between (keys map)) key held) in
               let sides = and_parts (is_le (order from key)) (is_le (order key to)) parts.1 in
               (contains_key-from_among total same map key parts.0, sides.0, sides.1),
-          λ facts. Contains-from_among (filter between (keys map)) key (Among-filter between (keys map) key (among_keys total same map key facts.0) (and_from (is_le (order from key)) (is_le (order key to)) facts.1 facts.2)),
+          λ facts. Contains-from_among (filter between (keys map)) key (Among-filter between (keys map) key (among_keys total same map key facts.0)
+              (and_from (is_le (order from key)) (is_le (order key to)) facts.1 facts.2)),
         )
 
 -- ---- the key that a count gives back

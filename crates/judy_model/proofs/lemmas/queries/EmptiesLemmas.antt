@@ -1,5 +1,6 @@
 -- The words that are no keys of a map, and the nearest of them.
-use Rattle.std.proofs.Common.{◌≡◌, ℕ, zero, suc, ◌+◌, ◌<◌, ◌≤◌, ◌^◌, Bool, true, false, not, ◌&&◌, inl, inr, ⊎_elim, nat_lt, IsFalse, Option, Some, None, sym, ◌∙◌, arith, Less, nat_cmp, is_lt, is_le, is_gt, is_ge, ltb-true, lt-ltb, leb-true, le-leb}
+use Rattle.std.proofs.Common.{◌≡◌, ℕ, zero, suc, ◌+◌, ◌<◌, ◌≤◌, ◌^◌, Bool, true, false, not, ◌&&◌, inl, inr, ⊎_elim, nat_lt, IsFalse, Option, Some, None, sym, ◌∙◌, arith, Less}
+use Rattle.std.proofs.Common.{nat_cmp, is_lt, is_le, is_gt, is_ge, ltb-true, lt-ltb, leb-true, le-leb}
 use Rattle.std.specs.List.{range_with_len}
 use Rattle.std.specs.List.Sorted.{IsStrictlySortedBy}
 use Rattle.std.specs.Cmp.{nat_cmp_total}
@@ -29,8 +30,10 @@ Among-range start (suc len) word low high = ⊎_elim (λ e. inl e) (λ other. in
 ascending-range : (start len : ℕ) → IsStrictlySortedBy nat_cmp (range_with_len start len)
 unfolding IsStrictlySortedBy
 ascending-range start zero = tt
-ascending-range start (suc len) =
-    (all_from_among (λ other. nat_cmp start other ≡ Less) (range_with_len (start + 1) len) (λ word here. let rest = in_range (start + 1) len word here in less_word start word (omega (arith, rest.0))), ascending-range (start + 1) len)
+ascending-range start (suc len) = (
+  all_from_among (λ other. nat_cmp start other ≡ Less) (range_with_len (start + 1) len) (λ word here. let rest = in_range (start + 1) len word here in less_word start word (omega (arith, rest.0))),
+  ascending-range (start + 1) len,
+)
 
 -- A number stands among those below a bound just where it is below it.
 pub below_from_among : (bound word : ℕ) → Among (numbers_below bound) word → word < bound
@@ -127,7 +130,8 @@ module _ (map : FinMap word_order ℕ) where
       let parts = and_parts (nat_lt word (2 ^ 64)) (not (contains_key map word)) empty in
       (ltb-true word (2 ^ 64) parts.0, not-true (contains_key map word) parts.1)
 
-  least_run : (side : ℕ → Bool) (word : ℕ) → side word ≡ true → word < 2 ^ 64 → contains_key map word ≡ false → ((key : ℕ) → side key ≡ true → key < word → contains_key map key ≡ true) → IsLeast word_order (λ key. is_empty_word map key && side key) (Some word)
+  least_run : (side : ℕ → Bool) (word : ℕ) → side word ≡ true → word < 2 ^ 64 → contains_key map word ≡ false → ((key : ℕ) → side key ≡ true → key < word → contains_key map key ≡ true) →
+      IsLeast word_order (λ key. is_empty_word map key && side key) (Some word)
   least_run side word here small absent run = (
     and_from (is_empty_word map word) (side word) (is_empty_word-from word small absent) here,
     λ key both.
@@ -138,7 +142,8 @@ module _ (map : FinMap word_order ℕ) where
         (cases_lt key word),
   )
 
-  greatest_run : (side : ℕ → Bool) (word : ℕ) → side word ≡ true → word < 2 ^ 64 → contains_key map word ≡ false → ((key : ℕ) → side key ≡ true → word < key → key < 2 ^ 64 → contains_key map key ≡ true) → IsGreatest word_order (λ key. is_empty_word map key && side key) (Some word)
+  greatest_run : (side : ℕ → Bool) (word : ℕ) → side word ≡ true → word < 2 ^ 64 → contains_key map word ≡ false →
+      ((key : ℕ) → side key ≡ true → word < key → key < 2 ^ 64 → contains_key map key ≡ true) → IsGreatest word_order (λ key. is_empty_word map key && side key) (Some word)
   greatest_run side word here small absent run = (
     and_from (is_empty_word map word) (side word) (is_empty_word-from word small absent) here,
     λ key both.
@@ -157,9 +162,11 @@ module _ (map : FinMap word_order ℕ) where
       not_both (contains_key map key) (run key parts.1 empty.0) empty.1)
 
   -- Where each word from the given number up to an empty one is a key, `first_empty` answers that one.
-  pub first_empty_run : (from word : ℕ) → from ≤ word → word < 2 ^ 64 → contains_key map word ≡ false → ((key : ℕ) → from ≤ key → key < word → contains_key map key ≡ true) → first_empty map from ≡ Some word
+  pub first_empty_run : (from word : ℕ) → from ≤ word → word < 2 ^ 64 → contains_key map word ≡ false → ((key : ℕ) → from ≤ key → key < word → contains_key map key ≡ true) →
+      first_empty map from ≡ Some word
   first_empty_run from word reached small absent run =
-      first_empty_is map from (Some word) (least_run (λ key. is_ge (word_order key from)) word (is_ge_word word from ∙ le-leb from word reached) small absent (λ key side below. run key (leb-true from key (sym (is_ge_word key from) ∙ side)) below))
+      first_empty_is map from (Some word) (least_run (λ key. is_ge (word_order key from)) word (is_ge_word word from ∙ le-leb from word reached) small absent
+      (λ key side below. run key (leb-true from key (sym (is_ge_word key from) ∙ side)) below))
 
   -- Where each word from the given number on is a key, it answers none.
   pub first_empty_run_none : (from : ℕ) → ((key : ℕ) → from ≤ key → key < 2 ^ 64 → contains_key map key ≡ true) → first_empty map from ≡ None
@@ -167,9 +174,11 @@ module _ (map : FinMap word_order ℕ) where
       first_empty_is map from None (no_empty (λ key. is_ge (word_order key from)) (λ key side small. run key (leb-true from key (sym (is_ge_word key from) ∙ side)) small))
 
   -- Where each word above the given number up to an empty one is a key, `next_empty` answers that one.
-  pub next_empty_run : (from word : ℕ) → from < word → word < 2 ^ 64 → contains_key map word ≡ false → ((key : ℕ) → from < key → key < word → contains_key map key ≡ true) → next_empty map from ≡ Some word
+  pub next_empty_run : (from word : ℕ) → from < word → word < 2 ^ 64 → contains_key map word ≡ false → ((key : ℕ) → from < key → key < word → contains_key map key ≡ true) →
+      next_empty map from ≡ Some word
   next_empty_run from word reached small absent run =
-      next_empty_is map from (Some word) (least_run (λ key. is_gt (word_order key from)) word (is_gt_word word from ∙ lt-ltb from word reached) small absent (λ key side below. run key (ltb-true from key (sym (is_gt_word key from) ∙ side)) below))
+      next_empty_is map from (Some word) (least_run (λ key. is_gt (word_order key from)) word (is_gt_word word from ∙ lt-ltb from word reached) small absent
+      (λ key side below. run key (ltb-true from key (sym (is_gt_word key from) ∙ side)) below))
 
   -- Where each word above the given number is a key, it answers none.
   pub next_empty_run_none : (from : ℕ) → ((key : ℕ) → from < key → key < 2 ^ 64 → contains_key map key ≡ true) → next_empty map from ≡ None
@@ -177,9 +186,11 @@ module _ (map : FinMap word_order ℕ) where
       next_empty_is map from None (no_empty (λ key. is_gt (word_order key from)) (λ key side small. run key (ltb-true from key (sym (is_gt_word key from) ∙ side)) small))
 
   -- Where each word from the given number down to an empty one is a key, `last_empty` answers that one.
-  pub last_empty_run : (from word : ℕ) → word ≤ from → word < 2 ^ 64 → contains_key map word ≡ false → ((key : ℕ) → word < key → key ≤ from → key < 2 ^ 64 → contains_key map key ≡ true) → last_empty map from ≡ Some word
+  pub last_empty_run : (from word : ℕ) → word ≤ from → word < 2 ^ 64 → contains_key map word ≡ false → ((key : ℕ) → word < key → key ≤ from → key < 2 ^ 64 → contains_key map key ≡ true) →
+      last_empty map from ≡ Some word
   last_empty_run from word reached small absent run =
-      last_empty_is map from (Some word) (greatest_run (λ key. is_le (word_order key from)) word (is_le_word word from ∙ le-leb word from reached) small absent (λ key side above small. run key above (leb-true key from (sym (is_le_word key from) ∙ side)) small))
+      last_empty_is map from (Some word) (greatest_run (λ key. is_le (word_order key from)) word (is_le_word word from ∙ le-leb word from reached) small absent
+      (λ key side above small. run key above (leb-true key from (sym (is_le_word key from) ∙ side)) small))
 
   -- Where each word from the given number down is a key, it answers none.
   pub last_empty_run_none : (from : ℕ) → ((key : ℕ) → key ≤ from → key < 2 ^ 64 → contains_key map key ≡ true) → last_empty map from ≡ None
@@ -187,9 +198,11 @@ module _ (map : FinMap word_order ℕ) where
       last_empty_is map from None (no_empty (λ key. is_le (word_order key from)) (λ key side small. run key (leb-true key from (sym (is_le_word key from) ∙ side)) small))
 
   -- Where each word below the given number down to an empty one is a key, `prev_empty` answers that one.
-  pub prev_empty_run : (from word : ℕ) → word < from → word < 2 ^ 64 → contains_key map word ≡ false → ((key : ℕ) → word < key → key < from → key < 2 ^ 64 → contains_key map key ≡ true) → prev_empty map from ≡ Some word
+  pub prev_empty_run : (from word : ℕ) → word < from → word < 2 ^ 64 → contains_key map word ≡ false → ((key : ℕ) → word < key → key < from → key < 2 ^ 64 → contains_key map key ≡ true) →
+      prev_empty map from ≡ Some word
   prev_empty_run from word reached small absent run =
-      prev_empty_is map from (Some word) (greatest_run (λ key. is_lt (word_order key from)) word (is_lt_word word from ∙ lt-ltb word from reached) small absent (λ key side above small. run key above (ltb-true key from (sym (is_lt_word key from) ∙ side)) small))
+      prev_empty_is map from (Some word) (greatest_run (λ key. is_lt (word_order key from)) word (is_lt_word word from ∙ lt-ltb word from reached) small absent
+      (λ key side above small. run key above (ltb-true key from (sym (is_lt_word key from) ∙ side)) small))
 
   -- Where each word below the given number is a key, it answers none.
   pub prev_empty_run_none : (from : ℕ) → ((key : ℕ) → key < from → key < 2 ^ 64 → contains_key map key ≡ true) → prev_empty map from ≡ None

@@ -17,10 +17,12 @@ least_is_one total same passes (Some key) None some none = not_both (passes key)
 least_is_one total same passes (Some key) (Some other) one another = ap Some (one_from_le total same key other (one.1 other another.0) (another.1 key one.0))
 
 -- So is the greatest.
-pub greatest_is_one : {K : Type 0} {order : K → K → Ordering} → IsTotalOrder order → IsAntisymmetric order → (passes : K → Bool) (a b : Option K) → IsGreatest order passes a → IsGreatest order passes b → a ≡ b
+pub greatest_is_one : {K : Type 0} {order : K → K → Ordering} → IsTotalOrder order → IsAntisymmetric order → (passes : K → Bool) (a b : Option K) →
+    IsGreatest order passes a → IsGreatest order passes b → a ≡ b
 greatest_is_one total same = least_is_one (back_total total) (turned-IsAntisymmetric same)
 
-module _ {K : Type 0} (order : K → K → Ordering) (member p : K → Bool) (xs : List K) (sound : (key : K) → Among xs key → member key ≡ true) (complete : (key : K) → member key ≡ true → Among xs key) where
+module _ {K : Type 0} (order : K → K → Ordering) (member p : K → Bool) (xs : List K) (sound : (key : K) → Among xs key → member key ≡ true)
+    (complete : (key : K) → member key ≡ true → Among xs key) where
   -- The least member of a list that passes a test is the least of the keys that are members and pass.
   pub IsLeast-from_among : (answer : Option K) → LeastAmong order p xs answer → IsLeast order (λ key. member key && p key) answer
   IsLeast-from_among None none = λ key. by_member key (member key) refl (none key)
@@ -77,7 +79,8 @@ module _ {K : Type 0} {order : K → K → Ordering} (total : IsTotalOrder order
 -- ---- the answers, by what they are among the keys
 
 module _ {K : Type 0} (order : K → K → Ordering) (member side : K → Bool) where
-  least_found : (key : K) → IsTrue (member key) → IsTrue (side key) → ((other : K) → IsTrue (member other) → IsTrue (side other) → IsTrue (is_le (order key other))) → IsLeast order (λ other. member other && side other) (Some key)
+  least_found : (key : K) → IsTrue (member key) → IsTrue (side key) → ((other : K) → IsTrue (member other) → IsTrue (side other) → IsTrue (is_le (order key other))) →
+      IsLeast order (λ other. member other && side other) (Some key)
   least_found key held here each =
       (and_from (member key) (side key) held here, λ other both. let parts = and_parts (member other) (side other) both in each other parts.0 parts.1)
 
@@ -86,41 +89,51 @@ module _ {K : Type 0} (order : K → K → Ordering) (member side : K → Bool) 
 
 module _ {K : Type 0} {order : K → K → Ordering} (total : IsTotalOrder order) (same : IsAntisymmetric order) (map : FinMap order ℕ) (from : K) where
   -- A key at or above the given one, below which no other such key is, is what `first` answers.
-  pub first_found : (key : K) → IsTrue (contains_key map key) → IsTrue (is_le (order from key)) → ((other : K) → IsTrue (contains_key map other) → IsTrue (is_le (order from other)) → IsTrue (is_le (order key other))) → first map from ≡ Some key
+  pub first_found : (key : K) → IsTrue (contains_key map key) → IsTrue (is_le (order from key)) → ((other : K) → IsTrue (contains_key map other) →
+      IsTrue (is_le (order from other)) → IsTrue (is_le (order key other))) → first map from ≡ Some key
   first_found key held here each =
-      first_is total same map from (Some key) (least_found order (contains_key map) (λ other. is_ge (order other from)) key held (ge_is_le total key from ∙ here) (λ other there side. each other there (sym (ge_is_le total other from) ∙ side)))
+      first_is total same map from (Some key) (least_found order (contains_key map) (λ other. is_ge (order other from)) key held (ge_is_le total key from ∙ here)
+      (λ other there side. each other there (sym (ge_is_le total other from) ∙ side)))
 
   -- Where each key is below the given one, `first` answers none.
   pub first_missing : ((other : K) → IsTrue (contains_key map other) → IsTrue (is_lt (order other from))) → first map from ≡ None
   first_missing each =
-      first_is total same map from None (none_found order (contains_key map) (λ other. is_ge (order other from)) (λ other there side. not_both (is_le (order from other)) (sym (ge_is_le total other from) ∙ side) (le_from_not_lt total from other ∙ ap not (each other there))))
+      first_is total same map from None (none_found order (contains_key map) (λ other. is_ge (order other from))
+      (λ other there side. not_both (is_le (order from other)) (sym (ge_is_le total other from) ∙ side) (le_from_not_lt total from other ∙ ap not (each other there))))
 
   -- A key above the given one, below which no other such key is, is what `next` answers.
-  pub next_found : (key : K) → IsTrue (contains_key map key) → IsTrue (is_lt (order from key)) → ((other : K) → IsTrue (contains_key map other) → IsTrue (is_lt (order from other)) → IsTrue (is_le (order key other))) → next map from ≡ Some key
+  pub next_found : (key : K) → IsTrue (contains_key map key) → IsTrue (is_lt (order from key)) → ((other : K) → IsTrue (contains_key map other) →
+      IsTrue (is_lt (order from other)) → IsTrue (is_le (order key other))) → next map from ≡ Some key
   next_found key held here each =
-      next_is total same map from (Some key) (least_found order (contains_key map) (λ other. is_gt (order other from)) key held (gt_is_lt total key from ∙ here) (λ other there side. each other there (sym (gt_is_lt total other from) ∙ side)))
+      next_is total same map from (Some key) (least_found order (contains_key map) (λ other. is_gt (order other from)) key held (gt_is_lt total key from ∙ here)
+      (λ other there side. each other there (sym (gt_is_lt total other from) ∙ side)))
 
   -- Where each key is at or below the given one, `next` answers none.
   pub next_missing : ((other : K) → IsTrue (contains_key map other) → IsTrue (is_le (order other from))) → next map from ≡ None
   next_missing each =
-      next_is total same map from None (none_found order (contains_key map) (λ other. is_gt (order other from)) (λ other there side. not_both (is_lt (order from other)) (sym (gt_is_lt total other from) ∙ side) (lt_from_not_le total from other ∙ ap not (each other there))))
+      next_is total same map from None (none_found order (contains_key map) (λ other. is_gt (order other from))
+      (λ other there side. not_both (is_lt (order from other)) (sym (gt_is_lt total other from) ∙ side) (lt_from_not_le total from other ∙ ap not (each other there))))
 
   -- A key at or below the given one, above which no other such key is, is what `last` answers.
-  pub last_found : (key : K) → IsTrue (contains_key map key) → IsTrue (is_le (order key from)) → ((other : K) → IsTrue (contains_key map other) → IsTrue (is_le (order other from)) → IsTrue (is_le (order other key))) → last map from ≡ Some key
+  pub last_found : (key : K) → IsTrue (contains_key map key) → IsTrue (is_le (order key from)) → ((other : K) → IsTrue (contains_key map other) →
+      IsTrue (is_le (order other from)) → IsTrue (is_le (order other key))) → last map from ≡ Some key
   last_found key held here each =
       last_is total same map from (Some key) (least_found (λ left right. order right left) (contains_key map) (λ other. is_le (order other from)) key held here each)
 
   -- Where each key is above the given one, `last` answers none.
   pub last_missing : ((other : K) → IsTrue (contains_key map other) → IsTrue (is_lt (order from other))) → last map from ≡ None
   last_missing each =
-      last_is total same map from None (none_found order (contains_key map) (λ other. is_le (order other from)) (λ other there side. not_both (is_le (order other from)) side (le_from_not_lt total other from ∙ ap not (each other there))))
+      last_is total same map from None (none_found order (contains_key map) (λ other. is_le (order other from))
+      (λ other there side. not_both (is_le (order other from)) side (le_from_not_lt total other from ∙ ap not (each other there))))
 
   -- A key below the given one, above which no other such key is, is what `prev` answers.
-  pub prev_found : (key : K) → IsTrue (contains_key map key) → IsTrue (is_lt (order key from)) → ((other : K) → IsTrue (contains_key map other) → IsTrue (is_lt (order other from)) → IsTrue (is_le (order other key))) → prev map from ≡ Some key
+  pub prev_found : (key : K) → IsTrue (contains_key map key) → IsTrue (is_lt (order key from)) → ((other : K) → IsTrue (contains_key map other) →
+      IsTrue (is_lt (order other from)) → IsTrue (is_le (order other key))) → prev map from ≡ Some key
   prev_found key held here each =
       prev_is total same map from (Some key) (least_found (λ left right. order right left) (contains_key map) (λ other. is_lt (order other from)) key held here each)
 
   -- Where each key is at or above the given one, `prev` answers none.
   pub prev_missing : ((other : K) → IsTrue (contains_key map other) → IsTrue (is_le (order from other))) → prev map from ≡ None
   prev_missing each =
-      prev_is total same map from None (none_found order (contains_key map) (λ other. is_lt (order other from)) (λ other there side. not_both (is_lt (order other from)) side (lt_from_not_le total other from ∙ ap not (each other there))))
+      prev_is total same map from None (none_found order (contains_key map) (λ other. is_lt (order other from))
+      (λ other there side. not_both (is_lt (order other from)) side (lt_from_not_le total other from ∙ ap not (each other there))))

@@ -1,5 +1,6 @@
 -- Places in an ascending list, by how many of its elements pass a test that holds downwards.
-use Rattle.std.proofs.Common.{◌≡◌, ℕ, zero, suc, ◌+◌, ◌-◌, ◌<◌, ◌≤◌, ◌==◌, Bool, true, false, cond, not, inl, inr, ⊎_elim, List, [], ◌∷◌, reverse, length, filter, find, slice_get, Option, Some, None, sym, refl, ap, ◌∙◌, subst, arith, ne_eqb, Ordering, Less, is_lt, is_le}
+use Rattle.std.proofs.Common.{◌≡◌, ℕ, zero, suc, ◌+◌, ◌-◌, ◌<◌, ◌≤◌, ◌==◌, Bool, true, false, cond, not, inl, inr, ⊎_elim, List, [], ◌∷◌, reverse, length, filter, find, slice_get}
+use Rattle.std.proofs.Common.{Option, Some, None, sym, refl, ap, ◌∙◌, subst, arith, ne_eqb, Ordering, Less, is_lt, is_le}
 use Rattle.std.specs.List.{AllByRecursion}
 use Rattle.std.specs.List.Sorted.{IsStrictlySortedBy}
 use Rattle.std.specs.Cmp.{IsTotalOrder}
@@ -65,14 +66,17 @@ added : (a b c d e f x y z : ℕ) → x ≡ a + d → y ≡ b + e → z ≡ c + 
 added a b c d e f x y z p q r s t = omega arith
 
 -- Where at each element one test counts as much as two others do together, it does so over the list.
-pub length-filter_split : {K : Type 0} (p q r : K → Bool) → ((x : K) → cond (p x) 1 0 + cond (q x) 1 0 ≡ cond (r x) 1 0) → (xs : List K) → length (filter p xs) + length (filter q xs) ≡ length (filter r xs)
+pub length-filter_split : {K : Type 0} (p q r : K → Bool) → ((x : K) → cond (p x) 1 0 + cond (q x) 1 0 ≡ cond (r x) 1 0) → (xs : List K) →
+    length (filter p xs) + length (filter q xs) ≡ length (filter r xs)
 length-filter_split p q r each [] = omega arith
 length-filter_split p q r each (x ∷ xs) =
-    added (cond (p x) 1 0) (cond (q x) 1 0) (cond (r x) 1 0) (length (filter p xs)) (length (filter q xs)) (length (filter r xs)) _ _ _ (counted p x xs) (counted q x xs) (counted r x xs) (each x) (length-filter_split p q r each xs)
+    added (cond (p x) 1 0) (cond (q x) 1 0) (cond (r x) 1 0) (length (filter p xs)) (length (filter q xs)) (length (filter r xs)) _ _ _ (counted p x xs)
+    (counted q x xs) (counted r x xs) (each x) (length-filter_split p q r each xs)
 
 module _ {K : Type 0} (q : K → Bool) where
   -- The number of elements that pass is a place, where all before it pass and none from it on.
-  pub length-filter_is : (xs : List K) (place : ℕ) → place ≤ length xs → ((k : ℕ) (x : K) → slice_get xs k ≡ Some x → k < place → q x ≡ true) → ((k : ℕ) (x : K) → slice_get xs k ≡ Some x → place ≤ k → q x ≡ false) → length (filter q xs) ≡ place
+  pub length-filter_is : (xs : List K) (place : ℕ) → place ≤ length xs → ((k : ℕ) (x : K) → slice_get xs k ≡ Some x → k < place → q x ≡ true) →
+      ((k : ℕ) (x : K) → slice_get xs k ≡ Some x → place ≤ k → q x ≡ false) → length (filter q xs) ≡ place
   length-filter_is [] place within before after = omega arith
   length-filter_is (x ∷ xs) zero within before after =
       ap length (filter_none q (x ∷ xs) (all_from_among (λ y. q y ≡ false) (x ∷ xs) (λ y here. let at = place_among (x ∷ xs) y here in after at.0 y at.1 (omega arith))))
@@ -82,7 +86,8 @@ module _ {K : Type 0} (q : K → Bool) where
 
 module _ {K : Type 0} (order : K → K → Ordering) (q : K → Bool) (down : IsDownward order q) where
   none_later : (x : K) (xs : List K) → AllByRecursion (λ y. order x y ≡ Less) xs → q x ≡ false → AllByRecursion (λ y. q y ≡ false) xs
-  none_later x xs below fails = all_from_among (λ y. q y ≡ false) xs (λ y later. false_from_ne_true (q y) (λ passes. not_both (q x) (down x y (all_among (λ z. order x z ≡ Less) xs y below later) passes) fails))
+  none_later x xs below fails =
+      all_from_among (λ y. q y ≡ false) xs (λ y later. false_from_ne_true (q y) (λ passes. not_both (q x) (down x y (all_among (λ z. order x z ≡ Less) xs y below later) passes) fails))
 
   -- In ascending order the first that fails stands at the place that counts those that pass.
   pub find_at_count : (xs : List K) → IsStrictlySortedBy order xs → find (λ x. not (q x)) xs ≡ slice_get xs (length (filter q xs))
@@ -105,7 +110,8 @@ module _ {K : Type 0} (order : K → K → Ordering) (q : K → Bool) (down : Is
   last_before_count [] ascending = refl
   last_before_count (x ∷ xs) ascending =
       elim (q x) as (λ b. q x ≡ b → option_or (find_last q xs) (cond b (Some x) None) ≡ before_place (x ∷ xs) (length (cond b (x ∷ filter q xs) (filter q xs)))) [
-        | true ↦ λ passes. ap (λ found. option_or found (Some x)) (last_before_count xs ascending.1) ∙ one_on x xs (length (filter q xs)) (length-filter-le q xs) ∙ sym (before_place-suc (x ∷ xs) (length (filter q xs)))
+        | true ↦ λ passes. ap (λ found. option_or found (Some x)) (last_before_count xs ascending.1) ∙ one_on x xs (length (filter q xs)) (length-filter-le q xs) ∙
+            sym (before_place-suc (x ∷ xs) (length (filter q xs)))
         | false ↦ λ fails. let none = none_later x xs ascending.0 fails in
             ap (λ found. option_or found None) (find_last_none q xs none) ∙ ap (λ kept. before_place (x ∷ xs) (length kept)) (sym (filter_none q xs none))
       ] refl

@@ -7,7 +7,8 @@ use Rattle.judy_model.specs.Counts.{keys_between, count, rank, nth, by_count}
 use Rattle.judy_model.specs.Counts.{count_up_to}
 use Rattle.judy_model.proofs.lemmas.orders.Orders.{ge_is_not_lt, gt_is_not_le, less_is, le_from_not_lt, lt_from_not_le, lt_le_trans, le_lt_trans}
 use Rattle.judy_model.proofs.lemmas.maps.Ascending.{place_among, find_agree}
-use Rattle.judy_model.proofs.lemmas.queries.Places.{before_place-suc, find_at_count, find_before_count, lt-IsDownward, le-IsDownward, length-filter_split, length-filter_is, length-filter-le, length-filter-mono, filter_agree_among, below_at_place, up_to_place}
+use Rattle.judy_model.proofs.lemmas.queries.Places.{before_place-suc, find_at_count, find_before_count, lt-IsDownward, le-IsDownward, length-filter_split, length-filter_is}
+use Rattle.judy_model.proofs.lemmas.queries.Places.{length-filter-le, length-filter-mono, filter_agree_among, below_at_place, up_to_place}
 use Rattle.judy_model.proofs.lemmas.maps.KeysLemmas.{keys_ascending, length-keys, among_keys}
 
 module _ {K : Type 0} {order : K → K → Ordering} (total : IsTotalOrder order) (map : FinMap order ℕ) where
@@ -22,16 +23,6 @@ module _ {K : Type 0} {order : K → K → Ordering} (total : IsTotalOrder order
   pub next-slice_get : (from : K) → next map from ≡ slice_get (keys map) (count_up_to map from)
   unfolding next count_up_to
   next-slice_get from = find_agree (λ key. gt_is_not_le (order key from)) (keys map) ∙ find_at_count order (λ key. is_le (order key from)) (le-IsDownward total from) (keys map) (keys_ascending map)
-
-  -- The last key at or below a key is the one that completes the count of those.
-  pub last-by_count : (from : K) → last map from ≡ by_count map (count_up_to map from)
-  unfolding last by_count count_up_to
-  last-by_count from = find_before_count order (λ key. is_le (order key from)) (le-IsDownward total from) (keys map) (keys_ascending map)
-
-  -- The previous key is the one that completes the rank.
-  pub prev-by_count : (from : K) → prev map from ≡ by_count map (rank map from)
-  unfolding prev by_count rank
-  prev-by_count from = find_before_count order (λ key. is_lt (order key from)) (lt-IsDownward total from) (keys map) (keys_ascending map)
 
   -- The place before a number of keys.
   pub by_count-suc : (n : ℕ) → by_count map (suc n) ≡ slice_get (keys map) n
@@ -48,33 +39,17 @@ module _ {K : Type 0} {order : K → K → Ordering} (total : IsTotalOrder order
   unfolding nth
   nth-slice_get place = refl
 
-  -- Where no key is at or below a key, it has no last.
-  pub last_none : (from : K) → count_up_to map from ≡ 0 → last map from ≡ None
-  last_none from none = last-by_count from ∙ ap (by_count map) none ∙ by_count-zero
-
-  -- Else the last stands at the place before that number.
-  pub last_at : (from : K) (place : ℕ) → count_up_to map from ≡ suc place → last map from ≡ slice_get (keys map) place
-  last_at from place some = last-by_count from ∙ ap (by_count map) some ∙ by_count-suc place
-
   -- The place n, counted from 1, is the place before n counted from 0.
   pub by_count-nth : (place : ℕ) → by_count map (suc place) ≡ nth map place
   by_count-nth place = by_count-suc place ∙ sym (nth-slice_get place)
 
-  -- Where no key is below a key, it has no previous one.
-  pub prev_none : (from : K) → rank map from ≡ 0 → prev map from ≡ None
-  prev_none from none = prev-by_count from ∙ ap (by_count map) none ∙ by_count-zero
-
   -- The rank of a key is the place before which the keys are below it, and from which on none is.
-  pub rank_is : (key : K) (place : ℕ) → place ≤ len map → ((k : ℕ) (x : K) → slice_get (keys map) k ≡ Some x → k < place → is_lt (order x key) ≡ true) → ((k : ℕ) (x : K) → slice_get (keys map) k ≡ Some x → place ≤ k → is_le (order key x) ≡ true) → rank map key ≡ place
+  pub rank_is : (key : K) (place : ℕ) → place ≤ len map → ((k : ℕ) (x : K) → slice_get (keys map) k ≡ Some x → k < place → is_lt (order x key) ≡ true) →
+      ((k : ℕ) (x : K) → slice_get (keys map) k ≡ Some x → place ≤ k → is_le (order key x) ≡ true) → rank map key ≡ place
   unfolding rank
   rank_is key place within before after =
-      length-filter_is (λ other. is_lt (order other key)) (keys map) place (let long = length-keys map in omega (arith, long)) before (λ k x at later. lt_from_not_le total x key ∙ ap not (after k x at later))
-
-  -- The count up to a key is the place before which the keys are at or below it, and from which on none is.
-  pub count_up_to_is : (key : K) (place : ℕ) → place ≤ len map → ((k : ℕ) (x : K) → slice_get (keys map) k ≡ Some x → k < place → is_le (order x key) ≡ true) → ((k : ℕ) (x : K) → slice_get (keys map) k ≡ Some x → place ≤ k → is_lt (order key x) ≡ true) → count_up_to map key ≡ place
-  unfolding count_up_to
-  count_up_to_is key place within before after =
-      length-filter_is (λ other. is_le (order other key)) (keys map) place (let long = length-keys map in omega (arith, long)) before (λ k x at later. le_from_not_lt total x key ∙ ap not (after k x at later))
+      length-filter_is (λ other. is_lt (order other key)) (keys map) place (let long = length-keys map in omega (arith, long)) before
+      (λ k x at later. lt_from_not_le total x key ∙ ap not (after k x at later))
 
   -- The rank of the key at a place is that place.
   pub rank_at : (place : ℕ) (key : K) → slice_get (keys map) place ≡ Some key → rank map key ≡ place
@@ -129,7 +104,8 @@ module _ {K : Type 0} {order : K → K → Ordering} (total : IsTotalOrder order
   pub count_up_to-le-rank : (from to : K) → IsTrue (is_lt (order to from)) → count_up_to map to ≤ rank map from
   unfolding count_up_to rank
   count_up_to-le-rank from to falling =
-      length-filter-mono (λ other. is_le (order other to)) (λ other. is_lt (order other from)) (λ other low. ap is_lt (le_lt_trans total other to from low (less_is (order to from) falling))) (keys map)
+      length-filter-mono (λ other. is_le (order other to)) (λ other. is_lt (order other from)) (λ other low. ap is_lt (le_lt_trans total other to from low (less_is (order to from) falling)))
+      (keys map)
 
   -- So a count is always the count up to the second less the rank of the first, and 0 where that is no number.
   pub count-sub : (from to : K) → count map from to ≡ count_up_to map to - rank map from
@@ -146,11 +122,6 @@ module _ {K : Type 0} {order : K → K → Ordering} (total : IsTotalOrder order
   -- From a least key on, the count is the count up to the other.
   pub count_from_least : (least : K) → ((key : K) → IsTrue (is_le (order least key))) → (key : K) → count map least key ≡ count_up_to map key
   unfolding count keys_between count_up_to
-  count_from_least least lowest key = ap length (filter_agree_among (λ other. is_le (order least other) && is_le (order other key)) (λ other. is_le (order other key)) (keys map) (λ other here. ap (λ b. b && is_le (order other key)) (lowest other)))
-
-  module _ (same : IsAntisymmetric order) where
-    -- A key of the map stands at its rank.
-    pub slice_get-rank : (key : K) → IsTrue (contains_key map key) → slice_get (keys map) (rank map key) ≡ Some key
-    slice_get-rank key held =
-        let at = place_among (keys map) key (among_keys total same map key held) in
-        ap (slice_get (keys map)) (rank_at at.0 key at.1) ∙ at.1
+  count_from_least least lowest key =
+      ap length (filter_agree_among (λ other. is_le (order least other) && is_le (order other key)) (λ other. is_le (order other key)) (keys map)
+      (λ other here. ap (λ b. b && is_le (order other key)) (lowest other)))

@@ -1,9 +1,12 @@
 -- What every array keeps, and its limit, through the changes of a map and the commands of one array.
-use Rattle.std.proofs.Common.{◌≡◌, ℕ, ◌+◌, ◌-◌, ◌≤◌, Bool, true, false, cond, not, ◌&&◌, ◌==◌, List, [], ◌∷◌, map, length, Some, None, Result, Less, Equal, Greater, refl, sym, ap, subst, ◌∙◌, ⊎_elim, arith, All, IfOk}
+use Rattle.std.proofs.Common.{◌≡◌, ℕ, ◌+◌, ◌-◌, ◌≤◌, Bool, true, false, cond, not, ◌&&◌, ◌==◌, List, [], ◌∷◌, map, length, Some, None, Result, Less, Equal, Greater, refl, sym, ap}
+use Rattle.std.proofs.Common.{subst, ◌∙◌, ⊎_elim, arith, All, IfOk}
 use Rattle.std.specs.declared.cmp.Ordering.{Ordering}
 use Rattle.std.specs.Ordering.{eq_by_cmp, is_eq}
 use Rattle.std.specs.Cmp.{IsTotalOrder, nat_cmp_total, alike_right, eq_by_cmp_equiv}
-use Rattle.std.specs.FinMap.{FinMap, IsAntisymmetric, empty, entries, entries_sorted, entries-insert, from_sorted, entries-from_sorted, get-entries, get-from_sorted, get-remove, same_map, len-entries, find, contains_key, get, insert, remove, len, len-empty, len-insert, len-remove, put, nat_cmp-IsAntisymmetric, slice_cmp-IsAntisymmetric}
+use Rattle.std.specs.FinMap.{FinMap, IsAntisymmetric, empty, entries, entries_sorted, entries-insert, from_sorted, entries-from_sorted, get-entries, get-from_sorted, get-remove}
+use Rattle.std.specs.FinMap.{same_map, len-entries, find, contains_key, get, insert, remove, len, len-empty, len-insert, len-remove, put, nat_cmp-IsAntisymmetric}
+use Rattle.std.specs.FinMap.{slice_cmp-IsAntisymmetric}
 use Rattle.std.specs.FinMap.Entries.{where_key, by_order, is_sorted-where_key, find-where_key}
 use Rattle.std.proofs.lemmas.Bool.{cases_lt, eqb-false}
 use Rattle.std.proofs.lemmas.Cmp.{nat_list_cmp_total}
@@ -12,7 +15,8 @@ use Rattle.judy_model.specs.Keys.{IsWord, IsStringKey, IsBytesKey, word_order, b
 use Rattle.judy_model.specs.Arrays.{ArrayOf, IsArrayOf, ArrayValue, judy1, judyl, judysl, judyhs, IsArray, limit_of, empty_array, with_map, ins, is_full}
 use Rattle.judy_model.specs.CommandWords as command
 use Rattle.judy_model.specs.CommandWords.{KeyCommand, PairCommand}
-use Rattle.judy_model.specs.Commands.{Outcome, word_at, string_key_at, bytes_key_at, added, inserted, overwritten, set_on_key, set_on_pair, map_on_key, map_on_pair, words_on_key, words_on_pair, strings_on_key, strings_on_pair, on_key, on_pair, freed_whole}
+use Rattle.judy_model.specs.Commands.{Outcome, word_at, string_key_at, bytes_key_at, added, inserted, overwritten, set_on_key, set_on_pair, map_on_key, map_on_pair, words_on_key}
+use Rattle.judy_model.specs.Commands.{words_on_pair, strings_on_key, strings_on_pair, on_key, on_pair, freed_whole}
 use Rattle.judy_model.specs.Replies.{Refusal}
 use Rattle.judy_model.proofs.lemmas.maps.ChangesLemmas.{write-ins}
 use Rattle.judy_model.proofs.lemmas.maps.Inserts.{is_full_present}
@@ -50,7 +54,8 @@ module _ {K : Type 0} (order : K → K → Ordering) where
 
   -- what is read of each entry, its key or its value
   module _ {Y : Type 0} (read : K × ℕ → Y) (P : Y → Type 0) where
-    All-put : (key : K) (value : ℕ) → P (read (key, value)) → ((pair : K × ℕ) → P (read pair) → P (read (pair.0, value))) → (pairs : List (K × ℕ)) → All P (map read pairs) → All P (map read (put order key value pairs))
+    All-put : (key : K) (value : ℕ) → P (read (key, value)) → ((pair : K × ℕ) → P (read pair) → P (read (pair.0, value))) → (pairs : List (K × ℕ)) →
+        All P (map read pairs) → All P (map read (put order key value pairs))
     All-put key value here there [] all = All-cons P (read (key, value)) [] here (All-nil P)
     All-put key value here there (pair ∷ pairs) all =
         let first = All-head P (read pair) (map read pairs) all in
@@ -73,7 +78,8 @@ module _ {K : Type 0} (order : K → K → Ordering) where
     All-empty : All P (map read (entries (empty {X = ℕ} {R = order})))
     All-empty = subst (λ pairs. All P (map read pairs)) (sym entries-empty) (All-nil P)
 
-    All-insert : IsTotalOrder order → (m : FinMap order ℕ) (key : K) (value : ℕ) → P (read (key, value)) → ((pair : K × ℕ) → P (read pair) → P (read (pair.0, value))) → All P (map read (entries m)) → All P (map read (entries (insert m key value)))
+    All-insert : IsTotalOrder order → (m : FinMap order ℕ) (key : K) (value : ℕ) → P (read (key, value)) → ((pair : K × ℕ) → P (read pair) → P (read (pair.0, value))) →
+        All P (map read (entries m)) → All P (map read (entries (insert m key value)))
     All-insert total m key value here there all =
         subst (λ pairs. All P (map read pairs)) (sym (entries-insert total m key value)) (All-put key value here there (entries m) all)
 
@@ -236,7 +242,9 @@ module _ (array : ArrayOf word_order) where
 
 module _ (array : ArrayOf byte_order) where
   strings_map_key : (command : KeyCommand) (token : List ℕ) → IfOk (map_on_key judysl command array (string_key_at token)) (Keeps (judysl array))
-  strings_map_key command token = map_key_kept nat_list_cmp_total (slice_cmp-IsAntisymmetric nat_cmp-IsAntisymmetric) IsStringKey judysl (λ _. refl) (λ _ is. is) (λ _ is. is) array (string_key_at token) (string_key_at-IsStringKey token) command
+  strings_map_key command token =
+      map_key_kept nat_list_cmp_total (slice_cmp-IsAntisymmetric nat_cmp-IsAntisymmetric) IsStringKey judysl (λ _. refl) (λ _ is. is) (λ _ is. is) array
+      (string_key_at token) (string_key_at-IsStringKey token) command
 
   strings_key_kept : (command : KeyCommand) (token : List ℕ) → IfOk (strings_on_key command array token) (Keeps (judysl array))
   strings_key_kept command.set token = tt
@@ -249,7 +257,9 @@ module _ (array : ArrayOf byte_order) where
   strings_key_kept command.by_count token = by_word _ token _ (λ key small. (refl, λ is. is))
 
   strings_map_pair : (command : PairCommand) (key value : List ℕ) → IfOk (map_on_pair judysl command array (string_key_at key) value) (Keeps (judysl array))
-  strings_map_pair command key value = map_pair_kept nat_list_cmp_total (slice_cmp-IsAntisymmetric nat_cmp-IsAntisymmetric) IsStringKey judysl (λ _. refl) (λ _ is. is) (λ _ is. is) array (string_key_at key) (string_key_at-IsStringKey key) command value
+  strings_map_pair command key value =
+      map_pair_kept nat_list_cmp_total (slice_cmp-IsAntisymmetric nat_cmp-IsAntisymmetric) IsStringKey judysl (λ _. refl) (λ _ is. is) (λ _ is. is) array
+      (string_key_at key) (string_key_at-IsStringKey key) command value
 
   strings_pair_kept : (command : PairCommand) (key value : List ℕ) → IfOk (strings_on_pair command array key value) (Keeps (judysl array))
   strings_pair_kept command.ins key value = strings_map_pair command.ins key value
@@ -259,10 +269,14 @@ module _ (array : ArrayOf byte_order) where
       followed IsStringKey _ (string_key_at value) _ (string_key_at-IsStringKey value) (λ to _. (refl, λ is. is)))
 
   bytes_key_kept : (command : KeyCommand) (token : List ℕ) → IfOk (map_on_key judyhs command array (bytes_key_at token)) (Keeps (judyhs array))
-  bytes_key_kept command token = map_key_kept nat_list_cmp_total (slice_cmp-IsAntisymmetric nat_cmp-IsAntisymmetric) IsBytesKey judyhs (λ _. refl) (λ _ is. is) (λ _ is. is) array (bytes_key_at token) (bytes_key_at-IsBytesKey token) command
+  bytes_key_kept command token =
+      map_key_kept nat_list_cmp_total (slice_cmp-IsAntisymmetric nat_cmp-IsAntisymmetric) IsBytesKey judyhs (λ _. refl) (λ _ is. is) (λ _ is. is) array
+      (bytes_key_at token) (bytes_key_at-IsBytesKey token) command
 
   bytes_pair_kept : (command : PairCommand) (key value : List ℕ) → IfOk (map_on_pair judyhs command array (bytes_key_at key) value) (Keeps (judyhs array))
-  bytes_pair_kept command key value = map_pair_kept nat_list_cmp_total (slice_cmp-IsAntisymmetric nat_cmp-IsAntisymmetric) IsBytesKey judyhs (λ _. refl) (λ _ is. is) (λ _ is. is) array (bytes_key_at key) (bytes_key_at-IsBytesKey key) command value
+  bytes_pair_kept command key value =
+      map_pair_kept nat_list_cmp_total (slice_cmp-IsAntisymmetric nat_cmp-IsAntisymmetric) IsBytesKey judyhs (λ _. refl) (λ _ is. is) (λ _ is. is) array
+      (bytes_key_at key) (bytes_key_at-IsBytesKey key) command value
 
 pub on_key-Keeps : (command : KeyCommand) (key : List ℕ) (array : ArrayValue) → IfOk (on_key command key array) (Keeps array)
 on_key-Keeps command key (judy1 set) = set_key_kept set command key

@@ -1,5 +1,6 @@
 -- What an array that is one holds, and a store that is one.
-use Rattle.std.proofs.Common.{◌≡◌, ◌↔◌, ℕ, ◌≤◌, Bool, true, false, cond, ◌&&◌, List, [], ◌∷◌, ◌++◌, map, Option, Some, None, Result, Ok, refl, sym, ap, subst, ◌∙◌, arith, IsTrue, All, get_or, nat_lt, nat_le, codes, decimal, ok_or}
+use Rattle.std.proofs.Common.{◌≡◌, ◌↔◌, ℕ, ◌≤◌, Bool, true, false, cond, ◌&&◌, List, [], ◌∷◌, ◌++◌, map, Option, Some, None, Result, Ok, refl, sym, ap, subst, ◌∙◌, arith, IsTrue}
+use Rattle.std.proofs.Common.{All, get_or, nat_lt, nat_le, codes, decimal, ok_or}
 use Rattle.std.specs.Prelude.{bytes_eq}
 use Rattle.std.specs.declared.cmp.Ordering.{Ordering}
 use Rattle.std.specs.Ordering.{eq_by_cmp}
@@ -35,7 +36,8 @@ limits (judysl array) is = (is.holds_some, is.limit_is_word, is.within_limit)
 limits (judyhs array) is = (is.holds_some, is.limit_is_word, is.within_limit)
 
 module _ {K : Type 0} {order : K → K → Ordering} (same : IsAntisymmetric order) (IsKey : K → Type 0) where
-  found_entry : (key : K) (value : ℕ) (pairs : List (K × ℕ)) → AllByRecursion IsKey (map (λ e. e.0) pairs) → AllByRecursion IsWord (map (λ e. e.1) pairs) → find order key pairs ≡ Some value → IsKey key × IsWord value
+  found_entry : (key : K) (value : ℕ) (pairs : List (K × ℕ)) → AllByRecursion IsKey (map (λ e. e.0) pairs) → AllByRecursion IsWord (map (λ e. e.1) pairs) →
+      find order key pairs ≡ Some value → IsKey key × IsWord value
   found_entry key value [] keys values is = absurd (none-some value is)
   found_entry key value (pair ∷ pairs) keys values is =
       elim (eq_by_cmp order key pair.0) as (λ b. eq_by_cmp order key pair.0 ≡ b → cond b (Some pair.1) (find order key pairs) ≡ Some value → IsKey key × IsWord value) [
@@ -69,7 +71,8 @@ module _ {K : Type 0} {order : K → K → Ordering} (total : IsTotalOrder order
       each pair.0 pair.1 (get-entries array.map pair.0 ∙ find-at order total (entries array.map) pair.0 k d (entries_sorted array.map) within (tied_itself total pair.0))
 
   -- an array that holds words under keys, as many as its limit at most, is one
-  pub holds-IsArrayOf : (IsKey : K → Type 0) → 1 ≤ array.limit → IsWord array.limit → len array.map ≤ array.limit → ((key : K) (value : ℕ) → get array.map key ≡ Some value → IsKey key × IsWord value) → IsArrayOf IsKey array
+  pub holds-IsArrayOf : (IsKey : K → Type 0) → 1 ≤ array.limit → IsWord array.limit → len array.map ≤ array.limit →
+      ((key : K) (value : ℕ) → get array.map key ≡ Some value → IsKey key × IsWord value) → IsArrayOf IsKey array
   holds-IsArrayOf IsKey some small within held = record {
     holds_some = some;
     limit_is_word = small;
@@ -80,7 +83,8 @@ module _ {K : Type 0} {order : K → K → Ordering} (total : IsTotalOrder order
 
 -- ---- stores
 
-named_entry : (store : Store) (name : List ℕ) (array : ArrayValue) → AllByRecursion (λ name. IsTrue (is_name name)) (keys_of store) → AllByRecursion IsArray (values_of store) → array_named store name ≡ Some array → IsTrue (is_name name) × IsArray array
+named_entry : (store : Store) (name : List ℕ) (array : ArrayValue) → AllByRecursion (λ name. IsTrue (is_name name)) (keys_of store) → AllByRecursion IsArray (values_of store) →
+    array_named store name ≡ Some array → IsTrue (is_name name) × IsArray array
 named_entry [] name array names arrays is = absurd (cc)
 named_entry (entry ∷ store) name array names arrays is =
     elim (bytes_eq name entry.0) as (λ b. bytes_eq name entry.0 ≡ b → cond b (Some entry.1) (array_named store name) ≡ Some array → IsTrue (is_name name) × IsArray array) [
@@ -100,7 +104,8 @@ none_named [] name apart = refl
 none_named (entry ∷ store) name apart =
     ap (λ b. cond b (Some entry.1) (array_named store name)) apart.0 ∙ none_named store name apart.1
 
-later_differ : (front later : Store) (name : List ℕ) (array : ArrayValue) → IsDistinct bytes_eq (keys_of (front ++ (name, array) ∷ later)) → AllByRecursion (λ other. bytes_eq name other ≡ false) (keys_of later)
+later_differ : (front later : Store) (name : List ℕ) (array : ArrayValue) → IsDistinct bytes_eq (keys_of (front ++ (name, array) ∷ later)) →
+    AllByRecursion (λ other. bytes_eq name other ≡ false) (keys_of later)
 later_differ [] later name array differ = IsDistinct-head bytes_eq name (keys_of later) differ
 later_differ (entry ∷ front) later name array differ = later_differ front later name array (IsDistinct-tail bytes_eq entry.0 _ differ)
 
@@ -127,7 +132,8 @@ made_if-true : (limit : ℕ) → made_if limit true ≡ Ok (record { answer = do
 unfolding made_if
 made_if-true limit = refl
 
-pub regular_limit : (limit : ℕ) → 1 ≤ limit → IsWord limit → IsRegular (one_array limit) ↔ (carried_out [] make (codes "a" ∷ codes "judyl" ∷ decimal limit ∷ []) ≡ Ok (record { answer = done; after = one_array limit; grows = true }))
+pub regular_limit : (limit : ℕ) → 1 ≤ limit → IsWord limit → IsRegular (one_array limit) ↔ (carried_out [] make (codes "a" ∷ codes "judyl" ∷ decimal limit ∷ []) ≡
+    Ok (record { answer = done; after = one_array limit; grows = true }))
 regular_limit limit some small = (
   λ regular.
       let most = All-head (λ array. limit_of array ≤ 4294967295) (judyl (record { limit = limit; map = _ })) [] regular in

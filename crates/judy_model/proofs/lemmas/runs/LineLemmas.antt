@@ -74,8 +74,11 @@ pub lines_of-script_of : (lines : List Line) → are_lines lines ≡ true → li
 lines_of-script_of [] h = refl
 lines_of-script_of (line ∷ lines) h = cases line.bytes line.ended (lines_of-script_of lines (second_true _ _ h)) h
   where
-    cases : (bytes : List ℕ) (ended : Bool) → lines_of (script_of lines) ≡ lines → are_lines (record { bytes = bytes; ended = ended } ∷ lines) ≡ true → lines_of ((bytes ++ cond ended (10 ∷ []) []) ++ script_of lines) ≡ record { bytes = bytes; ended = ended } ∷ lines
-    cases bytes true same g = rw (append_assoc bytes (10 ∷ []) (script_of lines)) (lines_of-ended bytes (script_of lines) (first_true _ _ (first_true _ _ g)) ∙ ap (λ more. record { bytes = bytes; ended = true } ∷ more) same)
+    cases : (bytes : List ℕ) (ended : Bool) → lines_of (script_of lines) ≡ lines → are_lines (record { bytes = bytes; ended = ended } ∷ lines) ≡ true →
+        lines_of ((bytes ++ cond ended (10 ∷ []) []) ++ script_of lines) ≡ record { bytes = bytes; ended = ended } ∷ lines
+    cases bytes true same g =
+        rw (append_assoc bytes (10 ∷ []) (script_of lines)) (lines_of-ended bytes (script_of lines) (first_true _ _ (first_true _ _ g)) ∙
+        ap (λ more. record { bytes = bytes; ended = true } ∷ more) same)
     cases bytes false same g =
         let last : (nat_lt (length lines) 1 && nat_lt 0 (length bytes)) ≡ true = second_true _ _ (first_true _ _ g) in
         let none : lines ≡ [] = no_lines lines (first_true _ _ last) in
@@ -100,7 +103,8 @@ lines_of-script_of_ended [] more h k = refl
 lines_of-script_of_ended (line ∷ lines) more h k =
     cases line.bytes line.ended (lines_of-script_of_ended lines more (second_true _ _ h) (second_true line.ended (all_ended lines) k)) h (first_true line.ended (all_ended lines) k)
   where
-    cases : (bytes : List ℕ) (ended : Bool) → lines_of (script_of lines ++ more) ≡ lines ++ lines_of more → are_lines (record { bytes = bytes; ended = ended } ∷ lines) ≡ true → ended ≡ true → lines_of (((bytes ++ cond ended (10 ∷ []) []) ++ script_of lines) ++ more) ≡ record { bytes = bytes; ended = ended } ∷ (lines ++ lines_of more)
+    cases : (bytes : List ℕ) (ended : Bool) → lines_of (script_of lines ++ more) ≡ lines ++ lines_of more → are_lines (record { bytes = bytes; ended = ended } ∷ lines) ≡ true →
+        ended ≡ true → lines_of (((bytes ++ cond ended (10 ∷ []) []) ++ script_of lines) ++ more) ≡ record { bytes = bytes; ended = ended } ∷ (lines ++ lines_of more)
     cases bytes true same g is =
         ap lines_of (append_assoc (bytes ++ 10 ∷ []) (script_of lines) more ∙ append_assoc bytes (10 ∷ []) (script_of lines ++ more))
         ∙ lines_of-ended bytes (script_of lines ++ more) (first_true _ _ (first_true _ _ g)) ∙ ap (λ rest. record { bytes = bytes; ended = true } ∷ rest) same
@@ -111,10 +115,12 @@ lines_of-whole_lines front more ended =
     ap (λ bytes. lines_of (bytes ++ more)) (sym (script_of-lines_of front)) ∙ lines_of-script_of_ended (lines_of front) more (are_lines-lines_of front) ended
 
 -- what stands behind whole lines doesn't change them
-pub whole_lines-append : (front rest : List ℕ) → all_ended (lines_of front) ≡ true → lines_of (front ++ rest) ≡ lines_of front ++ lines_of rest → list_all is_inner rest ≡ true → whole_lines (front ++ rest) ≡ front
+pub whole_lines-append : (front rest : List ℕ) → all_ended (lines_of front) ≡ true → lines_of (front ++ rest) ≡ lines_of front ++ lines_of rest →
+    list_all is_inner rest ≡ true → whole_lines (front ++ rest) ≡ front
 whole_lines-append front rest ended cut without =
     ap (λ lines. script_of (filter (λ line. line.ended) lines)) cut
-    ∙ ap script_of (filter-append (λ line. line.ended) (lines_of front) (lines_of rest) ∙ ap (λ lines. lines ++ filter (λ line. line.ended) (lines_of rest)) (filter-all_ended (lines_of front) ended) ∙ ap (λ lines. lines_of front ++ lines) (none rest without) ∙ append-nil (lines_of front))
+    ∙ ap script_of (filter-append (λ line. line.ended) (lines_of front) (lines_of rest) ∙ ap (λ lines. lines ++ filter (λ line. line.ended) (lines_of rest))
+    (filter-all_ended (lines_of front) ended) ∙ ap (λ lines. lines_of front ++ lines) (none rest without) ∙ append-nil (lines_of front))
     ∙ script_of-lines_of front
   where
     none : (bytes : List ℕ) → list_all is_inner bytes ≡ true → filter (λ line. line.ended) (lines_of bytes) ≡ []

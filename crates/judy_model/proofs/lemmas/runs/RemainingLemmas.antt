@@ -6,7 +6,8 @@ use Rattle.std.proofs.lemmas.Bool.{ltb-true}
 use Rattle.judy_model.specs.Lines.{Line, lines_of}
 use Rattle.judy_model.specs.LineLists.{are_lines}
 use Rattle.judy_model.specs.Stores.{Store}
-use Rattle.judy_model.specs.Replies.{Reply, Refusal, output_of, line_too_long, unknown_command, argument_count, bad_name, no_such_array, wrong_kind, bad_word, bad_key, bad_limit, exists, too_many_arrays, full, no_memory}
+use Rattle.judy_model.specs.Replies.{Reply, Refusal, output_of, line_too_long, unknown_command, argument_count, bad_name, no_such_array, wrong_kind, bad_word, bad_key, bad_limit}
+use Rattle.judy_model.specs.Replies.{exists, too_many_arrays, full, no_memory}
 use Rattle.judy_model.specs.Steps.{step, Step}
 use Rattle.judy_model.specs.Runs.{Steps, Run}
 use Rattle.judy_model.specs.AmpleRuns.{ample_replies, ample_store, ample_output, store_after}
@@ -99,7 +100,8 @@ remaining-fewer (line ∷ lines) (reply ∷ replies) =
     ] refl
 
 -- a line that was the last one, or that an LF ended, is so among fewer
-still_a_line : (inner ended last last' some rest rest' : Bool) → (last ≡ true → last' ≡ true) → rest' ≡ true → ((inner && (ended || last && some)) && rest) ≡ true → ((inner && (ended || last' && some)) && rest') ≡ true
+still_a_line : (inner ended last last' some rest rest' : Bool) → (last ≡ true → last' ≡ true) → rest' ≡ true → ((inner && (ended || last && some)) && rest) ≡ true →
+    ((inner && (ended || last' && some)) && rest') ≡ true
 still_a_line true true last last' some rest rest' fewer is h = is
 still_a_line true false true last' true rest rest' fewer is h = rw (fewer refl) is
 still_a_line true false true last' false rest rest' fewer is h = cc

@@ -1,5 +1,6 @@
 -- Runs: one after another, with ample memory, and cut off.
-use Rattle.std.proofs.Common.{◌≡◌, ◌≢◌, ◌↔◌, ℕ, ◌<◌, Bool, true, false, ◌&&◌, ◌||◌, ◌⊎◌, inl, inr, ⊎_elim, length-append, List, [], ◌∷◌, ◌++◌, length, take, drop, Err, refl, sym, ap, subst, ◌∙◌, arith, All, append_assoc, append-nil, nat_lt}
+use Rattle.std.proofs.Common.{◌≡◌, ◌≢◌, ◌↔◌, ℕ, ◌<◌, Bool, true, false, ◌&&◌, ◌||◌, ◌⊎◌, inl, inr, ⊎_elim, length-append, List, [], ◌∷◌, ◌++◌, length, take, drop, Err, refl, sym}
+use Rattle.std.proofs.Common.{ap, subst, ◌∙◌, arith, All, append_assoc, append-nil, nat_lt}
 use Rattle.std.specs.Prelude.{flat_map}
 use Rattle.std.specs.List.{list_all}
 use Rattle.std.proofs.lemmas.Bool.{false_from_ne_true, ltb-true}
@@ -20,7 +21,8 @@ use Rattle.judy_model.proofs.lemmas.maps.Tests.{first_true, second_true, both_tr
 
 -- ---- lines after lines
 
-pub Steps-append : (before between after : Store) (lines more : List Line) (replies later : List Reply) → Steps before lines replies between → Steps between more later after → Steps before (lines ++ more) (replies ++ later) after
+pub Steps-append : (before between after : Store) (lines more : List Line) (replies later : List Reply) → Steps before lines replies between → Steps between more later after →
+    Steps before (lines ++ more) (replies ++ later) after
 Steps-append before between after [] more [] later first second = subst (λ store. Steps store more later after) first second
 Steps-append before between after [] more (reply ∷ replies) later first second = absurd first
 Steps-append before between after (line ∷ lines) more [] later first second = absurd first
@@ -66,7 +68,8 @@ Steps-one before after line [] steps = absurd steps
 Steps-one before after line (reply ∷ []) steps = (reply, refl, subst (Step before line reply) (sym steps.2) steps.1)
 Steps-one before after line (reply ∷ other ∷ replies) steps = absurd steps.2
 
-pub Run-one : (before after : Store) (script output : List ℕ) (line : Line) → lines_of script ≡ line ∷ [] → Run before script output after ↔ ((reply : Reply) × Step before line reply after × (output ≡ output_of reply))
+pub Run-one : (before after : Store) (script output : List ℕ) (line : Line) → lines_of script ≡ line ∷ [] →
+    Run before script output after ↔ ((reply : Reply) × Step before line reply after × (output ≡ output_of reply))
 Run-one before after script output line one = (
   λ run.
       let only = Steps-one before after line run.0 (subst (λ lines. Steps before lines run.0 after) one run.1) in
@@ -121,7 +124,8 @@ pub Step-ample : (before after : Store) (line : Line) (reply : Reply) → Step b
 Step-ample before after line reply (inl is) has = is
 Step-ample before after line reply (inr (grown, short, same)) has = absurd (has short)
 
-Steps-determined : (before after : Store) (lines : List Line) (replies : List Reply) → Steps before lines replies after → All HasMemory replies → (replies ≡ ample_replies before lines) × (after ≡ ample_store before lines)
+Steps-determined : (before after : Store) (lines : List Line) (replies : List Reply) → Steps before lines replies after → All HasMemory replies →
+    (replies ≡ ample_replies before lines) × (after ≡ ample_store before lines)
 Steps-determined before after [] [] steps have = (refl, steps)
 Steps-determined before after [] (reply ∷ replies) steps have = absurd steps
 Steps-determined before after (line ∷ lines) [] steps have = absurd steps
@@ -134,7 +138,8 @@ Steps-determined before after (line ∷ lines) (reply ∷ replies) steps have =
       rest.1 ∙ ap (λ store. ample_store store lines) there,
     )
 
-pub Run-determined : (before after : Store) (script output : List ℕ) (run : Run before script output after) → All HasMemory run.0 → (output ≡ ample_output before script) × (after ≡ store_after before script)
+pub Run-determined : (before after : Store) (script output : List ℕ) (run : Run before script output after) → All HasMemory run.0 →
+    (output ≡ ample_output before script) × (after ≡ store_after before script)
 Run-determined before after script output run have =
     let is = Steps-determined before after (lines_of script) run.0 run.1 have in (run.2 ∙ ap (flat_map output_of) is.0, is.1)
 
@@ -250,7 +255,8 @@ module _ (before : Store) (script output : List ℕ) (after : Store) where
       with_later : lines_of (into.line ++ into.later) ≡ lines_of into.line ++ lines_of into.later
       with_later = ⊎_elim
           (λ whole. lines_of-whole_lines into.line into.later whole)
-          (λ none. ap (λ later. lines_of (into.line ++ later)) none ∙ ap lines_of (append-nil into.line) ∙ sym (append-nil (lines_of into.line)) ∙ ap (λ later. lines_of into.line ++ lines_of later) (sym none))
+          (λ none. ap (λ later. lines_of (into.line ++ later)) none ∙ ap lines_of (append-nil into.line) ∙ sym (append-nil (lines_of into.line)) ∙
+          ap (λ later. lines_of into.line ++ lines_of later) (sym none))
           into.line_end
 
   -- the run that would have gone on, with ample memory from there
@@ -263,7 +269,8 @@ module _ (before : Store) (script output : List ℕ) (after : Store) where
         (
           replies,
           subst (λ lines. Steps before lines replies (ample_store after cut.later)) (sym cut.lines)
-              (Steps-append before cut.between (ample_store after cut.later) cut.earlier (cut.line ∷ cut.later) cut.replies (cut.reply ∷ rest) cut.steps (after, cut.step, Steps-ample after cut.later)),
+              (Steps-append before cut.between (ample_store after cut.later) cut.earlier (cut.line ∷ cut.later) cut.replies (cut.reply ∷ rest) cut.steps
+              (after, cut.step, Steps-ample after cut.later)),
           refl,
         ),
         (

@@ -8,7 +8,8 @@ use Rattle.judy_model.specs.Steps.{Step}
 use Rattle.judy_model.specs.Runs.{Steps}
 
 -- one more line, answered after the others
-pub Steps-push : (before between after : Store) (lines : List Line) (replies : List Reply) (line : Line) (reply : Reply) → Steps before lines replies between → Step between line reply after → Steps before (lines ++ line ∷ []) (replies ++ reply ∷ []) after
+pub Steps-push : (before between after : Store) (lines : List Line) (replies : List Reply) (line : Line) (reply : Reply) → Steps before lines replies between →
+    Step between line reply after → Steps before (lines ++ line ∷ []) (replies ++ reply ∷ []) after
 Steps-push before between after [] [] line reply steps step = (after, rw (← steps) step, refl)
 Steps-push before between after [] (other ∷ replies) line reply steps step = absurd steps
 Steps-push before between after (first ∷ lines) [] line reply steps step = absurd steps

@@ -1,6 +1,7 @@
 -- What every store keeps, and that its limits are those of scripts, through the changes of a store, a line
 -- and a run.
-use Rattle.std.proofs.Common.{◌≡◌, ℕ, ◌≤◌, ◌<◌, Bool, true, false, cond, ◌&&◌, inl, inr, List, [], ◌∷◌, ◌++◌, map, length, Option, Some, None, Result, Ok, Err, is_some, is_none, refl, sym, ap, subst, ◌∙◌, arith, All, IsTrue, IfOk, IfSome, nat_lt, nat_le, nat_eq, codes, ok_or}
+use Rattle.std.proofs.Common.{◌≡◌, ℕ, ◌≤◌, ◌<◌, Bool, true, false, cond, ◌&&◌, inl, inr, List, [], ◌∷◌, ◌++◌, map, length, Option, Some, None, Result, Ok, Err, is_some, is_none}
+use Rattle.std.proofs.Common.{refl, sym, ap, subst, ◌∙◌, arith, All, IsTrue, IfOk, IfSome, nat_lt, nat_le, nat_eq, codes, ok_or}
 use Rattle.std.specs.Prelude.{bytes_eq, ⊤}
 use Rattle.std.specs.List.{IsDistinct, AllByRecursion, starts_with}
 use Rattle.std.specs.Map.{keys_of, values_of, remove_entry}
@@ -73,7 +74,8 @@ module _ (store : Store) (name : List ℕ) where
   of_store P array here all = subst (λ o. IfSome o P) here (IfSome-lookup_from_All P (bytes_eq name) store all)
 
   -- another array in its place
-  IsStore-with_array : (array after : ArrayValue) → array_named store name ≡ Some array → (limit_of after ≡ limit_of array) × (IsArray array → IsArray after) → IsStore store → IsStore (with_array store name after)
+  IsStore-with_array : (array after : ArrayValue) → array_named store name ≡ Some array → (limit_of after ≡ limit_of array) × (IsArray array → IsArray after) →
+      IsStore store → IsStore (with_array store name after)
   IsStore-with_array array after here keeps is = record {
     within_limit = subst (λ n. n ≤ 64) (sym (length-set_value (bytes_eq name) store after)) is.within_limit;
     names_are = subst (All (λ name. IsTrue (is_name name))) (sym (keys-set_value (bytes_eq name) store after)) is.names_are;
@@ -81,24 +83,29 @@ module _ (store : Store) (name : List ℕ) where
     arrays_are = All-values-set_value (bytes_eq name) IsArray store after is.arrays_are (keeps.1 (of_store IsArray array here is.arrays_are));
   }
 
-  IsRegular-with_array : (array after : ArrayValue) → array_named store name ≡ Some array → (limit_of after ≡ limit_of array) × (IsArray array → IsArray after) → IsRegular store → IsRegular (with_array store name after)
+  IsRegular-with_array : (array after : ArrayValue) → array_named store name ≡ Some array → (limit_of after ≡ limit_of array) × (IsArray array → IsArray after) →
+      IsRegular store → IsRegular (with_array store name after)
   IsRegular-with_array array after here keeps all =
       let small = of_store (λ array. limit_of array ≤ 4294967295) array here all in
       All-values-set_value (bytes_eq name) (λ array. limit_of array ≤ 4294967295) store after all (subst (λ limit. limit ≤ 4294967295) (sym keeps.0) small)
 
   -- one more array
-  IsStore-with_new_array : (array : ArrayValue) → IsTrue (is_name name) → IsTrue (is_none (array_named store name)) → length store < 64 → IsArray array → limit_of array ≤ 4294967295 → IsStore store → IsStore (with_new_array store name array)
+  IsStore-with_new_array : (array : ArrayValue) → IsTrue (is_name name) → IsTrue (is_none (array_named store name)) → length store < 64 → IsArray array →
+      limit_of array ≤ 4294967295 → IsStore store → IsStore (with_new_array store name array)
   IsStore-with_new_array array named new room made small is =
       let long = length_push store (name, array) in
       let differs = sym (is_some-lookup (bytes_eq name) store) ∙ absent (array_named store name) new in
       record {
         within_limit = omega arith;
         names_are = All-map-push (λ pair. pair.0) (λ name. IsTrue (is_name name)) store (name, array) is.names_are named;
-        names_differ = subst (IsDistinct bytes_eq) (sym (map-append (λ (pair : List ℕ × ArrayValue). pair.0) store ((name, array) ∷ []))) (IsDistinct-push nat_list_eq_equiv (keys_of store) name is.names_differ differs);
+        names_differ =
+            subst (IsDistinct bytes_eq) (sym (map-append (λ (pair : List ℕ × ArrayValue). pair.0) store ((name, array) ∷ [])))
+            (IsDistinct-push nat_list_eq_equiv (keys_of store) name is.names_differ differs);
         arrays_are = All-map-push (λ pair. pair.1) IsArray store (name, array) is.arrays_are made;
       }
 
-  IsRegular-with_new_array : (array : ArrayValue) → IsTrue (is_name name) → IsTrue (is_none (array_named store name)) → length store < 64 → IsArray array → limit_of array ≤ 4294967295 → IsRegular store → IsRegular (with_new_array store name array)
+  IsRegular-with_new_array : (array : ArrayValue) → IsTrue (is_name name) → IsTrue (is_none (array_named store name)) → length store < 64 → IsArray array →
+      limit_of array ≤ 4294967295 → IsRegular store → IsRegular (with_new_array store name array)
   IsRegular-with_new_array array named new room made small all =
       All-map-push (λ pair. pair.1) (λ array. limit_of array ≤ 4294967295) store (name, array) all small
 
@@ -145,8 +152,10 @@ name_of-is_name token = elim (is_name token) as (λ b. is_name token ≡ b → I
 
 -- what each change of a store keeps
 pub record IsLasting (P : Store → Type 0) : Type 0 where
-  pub with_array : (store : Store) (name : List ℕ) (array after : ArrayValue) → array_named store name ≡ Some array → (limit_of after ≡ limit_of array) × (IsArray array → IsArray after) → P store → P (with_array store name after)
-  pub with_new_array : (store : Store) (name : List ℕ) (array : ArrayValue) → IsTrue (is_name name) → IsTrue (is_none (array_named store name)) → length store < 64 → IsArray array → limit_of array ≤ 4294967295 → P store → P (with_new_array store name array)
+  pub with_array : (store : Store) (name : List ℕ) (array after : ArrayValue) → array_named store name ≡ Some array → (limit_of after ≡ limit_of array) × (IsArray array → IsArray after) →
+      P store → P (with_array store name after)
+  pub with_new_array : (store : Store) (name : List ℕ) (array : ArrayValue) → IsTrue (is_name name) → IsTrue (is_none (array_named store name)) → length store < 64 →
+      IsArray array → limit_of array ≤ 4294967295 → P store → P (with_new_array store name array)
   pub without_array : (store : Store) (name : List ℕ) → P store → P (without_array store name)
 
 pub IsStore-lasts : IsLasting IsStore
@@ -164,7 +173,8 @@ module _ (P : Store → Type 0) (lasts : IsLasting P) where
     unfolding Makes
     made_lasts token kind limit =
         followed (λ name. IsTrue (is_name name)) Q (name_at token) _ (found (λ name. IsTrue (is_name name)) (name_of token) bad_name (name_of-is_name token)) (λ name named.
-        followed Makes Q (ok_or (kind_named kind) wrong_kind) _ (found Makes (kind_named kind) wrong_kind (kinds_make (bytes_eq kind (codes "judy1")) (bytes_eq kind (codes "judyl")) (bytes_eq kind (codes "judysl")) (bytes_eq kind (codes "judyhs")))) (λ empty makes.
+        followed Makes Q (ok_or (kind_named kind) wrong_kind) _ (found Makes (kind_named kind) wrong_kind
+        (kinds_make (bytes_eq kind (codes "judy1")) (bytes_eq kind (codes "judyl")) (bytes_eq kind (codes "judysl")) (bytes_eq kind (codes "judyhs")))) (λ empty makes.
         followed (λ _. ⊤) Q (limit_at limit) _ (anything (limit_at limit)) (λ limit _.
         followed _ Q (provided (nat_lt 0 limit && nat_le limit 4294967295) bad_limit) _ (checked (nat_lt 0 limit && nat_le limit 4294967295) bad_limit) (λ _ bounds.
         followed _ Q (provided (is_none (array_named store name)) exists) _ (checked (is_none (array_named store name)) exists) (λ _ new.

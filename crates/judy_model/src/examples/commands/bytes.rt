@@ -22,7 +22,8 @@ pub fn put_on_bytes()
     ensures bad_value { IsReplied (two_bytes 2) (codes "put a =b x") (Err bad_word) }
 {}
 
-/// `ins` does so at a key that is there, full or not; a new key has shown 0 and has the value given, and is refused where the array is full.
+/// `ins` does so at a key that is there, full or not; a new key has shown 0 and has the value given, and is refused
+/// where the array is full.
 #[tactic(auto, using(crate::proofs::lemmas::maps::MapsOfPairs::bytes_computed))]
 pub fn ins_on_bytes()
     ensures present { Becomes (two_bytes 2) (codes "ins a =b 41") (Ok (was 40))

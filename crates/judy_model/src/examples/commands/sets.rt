@@ -4,7 +4,8 @@ ghost use Rattle.std.specs.Prelude.{[], ◌∷◌, codes, true, false, Ok, Err};
 ghost use Rattle.judy_model.specs.Replies.{flag, number, nothing, bad_word, full};
 ghost use Rattle.judy_model.specs.CommandExamples.{Becomes, IsReplied, set, two_keys};
 
-/// `set` answers 1 and adds a key that isn't there, 0 at one that is, full or not; and is refused for a new key where the array is full.
+/// `set` answers 1 and adds a key that isn't there, 0 at one that is, full or not; and is refused for a new key where
+/// the array is full.
 #[tactic(auto, using(crate::proofs::lemmas::maps::MapsOfPairs::words_computed))]
 pub fn set_on_keys()
     ensures absent { Becomes (two_keys 3) (codes "set a 3") (Ok (flag true))

@@ -22,7 +22,8 @@ pub fn put_on_strings()
     ensures bad_value { IsReplied (two_strings 2) (codes "put a =b x") (Err bad_word) }
 {}
 
-/// `ins` does so at a key that is there, full or not; a new key has shown 0 and has the value given, and is refused where the array is full.
+/// `ins` does so at a key that is there, full or not; a new key has shown 0 and has the value given, and is refused
+/// where the array is full.
 #[tactic(auto, using(crate::proofs::lemmas::maps::MapsOfPairs::bytes_computed))]
 pub fn ins_on_strings()
     ensures present { Becomes (two_strings 2) (codes "ins a =b 41") (Ok (was 40))
@@ -67,7 +68,8 @@ pub fn neighbours_on_strings()
     ensures bad_key { IsReplied (two_strings 2) (codes "prev a #00") (Err bad_key) }
 {}
 
-/// Which key stands at a place, counted from 1, with its value, and how many keys lie from one string to another, both included.
+/// Which key stands at a place, counted from 1, with its value, and how many keys lie from one string to another, both
+/// included.
 #[tactic(auto, using(crate::proofs::lemmas::maps::MapsOfPairs::bytes_computed))]
 pub fn counts_on_strings()
     ensures first { IsReplied (two_strings 2) (codes "bycount a 1")

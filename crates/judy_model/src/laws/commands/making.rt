@@ -10,8 +10,8 @@ ghost use Rattle.judy_model.specs.Replies.{done, bad_name, wrong_kind, bad_word,
 ghost use Rattle.judy_model.specs.Steps.{step};
 ghost use Rattle.judy_model.specs.CommandLaws.{Says};
 
-/// With a new name, a kind and a limit of 1 to 4,294,967,295, or none for the greatest, `make` puts the empty array last in a store
-/// of fewer than 64 arrays.
+/// With a new name, a kind and a limit of 1 to 4,294,967,295, or none for the greatest, `make` puts the empty array
+/// last in a store of fewer than 64 arrays.
 pub fn make_puts_an_empty_array_last()
     ensures limit { (store : Store) (name kind : List ℕ) (line : Line) (token : List ℕ) (limit : ℕ)
         (empty : ℕ → ArrayValue) →
@@ -27,8 +27,9 @@ pub fn make_puts_an_empty_array_last()
         step store line ≡ (Ok done, store ++ (name, empty 4294967295) ∷ []) }
 {}
 
-/// `make` is refused for a bad name before all else; then for a word that is no kind; then for a limit that is no word, or that
-/// is 0 or above 4,294,967,295; then for a name that an array has; then where 64 arrays stand. The store is as it was.
+/// `make` is refused for a bad name before all else; then for a word that is no kind; then for a limit that is no word,
+/// or that is 0 or above 4,294,967,295; then for a name that an array has; then where 64 arrays stand. The store is as
+/// it was.
 pub fn make_is_refused_in_order()
     ensures name { (store : Store) (name kind : List ℕ) (line : Line) (token : List ℕ) →
         IsFalse (is_name name) → Says line (codes "make" ∷ name ∷ kind ∷ token ∷ []) →

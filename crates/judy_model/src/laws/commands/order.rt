@@ -1,5 +1,5 @@
-//! The refusals that come before what a command does to its array: a word that is no command, the number of its arguments, a bad name, a
-//! name that no array has.
+//! The refusals that come before what a command does to its array: a word that is no command, the number of its
+//! arguments, a bad name, a name that no array has.
 
 ghost use Rattle.std.specs.Prelude.{◌≡◌, ◌≢◌, ℕ, IsFalse, nat_eq, List, [], ◌∷◌, length, codes, Some, None, Err};
 ghost use Rattle.std.specs.List.{starts_with};

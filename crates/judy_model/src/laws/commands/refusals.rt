@@ -1,4 +1,5 @@
-//! What the commands that search an array, and those of a set, do with a bad argument; and the commands that a kind doesn't have.
+//! What the commands that search an array, and those of a set, do with a bad argument; and the commands that a kind
+//! doesn't have.
 
 ghost use Rattle.std.specs.Prelude.{codes};
 ghost use Rattle.judy_model.specs.Arrays.{judy1, judyl, judysl, judyhs};

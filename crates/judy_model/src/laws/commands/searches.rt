@@ -1,4 +1,5 @@
-//! What the commands that search an array answer: the neighbours of a key, the words beside it that are no keys, counts.
+//! What the commands that search an array answer: the neighbours of a key, the words beside it that are no keys,
+//! counts.
 
 ghost use Rattle.std.specs.Prelude.{codes};
 ghost use Rattle.judy_model.specs.Arrays.{judy1, judyl, judysl};
@@ -50,7 +51,8 @@ pub fn empty_neighbours_among_words()
     ensures prev { AnswersNumberOrNone judyl word_of (codes "pe") prev_empty }
 {}
 
-/// `bycount` answers the n-th key, counted from 1, and of a kind with values its value too. The number is a word in each kind.
+/// `bycount` answers the n-th key, counted from 1, and of a kind with values its value too. The number is a word in
+/// each kind.
 pub fn bycount_answers_the_nth_key()
     ensures set { AnswersNumberOrNone judy1 word_of (codes "bycount") by_count }
     ensures words { AnswersEntryOrNone judyl word_of entry (codes "bycount") by_count }

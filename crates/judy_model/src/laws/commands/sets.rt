@@ -8,8 +8,8 @@ ghost use Rattle.judy_model.specs.Tokens.{word_of};
 ghost use Rattle.judy_model.specs.Replies.{flag, full};
 ghost use Rattle.judy_model.specs.CommandLaws.{Answers, Changes, IsRefused, TakesOutAPresentKey, LeavesAnAbsentKey};
 
-/// `set` answers 0 and changes nothing at a key that is there, however full the set is; at another it answers 1 and puts the key in, and
-/// where the set holds as many keys as its limit it is refused.
+/// `set` answers 0 and changes nothing at a key that is there, however full the set is; at another it answers 1 and
+/// puts the key in, and where the set holds as many keys as its limit it is refused.
 pub fn set_puts_in_an_absent_key()
     ensures present { (set : ArrayOf word_order) (token : List ℕ) (key value : ℕ) →
         word_of token ≡ Some key → get set.map key ≡ Some value →

@@ -5,4 +5,7 @@ use Rattle.judy_model.proofs.lemmas.maps.ChangesLemmas.{del_absent}
 use Rattle.judy_model.proofs.laws.changes.del_keeps_absent.Goals as goal
 
 pub returns : goal.returns
-returns c = record { words = λ map key. del_absent nat_cmp_total map key nat_cmp-IsAntisymmetric; byte_strings = λ map key. del_absent nat_list_cmp_total map key (slice_cmp-IsAntisymmetric nat_cmp-IsAntisymmetric) }
+returns c = record {
+  words = λ map key. del_absent nat_cmp_total map key nat_cmp-IsAntisymmetric;
+  byte_strings = λ map key. del_absent nat_list_cmp_total map key (slice_cmp-IsAntisymmetric nat_cmp-IsAntisymmetric);
+}

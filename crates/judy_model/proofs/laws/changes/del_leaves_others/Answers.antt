@@ -5,4 +5,7 @@ use Rattle.judy_model.proofs.lemmas.maps.ChangesLemmas.{get-del_other}
 use Rattle.judy_model.proofs.laws.changes.del_leaves_others.Goals as goal
 
 pub returns : goal.returns
-returns c = record { words = λ map key. get-del_other nat_cmp_total map key nat_cmp-IsAntisymmetric; byte_strings = λ map key. get-del_other nat_list_cmp_total map key (slice_cmp-IsAntisymmetric nat_cmp-IsAntisymmetric) }
+returns c = record {
+  words = λ map key. get-del_other nat_cmp_total map key nat_cmp-IsAntisymmetric;
+  byte_strings = λ map key. get-del_other nat_list_cmp_total map key (slice_cmp-IsAntisymmetric nat_cmp-IsAntisymmetric);
+}

@@ -5,4 +5,7 @@ use Rattle.judy_model.proofs.lemmas.maps.ChangesLemmas.{get-write_other}
 use Rattle.judy_model.proofs.laws.changes.write_leaves_others.Goals as goal
 
 pub returns : goal.returns
-returns c = record { words = λ value map key. get-write_other nat_cmp_total map key nat_cmp-IsAntisymmetric value; byte_strings = λ value map key. get-write_other nat_list_cmp_total map key (slice_cmp-IsAntisymmetric nat_cmp-IsAntisymmetric) value }
+returns c = record {
+  words = λ value map key. get-write_other nat_cmp_total map key nat_cmp-IsAntisymmetric value;
+  byte_strings = λ value map key. get-write_other nat_list_cmp_total map key (slice_cmp-IsAntisymmetric nat_cmp-IsAntisymmetric) value;
+}

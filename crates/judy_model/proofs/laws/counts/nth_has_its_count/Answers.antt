@@ -6,4 +6,7 @@ use Rattle.judy_model.proofs.lemmas.queries.CountsLemmas.{count-by_count, empty_
 use Rattle.judy_model.proofs.laws.counts.nth_has_its_count.Goals as goal
 
 pub returns : goal.returns
-returns c = record { words = λ map. count-by_count nat_cmp_total nat_cmp-IsAntisymmetric map 0 zero_is_least; byte_strings = λ map. count-by_count nat_list_cmp_total (slice_cmp-IsAntisymmetric nat_cmp-IsAntisymmetric) map [] empty_string_is_least }
+returns c = record {
+  words = λ map. count-by_count nat_cmp_total nat_cmp-IsAntisymmetric map 0 zero_is_least;
+  byte_strings = λ map. count-by_count nat_list_cmp_total (slice_cmp-IsAntisymmetric nat_cmp-IsAntisymmetric) map [] empty_string_is_least;
+}

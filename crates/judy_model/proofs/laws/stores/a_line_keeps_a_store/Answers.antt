@@ -3,4 +3,7 @@ use Rattle.judy_model.proofs.lemmas.runs.StoresKept.{IsStore-lasts, IsRegular-la
 use Rattle.judy_model.proofs.laws.stores.a_line_keeps_a_store.Goals as goal
 
 pub returns : goal.returns
-returns c = record { store = λ before after line reply is step. Step-lasts IsStore IsStore-lasts before is line reply after step; regular = λ before after line reply is step. Step-lasts IsRegular IsRegular-lasts before is line reply after step }
+returns c = record {
+  store = λ before after line reply is step. Step-lasts IsStore IsStore-lasts before is line reply after step;
+  regular = λ before after line reply is step. Step-lasts IsRegular IsRegular-lasts before is line reply after step;
+}

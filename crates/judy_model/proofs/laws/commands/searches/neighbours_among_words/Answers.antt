@@ -4,4 +4,9 @@ use Rattle.judy_model.proofs.lemmas.commands.SearchCommands.{in_words}
 use Rattle.judy_model.proofs.laws.commands.searches.neighbours_among_words.Goals as goal
 
 pub returns : goal.returns
-returns c = record { first = in_words (codes "first") command.first (record { plain = refl; named = refl }); next = in_words (codes "next") command.next (record { plain = refl; named = refl }); last = in_words (codes "last") command.last (record { plain = refl; named = refl }); prev = in_words (codes "prev") command.prev (record { plain = refl; named = refl }) }
+returns c = record {
+  first = in_words (codes "first") command.first (record { plain = refl; named = refl });
+  next = in_words (codes "next") command.next (record { plain = refl; named = refl });
+  last = in_words (codes "last") command.last (record { plain = refl; named = refl });
+  prev = in_words (codes "prev") command.prev (record { plain = refl; named = refl });
+}

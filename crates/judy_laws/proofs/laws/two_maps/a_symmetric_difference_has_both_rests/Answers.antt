@@ -1,0 +1,11 @@
+use Rattle.std.specs.Cmp.{nat_cmp_total}
+use Rattle.std.specs.Cmp.Lexicographic.{nat_list_cmp_total}
+use Rattle.std.specs.FinMap.{nat_cmp-IsAntisymmetric, slice_cmp-IsAntisymmetric}
+use Rattle.judy_laws.proofs.lemmas.Joins.{symmetric_difference_counts}
+use Rattle.judy_laws.proofs.laws.two_maps.a_symmetric_difference_has_both_rests.Goals as goal
+
+pub returns : goal.returns
+returns c = record {
+  words = symmetric_difference_counts nat_cmp_total nat_cmp-IsAntisymmetric;
+  byte_strings = symmetric_difference_counts nat_list_cmp_total (slice_cmp-IsAntisymmetric nat_cmp-IsAntisymmetric);
+}
