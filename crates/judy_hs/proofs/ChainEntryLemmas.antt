@@ -40,7 +40,8 @@ module _ {A : Type 0} (key : List ℕ) where
   written-pairs [] value = refl
   written-pairs (entry ∷ rest) value =
       ap (λ b. pairs_of (cond b ((entry.0, value) ∷ rest) (entry ∷ set_value (is_at compare) rest value))) (same_test entry.0)
-      ∙ elim (bytes_eq entry.0.items key) as (λ b. pairs_of (cond b ((entry.0, value) ∷ rest) (entry ∷ set_value (is_at compare) rest value)) ≡ cond b ((entry.0.items, value) ∷ pairs_of rest) ((entry.0.items, entry.1) ∷ with_value (pairs_of rest) key value)) [
+      ∙ elim (bytes_eq entry.0.items key) as (λ b. pairs_of (cond b ((entry.0, value) ∷ rest) (entry ∷ set_value (is_at compare) rest value)) ≡
+      cond b ((entry.0.items, value) ∷ pairs_of rest) ((entry.0.items, entry.1) ∷ with_value (pairs_of rest) key value)) [
         | true ↦ refl
         | false ↦ ap (λ (pairs : Pairs). (entry.0.items, entry.1) ∷ pairs) (written-pairs rest value)
       ]
@@ -50,17 +51,21 @@ module _ {A : Type 0} (key : List ℕ) where
   without-pairs [] = refl
   without-pairs (entry ∷ rest) =
       ap (λ b. pairs_of (cond b rest (entry ∷ remove_entry (is_at compare) rest))) (same_test entry.0)
-      ∙ elim (bytes_eq entry.0.items key) as (λ b. pairs_of (cond b rest (entry ∷ remove_entry (is_at compare) rest)) ≡ cond b (pairs_of rest) ((entry.0.items, entry.1) ∷ without (pairs_of rest) key)) [
+      ∙ elim (bytes_eq entry.0.items key) as (λ b. pairs_of (cond b rest (entry ∷ remove_entry (is_at compare) rest)) ≡
+      cond b (pairs_of rest) ((entry.0.items, entry.1) ∷ without (pairs_of rest) key)) [
         | true ↦ refl
         | false ↦ ap (λ (pairs : Pairs). (entry.0.items, entry.1) ∷ pairs) (without-pairs rest)
       ]
 
 -- or put in.
-pub put-pairs : {A : Type 0} (entries : List (Vec ℕ A × ℕ)) (kept : Vec ℕ A) (value : ℕ) → pairs_of (insert_entry (λ one other. slice_cmp nat_cmp one.items other.items) entries kept value) ≡ with_pair (pairs_of entries) kept.items value
+pub put-pairs : {A : Type 0} (entries : List (Vec ℕ A × ℕ)) (kept : Vec ℕ A) (value : ℕ) → pairs_of (insert_entry (λ one other. slice_cmp nat_cmp one.items other.items) entries kept value) ≡
+    with_pair (pairs_of entries) kept.items value
 put-pairs [] kept value = refl
 put-pairs (entry ∷ rest) kept value =
-    elim (slice_cmp nat_cmp kept.items entry.0.items) as (λ r. pairs_of (match_ordering r ((kept, value) ∷ entry ∷ rest) ((entry.0, value) ∷ rest) (entry ∷ insert_entry (λ one other. slice_cmp nat_cmp one.items other.items) rest kept value))
-    ≡ match_ordering r ((kept.items, value) ∷ (entry.0.items, entry.1) ∷ pairs_of rest) ((entry.0.items, value) ∷ pairs_of rest) ((entry.0.items, entry.1) ∷ with_pair (pairs_of rest) kept.items value)) [
+    elim (slice_cmp nat_cmp kept.items entry.0.items) as (λ r. pairs_of (match_ordering r ((kept, value) ∷ entry ∷ rest) ((entry.0, value) ∷ rest)
+    (entry ∷ insert_entry (λ one other. slice_cmp nat_cmp one.items other.items) rest kept value))
+    ≡ match_ordering r ((kept.items, value) ∷ (entry.0.items, entry.1) ∷ pairs_of rest) ((entry.0.items, value) ∷ pairs_of rest)
+    ((entry.0.items, entry.1) ∷ with_pair (pairs_of rest) kept.items value)) [
       | Less ↦ refl
       | Equal ↦ refl
       | Greater ↦ ap (λ (pairs : Pairs). (entry.0.items, entry.1) ∷ pairs) (put-pairs rest kept value)
@@ -84,7 +89,8 @@ module _ {A : Type 0} (came : List (Bor (Vec ℕ A) × Bor ℕ)) (key : Bor (Vec
       ∙ ap (λ (pairs : Pairs). pairs ++ pairs_of rest) (sym shown-more)
 
   -- What is listed goes on with the entry that came.
-  pub listed-more : (before now after : List HsEntry) (new : HsEntry) → entries_in now ≡ entries_in before ++ shown came → after ≡ now ++ new ∷ [] → ◌≡◌ {A = List ℕ × ℕ} (key_bytes new.key, new.value) (key.now.items, value.now)
+  pub listed-more : (before now after : List HsEntry) (new : HsEntry) → entries_in now ≡ entries_in before ++ shown came → after ≡ now ++ new ∷ [] →
+      ◌≡◌ {A = List ℕ × ℕ} (key_bytes new.key, new.value) (key.now.items, value.now)
       → entries_in after ≡ entries_in before ++ shown (came ++ (key, value) ∷ [])
   listed-more before now after new is pushed same =
       ap entries_in pushed ∙ map-append (λ (e : HsEntry). (key_bytes e.key, e.value)) now (new ∷ [])

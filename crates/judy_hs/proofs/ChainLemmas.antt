@@ -1,5 +1,6 @@
 -- Chains: what a look-up finds after a change.
-use Rattle.std.proofs.Common.{◌≡◌, ◌≢◌, ℕ, Bool, true, false, cond, List, [], ◌∷◌, Option, Some, None, is_some, IsSome, Less, Equal, Greater, bytes_eq, refl, sym, ap, ◌∙◌, subst, ◌⊎◌, inl, inr, true≢false}
+use Rattle.std.proofs.Common.{◌≡◌, ◌≢◌, ℕ, Bool, true, false, cond, List, [], ◌∷◌, Option, Some, None, is_some, IsSome, Less, Equal, Greater, bytes_eq, refl, sym, ap, ◌∙◌, subst}
+use Rattle.std.proofs.Common.{◌⊎◌, inl, inr, true≢false}
 use Rattle.std.specs.Cmp.{tied_itself}
 use Rattle.std.specs.Ordering.{match_ordering}
 use Rattle.std.proofs.lemmas.Slice.Eq.{bytes_eq-Decides}
@@ -85,7 +86,8 @@ value_in-written_other [] key value other differ = refl
 value_in-written_other (pair ∷ rest) key value other differ = elim (bytes_cases pair.0 key) [
   | inl same ↦ let apart : pair.0 ≢ other = λ e. differ (sym same ∙ e) in
       ap (λ (pairs : Pairs). value_in pairs other) (written-here pair rest key value same) ∙ value_in-later (pair.0, value) rest other apart ∙ sym (value_in-later pair rest other apart)
-  | inr apart ↦ ap (λ (pairs : Pairs). value_in pairs other) (written-later pair rest key value apart) ∙ value_in-tail pair (with_value rest key value) rest other (value_in-written_other rest key value other differ)
+  | inr apart ↦ ap (λ (pairs : Pairs). value_in pairs other) (written-later pair rest key value apart) ∙
+      value_in-tail pair (with_value rest key value) rest other (value_in-written_other rest key value other differ)
 ]
 
 -- ---- a key put in
@@ -97,7 +99,8 @@ above-apart key other above same = absurd (let f : Greater ≡ Equal = sym above
 pub value_in-put : (pairs : Pairs) (key : List ℕ) (value : ℕ) → value_in (with_pair pairs key value) key ≡ Some value
 value_in-put [] key value = value_in-head key value []
 value_in-put (pair ∷ rest) key value =
-    elim (byte_order key pair.0) as (λ r. byte_order key pair.0 ≡ r → value_in (match_ordering r ((key, value) ∷ pair ∷ rest) ((pair.0, value) ∷ rest) (pair ∷ with_pair rest key value)) key ≡ Some value) [
+    elim (byte_order key pair.0) as (λ r. byte_order key pair.0 ≡ r → value_in (match_ordering r ((key, value) ∷ pair ∷ rest) ((pair.0, value) ∷ rest) (pair ∷ with_pair rest key value))
+    key ≡ Some value) [
       | Less ↦ λ e. value_in-head key value (pair ∷ rest)
       | Equal ↦ λ e. value_in-here (pair.0, value) rest key (sym (byte_order_same key pair.0 e))
       | Greater ↦ λ e. value_in-later pair (with_pair rest key value) key (above-apart key pair.0 e) ∙ value_in-put rest key value
@@ -106,7 +109,8 @@ value_in-put (pair ∷ rest) key value =
 pub value_in-put_other : (pairs : Pairs) (key : List ℕ) (value : ℕ) (other : List ℕ) → key ≢ other → value_in (with_pair pairs key value) other ≡ value_in pairs other
 value_in-put_other [] key value other differ = value_in-later (key, value) [] other differ
 value_in-put_other (pair ∷ rest) key value other differ =
-    elim (byte_order key pair.0) as (λ r. byte_order key pair.0 ≡ r → value_in (match_ordering r ((key, value) ∷ pair ∷ rest) ((pair.0, value) ∷ rest) (pair ∷ with_pair rest key value)) other ≡ value_in (pair ∷ rest) other) [
+    elim (byte_order key pair.0) as (λ r. byte_order key pair.0 ≡ r → value_in (match_ordering r ((key, value) ∷ pair ∷ rest) ((pair.0, value) ∷ rest) (pair ∷ with_pair rest key value))
+    other ≡ value_in (pair ∷ rest) other) [
       | Less ↦ λ e. value_in-later (key, value) (pair ∷ rest) other differ
       | Equal ↦ λ e.
           let apart : pair.0 ≢ other = λ same. differ (byte_order_same key pair.0 e ∙ same) in

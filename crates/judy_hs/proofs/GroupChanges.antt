@@ -1,5 +1,6 @@
 -- One group under the changes of its calls: what each leaves at the key, at the other keys, and of what groups keep.
-use Rattle.std.proofs.Common.{◌≡◌, ◌≢◌, ℕ, zero, suc, ◌<◌, ◌≤◌, true, false, cond, List, [], ◌∷◌, length, get_or, set, Option, Some, None, IsSome, nat_lt, inl, inr, refl, sym, ap, ◌∙◌, subst, ⊎_elim, arith}
+use Rattle.std.proofs.Common.{◌≡◌, ◌≢◌, ℕ, zero, suc, ◌<◌, ◌≤◌, true, false, cond, List, [], ◌∷◌, length, get_or, set, Option, Some, None, IsSome, nat_lt, inl, inr, refl, sym, ap}
+use Rattle.std.proofs.Common.{◌∙◌, subst, ⊎_elim, arith}
 use Rattle.std.specs.FinMap.{FinMap, get, insert, remove, empty, entries, len-entries, empty_of_len, get-entries, get-empty, find}
 use Rattle.std.specs.Cmp.{nat_cmp_total, tied_itself}
 use Rattle.std.specs.Ordering.{is_eq}
@@ -15,15 +16,21 @@ use Rattle.judy_hs.specs.LongGroups.{Long, chain_at, in_chain, IsLongPlace, IsFo
 use Rattle.judy_hs.specs.Groups.{Group, none, short, long, in_group, IsInside, IsNewInside, IsUsable, IsEmptyGroup, value_inside, group_with, group_with_key, group_without}
 use Rattle.judy_hs.specs.Parts.{part_of}
 use Rattle.judy_hs.specs.Kept.{IsUsed, IsLong, IsGroup}
-use Rattle.judy_hs.proofs.ChainLemmas.{has_some, some_is, value_in-head, value_in-written, value_in-written_other, value_in-joined, value_in-joined_other, value_in-without, value_in-without_other, AreApart-written, AreApart-joined, AreApart-without}
+use Rattle.judy_hs.proofs.ChainLemmas.{has_some, some_is, value_in-head, value_in-written, value_in-written_other, value_in-joined, value_in-joined_other, value_in-without}
+use Rattle.judy_hs.proofs.ChainLemmas.{value_in-without_other, AreApart-written, AreApart-joined, AreApart-without}
 use Rattle.judy_hs.proofs.TwoLevels.{get_or-set_here, get_or-put}
-use Rattle.judy_hs.proofs.GroupSteps.{IsStep, short-write, IsShort-write, short-remove, IsShort-remove, has_value, long-changed, IsLong-changed, in_long-changed, long-chain, IsLong-chain, in_long-chain, long-gone, IsLong-gone}
+use Rattle.judy_hs.proofs.GroupSteps.{IsStep, short-write, IsShort-write, short-remove, IsShort-remove, has_value, long-changed, IsLong-changed, in_long-changed, long-chain}
+use Rattle.judy_hs.proofs.GroupSteps.{IsLong-chain, in_long-chain, long-gone, IsLong-gone}
 
 -- ---- maps
 
 first_entry : (map : FinMap word_order ℕ) (pairs : List (ℕ × ℕ)) → entries map ≡ pairs → (map ≡ empty → ⊥) → IsUsed map
 first_entry map [] e used = absurd (used (empty_of_len map (len-entries map ∙ ap length e)))
-first_entry map (pair ∷ rest) e used = (pair.0, pair.1, get-entries map pair.0 ∙ ap (find word_order pair.0) e ∙ ap (λ r. cond (is_eq r) (Some pair.1) (find word_order pair.0 rest)) (tied_itself nat_cmp_total pair.0))
+first_entry map (pair ∷ rest) e used = (
+  pair.0,
+  pair.1,
+  get-entries map pair.0 ∙ ap (find word_order pair.0) e ∙ ap (λ r. cond (is_eq r) (Some pair.1) (find word_order pair.0 rest)) (tied_itself nat_cmp_total pair.0),
+)
 
 -- A map that isn't empty has a key.
 pub used_map : (map : FinMap word_order ℕ) → (map ≡ empty → ⊥) → IsUsed map
@@ -54,7 +61,8 @@ module _ (hash_of : List ℕ → ℕ) (key : List ℕ) (bytes : IsByteString key
 
   -- ---- a value written
 
-  pub group-write : (group : Group) (inside : Inside) (value : ℕ) → IsGroup hash_of (length key) group → IsInside group (part_of hash_of key) key inside → IsChanged group (group_with group inside key value) (Some value)
+  pub group-write : (group : Group) (inside : Inside) (value : ℕ) → IsGroup hash_of (length key) group → IsInside group (part_of hash_of key) key inside →
+      IsChanged group (group_with group inside key value) (Some value)
   group-write none inside value is there = absurd is
   group-write (short words) (Word word) value is there =
       subst (λ w. IsChanged (short words) (short (with_map words (insert words.map w value))) (Some value)) (sym there.0) (record {
@@ -72,7 +80,9 @@ module _ (hash_of : List ℕ → ℕ) (key : List ℕ) (bytes : IsByteString key
       record {
         step = long-changed hash_of key bytes group is place new there.leads there.within others;
         here = in_long-changed hash_of key bytes group is place new there.leads there.within ∙ written;
-        is = IsLong-changed hash_of key bytes group is place new there.leads there.within (has_value hash_of key bytes new key value written) (AreApart-written key old value (is.chains (part_of hash_of key) place there.leads).apart) others;
+        is =
+            IsLong-changed hash_of key bytes group is place new there.leads there.within (has_value hash_of key bytes new key value written)
+            (AreApart-written key old value (is.chains (part_of hash_of key) place there.leads).apart) others;
       }
 
   -- What stands there is in the group, and has the value of the key.
@@ -102,7 +112,8 @@ module _ (hash_of : List ℕ → ℕ) (key : List ℕ) (bytes : IsByteString key
     pub changed : IsChanged before after (Some 0)
     pub there : IsInside after (part_of hash_of key) key inside
 
-  long-add : (group : Long) (place : ℕ) (found : Option ℕ) → get group.hashes.map (part_of hash_of key) ≡ found → IsLong hash_of (length key) group → in_chain group found key ≡ None → IsFound group found place
+  long-add : (group : Long) (place : ℕ) (found : Option ℕ) → get group.hashes.map (part_of hash_of key) ≡ found → IsLong hash_of (length key) group →
+      in_chain group found key ≡ None → IsFound group found place
       → IsGrown (long group) (long (added_long group (part_of hash_of key) key found place)) (Chained place)
   long-add group place None e is absent new =
       record {
@@ -114,7 +125,9 @@ module _ (hash_of : List ℕ → ℕ) (key : List ℕ) (bytes : IsByteString key
         there = record {
           leads = get-write_same nat_cmp_total group.hashes.map (part_of hash_of key) place;
           within = put_within group.chains place ((key, 0) ∷ []) new.within;
-          is_there = subst (λ (chain : Pairs). IsSome (value_in chain key)) (sym (get_or-put group.chains place ((key, 0) ∷ []) [] new.within)) (some_is (value_in ((key, 0) ∷ []) key) 0 (value_in-head key 0 []));
+          is_there =
+              subst (λ (chain : Pairs). IsSome (value_in chain key)) (sym (get_or-put group.chains place ((key, 0) ∷ []) [] new.within))
+              (some_is (value_in ((key, 0) ∷ []) key) 0 (value_in-head key 0 []));
         };
       }
   long-add group place (Some held) e is absent new =
@@ -138,7 +151,8 @@ module _ (hash_of : List ℕ → ℕ) (key : List ℕ) (bytes : IsByteString key
         };
       }
 
-  pub group-add : (group : Group) (inside : Inside) → IsGroup hash_of (length key) group → in_group group (part_of hash_of key) key ≡ None → IsNewInside group (part_of hash_of key) inside → IsGrown group (group_with_key group (part_of hash_of key) key inside) inside
+  pub group-add : (group : Group) (inside : Inside) → IsGroup hash_of (length key) group → in_group group (part_of hash_of key) key ≡ None →
+      IsNewInside group (part_of hash_of key) inside → IsGrown group (group_with_key group (part_of hash_of key) key inside) inside
   group-add none inside is absent new = absurd is
   group-add (short words) (Word word) is absent new = record {
     changed = record {
@@ -162,23 +176,28 @@ module _ (hash_of : List ℕ → ℕ) (key : List ℕ) (bytes : IsByteString key
   long-without : (group : Long) (place : ℕ) (left : Pairs) → without (chain_at group place) key ≡ left → IsLong hash_of (length key) group → IsLongPlace group (part_of hash_of key) key place
       → IsShrunk (long group) (long (record group { hashes = hashes_without group (part_of hash_of key) left; chains = set group.chains place left }))
   long-without group place [] e is there =
-      let alone : (other : List ℕ) → (key ≡ other → ⊥) → value_in (chain_at group place) other ≡ None = λ other differ. sym (value_in-without_other (chain_at group place) key other differ) ∙ ap (λ (pairs : Pairs). value_in pairs other) e in
+      let alone : (other : List ℕ) → (key ≡ other → ⊥) → value_in (chain_at group place) other ≡ None = λ other differ. sym (value_in-without_other (chain_at group place) key other differ) ∙
+      ap (λ (pairs : Pairs). value_in pairs other) e in
       record {
         step = long-gone hash_of key bytes group is place there.leads alone;
-        here = ap (λ found. in_chain (record group { hashes = with_map group.hashes (remove group.hashes.map (part_of hash_of key)); chains = set group.chains place [] }) found key) (get-del_same nat_cmp_total group.hashes.map (part_of hash_of key));
+        here =
+            ap (λ found. in_chain (record group { hashes = with_map group.hashes (remove group.hashes.map (part_of hash_of key)); chains = set group.chains place [] }) found key)
+            (get-del_same nat_cmp_total group.hashes.map (part_of hash_of key));
         kept = λ used. IsLong-gone hash_of key bytes group is place there.leads alone (used_map (remove group.hashes.map (part_of hash_of key)) used);
       }
   long-without group place (pair ∷ rest) e is there =
       let old = chain_at group place in
       let chain = is.chains (part_of hash_of key) place there.leads in
-      let others : (other : List ℕ) → (key ≡ other → ⊥) → value_in (pair ∷ rest) other ≡ value_in old other = λ other differ. ap (λ (pairs : Pairs). value_in pairs other) (sym e) ∙ value_in-without_other old key other differ in
+      let others : (other : List ℕ) → (key ≡ other → ⊥) → value_in (pair ∷ rest) other ≡ value_in old other = λ other differ. ap (λ (pairs : Pairs). value_in pairs other) (sym e) ∙
+      value_in-without_other old key other differ in
       record {
         step = long-changed hash_of key bytes group is place (pair ∷ rest) there.leads there.within others;
         here = in_long-changed hash_of key bytes group is place (pair ∷ rest) there.leads there.within ∙ ap (λ (pairs : Pairs). value_in pairs key) (sym e) ∙ value_in-without old key chain.apart;
         kept = λ _. IsLong-changed hash_of key bytes group is place (pair ∷ rest) there.leads there.within (λ gone. cc) (subst AreApart e (AreApart-without key old chain.apart)) others;
       }
 
-  pub group-remove : (group : Group) (inside : Inside) → IsGroup hash_of (length key) group → IsInside group (part_of hash_of key) key inside → IsShrunk group (group_without group (part_of hash_of key) inside key)
+  pub group-remove : (group : Group) (inside : Inside) → IsGroup hash_of (length key) group → IsInside group (part_of hash_of key) key inside →
+      IsShrunk group (group_without group (part_of hash_of key) inside key)
   group-remove none inside is there = absurd is
   group-remove (short words) (Word word) is there = record {
     step = short-remove hash_of key bytes words is.few;

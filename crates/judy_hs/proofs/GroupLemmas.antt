@@ -1,5 +1,6 @@
 -- Groups by length: what a change of their list makes of them.
-use Rattle.std.proofs.Common.{◌≡◌, ◌≢◌, ℕ, zero, suc, ◌<◌, ◌≤◌, inl, inr, List, [], ◌∷◌, length, get_or, set, nat_le, if◌then◌else◌, true, false, None, Some, Result, Ok, Err, IfOk, OnErr, refl, sym, ap, subst, ◌∙◌, arith}
+use Rattle.std.proofs.Common.{◌≡◌, ◌≢◌, ℕ, zero, suc, ◌<◌, ◌≤◌, inl, inr, List, [], ◌∷◌, length, get_or, set, nat_le, if◌then◌else◌, true, false, None, Some, Result, Ok, Err, IfOk}
+use Rattle.std.proofs.Common.{OnErr, refl, sym, ap, subst, ◌∙◌, arith}
 use Rattle.std.proofs.lemmas.List.{map-set, get_or-map, length-map, get_or_past}
 use Rattle.std.proofs.lemmas.Option.{none-some}
 use Rattle.judy_places.specs.Places.{NoneLost, IsNextPlace}
@@ -29,15 +30,18 @@ pub groups_of-set : (places : List GroupPlace) (place : ℕ) (new : GroupPlace) 
 groups_of-set places place new = map-set group_of places place new
 
 -- The group at a place with another one in it.
-pub keyed-set : (lengths : ArrayOf word_order) (places : List GroupPlace) (place : ℕ) (new : GroupPlace) (group : Group) → group_of new ≡ group → keyed_of lengths (set places place new) ≡ record { lengths = lengths; groups = set (groups_of places) place group }
+pub keyed-set : (lengths : ArrayOf word_order) (places : List GroupPlace) (place : ℕ) (new : GroupPlace) (group : Group) → group_of new ≡ group →
+    keyed_of lengths (set places place new) ≡ record { lengths = lengths; groups = set (groups_of places) place group }
 keyed-set lengths places place new group is = ap (λ (all : List Group). record { lengths = lengths; groups = all }) (groups_of-set places place new ∙ ap (set (groups_of places) place) is)
 
 -- A group taken from its place.
-pub keyed-free : (lengths : ArrayOf word_order) (places : List GroupPlace) (place next : ℕ) (new : GroupPlace) → keyed_of lengths (set (set places place new) place (Free next)) ≡ record { lengths = lengths; groups = set (groups_of places) place none }
+pub keyed-free : (lengths : ArrayOf word_order) (places : List GroupPlace) (place next : ℕ) (new : GroupPlace) →
+    keyed_of lengths (set (set places place new) place (Free next)) ≡ record { lengths = lengths; groups = set (groups_of places) place none }
 keyed-free lengths places place next new = ap (keyed_of lengths) (set-twice places place new (Free next)) ∙ keyed-set lengths places place (Free next) none refl
 
 -- A group put at a free place.
-pub keyed-put : (lengths : ArrayOf word_order) (places : List GroupPlace) (place : ℕ) (new : GroupPlace) (group : Group) → group_of new ≡ group → keyed_of lengths (put_at places place new) ≡ record { lengths = lengths; groups = put_at (groups_of places) place group }
+pub keyed-put : (lengths : ArrayOf word_order) (places : List GroupPlace) (place : ℕ) (new : GroupPlace) (group : Group) → group_of new ≡ group →
+    keyed_of lengths (put_at places place new) ≡ record { lengths = lengths; groups = put_at (groups_of places) place group }
 keyed-put lengths places place new group is = ap (λ (all : List Group). record { lengths = lengths; groups = all }) (map-put group_of places place new ∙ ap (put_at (groups_of places) place) is)
 
 -- A place within the groups is one of the list.
@@ -63,8 +67,10 @@ module _ (lengths : ArrayOf word_order) (places : List GroupPlace) (place : ℕ)
   pub held-is : group_of held ≡ get_or (groups_of places) place none
   held-is = ap group_of is ∙ sym (get_or-map group_of places place held none within)
 
-  pub keyed-written : (inside : Inside) (key : List ℕ) (value : ℕ) → keyed_of lengths (set places place (place_with held inside key value)) ≡ keyed_with (keyed_of lengths places) place inside key value
-  keyed-written inside key value = keyed-set lengths places place (place_with held inside key value) _ (group_of-with held inside key value ∙ ap (λ (group : Group). group_with group inside key value) held-is)
+  pub keyed-written : (inside : Inside) (key : List ℕ) (value : ℕ) → keyed_of lengths (set places place (place_with held inside key value)) ≡
+      keyed_with (keyed_of lengths places) place inside key value
+  keyed-written inside key value =
+      keyed-set lengths places place (place_with held inside key value) _ (group_of-with held inside key value ∙ ap (λ (group : Group). group_with group inside key value) held-is)
 
   pub keyed-back : keyed_of lengths (set places place held) ≡ keyed_of lengths places
   keyed-back = ap (keyed_of lengths) (set_same places place held is)
@@ -113,7 +119,8 @@ one-some part key = elim (nat_le (length key) 8) as (λ b. (if b then short (one
 ]
 
 -- A group stays one, whether a key was put in or refused.
-pub added-some : {E : Type 0} (result : Result Inside E) (part : ℕ) (key : List ℕ) (before after : Group) → IfOk result (λ inside. after ≡ group_with_key before part key inside) → OnErr result (after ≡ before) → before ≢ none → after ≢ none
+pub added-some : {E : Type 0} (result : Result Inside E) (part : ℕ) (key : List ℕ) (before after : Group) → IfOk result (λ inside. after ≡ group_with_key before part key inside) →
+    OnErr result (after ≡ before) → before ≢ none → after ≢ none
 added-some (Ok inside) part key before after added same some e = key-some before part key inside some (sym added ∙ e)
 added-some (Err error) part key before after added same some e = some (sym same ∙ e)
 
@@ -184,8 +191,10 @@ module _ (places : List GroupPlace) (free : ℕ) (lost : NoneLost (links_of plac
     groups-tried Open part key new some added same = subst (λ (one : GroupPlace). NoneLost (links_of (set places at one)) free) (sym same) groups-back
 
 -- Where a key was tried in a group that can take it, the places are what they were, but for that group.
-pub groups-added : {E : Type 0} (lengths : ArrayOf word_order) (places : List GroupPlace) (free : ℕ) (lost : NoneLost (links_of places) free) (at : ℕ) (found : GroupPlace) → found ≡ get_or places at found → (part : ℕ) (key : List ℕ) → CanTakeKey (get_or (groups_of places) at none) part
-    → (result : Result Inside E) (new : GroupPlace) → IfOk result (λ inside. group_of new ≡ group_with_key (group_of found) part key inside) → OnErr result (group_of new ≡ group_of found) → NoneLost (links_of (set places at new)) free
+pub groups-added : {E : Type 0} (lengths : ArrayOf word_order) (places : List GroupPlace) (free : ℕ) (lost : NoneLost (links_of places) free) (at : ℕ) (found : GroupPlace) →
+    found ≡ get_or places at found → (part : ℕ) (key : List ℕ) → CanTakeKey (get_or (groups_of places) at none) part
+    → (result : Result Inside E) (new : GroupPlace) → IfOk result (λ inside. group_of new ≡ group_with_key (group_of found) part key inside) →
+    OnErr result (group_of new ≡ group_of found) → NoneLost (links_of (set places at new)) free
 groups-added lengths places free lost at found read part key can result new added unchanged =
     let held = held-is lengths places at found (used-within places at part can) read in
     let some : group_of found ≢ none = (λ gone. can-some _ part can (sym held ∙ gone)) in

@@ -39,10 +39,12 @@ mod_small word unit below = let same : 0 * unit + word ≡ word = omega arith in
 
 low_bytes-are_bytes : (width word : ℕ) → IsByteString (low_bytes width word)
 low_bytes-are_bytes zero word = All-nil (λ byte. byte < 256)
-low_bytes-are_bytes (suc width) word = let some : 0 < 256 = omega arith in All-cons (λ byte. byte < 256) (word / 256 ^ width % 256) (low_bytes width word) (mod_below (word / 256 ^ width) 256 some) (low_bytes-are_bytes width word)
+low_bytes-are_bytes (suc width) word =
+    let some : 0 < 256 = omega arith in All-cons (λ byte. byte < 256) (word / 256 ^ width % 256) (low_bytes width word) (mod_below (word / 256 ^ width) 256 some) (low_bytes-are_bytes width word)
 
 module _ (key_length : ℕ) where
-  short_keys : (words : List (ℕ × ℕ)) (key : List ℕ) (value : ℕ) → value_in (map (λ entry. (low_bytes key_length entry.0, entry.1)) words) key ≡ Some value → IsByteString key × (length key ≡ key_length)
+  short_keys : (words : List (ℕ × ℕ)) (key : List ℕ) (value : ℕ) → value_in (map (λ entry. (low_bytes key_length entry.0, entry.1)) words) key ≡ Some value →
+      IsByteString key × (length key ≡ key_length)
   short_keys [] key value is = absurd (none-some value is)
   short_keys (entry ∷ rest) key value is = elim (bytes_cases (low_bytes key_length entry.0) key) [
     | inl same ↦ (subst IsByteString same (low_bytes-are_bytes key_length entry.0), ap length (sym same) ∙ length-low_bytes key_length entry.0)
@@ -64,24 +66,29 @@ module _ (key_length : ℕ) where
       ∙ short_answers rest fits.1 key bytes same_length ∙ sym (find_later (number_of key) entry rest differ))
       (same_or_not (number_of key) entry.0)
 
-  short_below : (word : ℕ) → word < 256 ^ key_length → (words : List (ℕ × ℕ)) → AllByRecursion (λ entry. entry.0 < 256 ^ key_length) words → T (below_all word_order word words) → T (below_all byte_order (low_bytes key_length word) (map (λ entry. (low_bytes key_length entry.0, entry.1)) words))
+  short_below : (word : ℕ) → word < 256 ^ key_length → (words : List (ℕ × ℕ)) → AllByRecursion (λ entry. entry.0 < 256 ^ key_length) words → T (below_all word_order word words) →
+      T (below_all byte_order (low_bytes key_length word) (map (λ entry. (low_bytes key_length entry.0, entry.1)) words))
   short_below word small [] fits below = tt
   short_below word small (entry ∷ rest) fits below =
-      both (is_lt (byte_order (low_bytes key_length word) (low_bytes key_length entry.0))) (below_all byte_order (low_bytes key_length word) (map (λ entry. (low_bytes key_length entry.0, entry.1)) rest))
+      both (is_lt (byte_order (low_bytes key_length word) (low_bytes key_length entry.0))) (below_all byte_order (low_bytes key_length word)
+      (map (λ entry. (low_bytes key_length entry.0, entry.1)) rest))
       (subst (λ r. T (is_lt r)) (order-low_bytes key_length word entry.0 small fits.0) (left_of (is_lt (word_order word entry.0)) (below_all word_order word rest) below))
       (short_below word small rest fits.1 (right_of (is_lt (word_order word entry.0)) (below_all word_order word rest) below))
 
-  short_sorted : (words : List (ℕ × ℕ)) → AllByRecursion (λ entry. entry.0 < 256 ^ key_length) words → T (is_sorted word_order words) → T (is_sorted byte_order (map (λ entry. (low_bytes key_length entry.0, entry.1)) words))
+  short_sorted : (words : List (ℕ × ℕ)) → AllByRecursion (λ entry. entry.0 < 256 ^ key_length) words → T (is_sorted word_order words) →
+      T (is_sorted byte_order (map (λ entry. (low_bytes key_length entry.0, entry.1)) words))
   short_sorted [] fits sorted = tt
   short_sorted (entry ∷ rest) fits sorted =
-      both (below_all byte_order (low_bytes key_length entry.0) (map (λ entry. (low_bytes key_length entry.0, entry.1)) rest)) (is_sorted byte_order (map (λ entry. (low_bytes key_length entry.0, entry.1)) rest))
+      both (below_all byte_order (low_bytes key_length entry.0) (map (λ entry. (low_bytes key_length entry.0, entry.1)) rest))
+      (is_sorted byte_order (map (λ entry. (low_bytes key_length entry.0, entry.1)) rest))
       (short_below entry.0 fits.0 rest fits.1 (left_of (below_all word_order entry.0 rest) (is_sorted word_order rest) sorted))
       (short_sorted rest fits.1 (right_of (below_all word_order entry.0 rest) (is_sorted word_order rest) sorted))
 
 module _ (hash_of : List ℕ → ℕ) (key_length : ℕ) where
   listed_short : (words : ArrayOf word_order) → IsShort key_length words → IsListed hash_of key_length (short words) (short_list key_length words)
   listed_short words is =
-      let small : AllByRecursion (λ entry. entry.0 < 256 ^ key_length) (entries words.map) = recursion_from_All (λ entry. entry.0 < 256 ^ key_length) (entries words.map) (entries_hold nat_cmp_total words.map (λ entry. entry.0 < 256 ^ key_length) is.fits) in
+      let small : AllByRecursion (λ entry. entry.0 < 256 ^ key_length) (entries words.map) = recursion_from_All (λ entry. entry.0 < 256 ^ key_length) (entries words.map)
+      (entries_hold nat_cmp_total words.map (λ entry. entry.0 < 256 ^ key_length) is.fits) in
       record {
         sorted = short_sorted key_length (entries words.map) small (entries_sorted words.map);
         keys = short_keys key_length (entries words.map);
@@ -93,14 +100,13 @@ module _ (hash_of : List ℕ → ℕ) (key_length : ℕ) where
   -- ---- long keys
 
   module _ (group : Long) (is : IsLong hash_of key_length group) where
-    chain : ℕ × ℕ → Pairs
-    chain entry = chain_at group entry.1
-
     tells : Tells (λ entry. chain_at group entry.1) hash_of (entries group.hashes.map)
     tells hash place leads key value held = ((is.chains hash place (get-entries group.hashes.map hash ∙ leads)).keys key value held).2
 
     pub chained_apart : AreApart (chained group)
-    chained_apart = apart_levels (λ entry. chain_at group entry.1) hash_of (entries group.hashes.map) (entries_sorted group.hashes.map) tells (λ hash place leads. (is.chains hash place (get-entries group.hashes.map hash ∙ leads)).apart)
+    chained_apart =
+        apart_levels (λ entry. chain_at group entry.1) hash_of (entries group.hashes.map) (entries_sorted group.hashes.map) tells
+        (λ hash place leads. (is.chains hash place (get-entries group.hashes.map hash ∙ leads)).apart)
 
     chain_value : (found : Option ℕ) (key : List ℕ) → led (λ entry. chain_at group entry.1) hash_of found key ≡ in_chain group found key
     chain_value None key = refl

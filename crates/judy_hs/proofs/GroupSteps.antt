@@ -20,9 +20,6 @@ pub some_none : {A B : Type 0} (x : A) → ◌≡◌ {A = Option A} (Some x) Non
 some_none x e = absurd (let f : ⊥ = cc in f)
 
 module _ (hash_of : List ℕ → ℕ) (key : List ℕ) (bytes : IsByteString key) where
-  part : ℕ
-  part = part_of hash_of key
-
   -- Another key of the same length.
   pub record IsOther (other : List ℕ) : Type 0 where
     pub other_bytes : IsByteString other
@@ -91,7 +88,8 @@ module _ (hash_of : List ℕ → ℕ) (key : List ℕ) (bytes : IsByteString key
   two_of group is = record { apart = is.apart; good = is.chains }
 
   -- A chain that is changed at the key.
-  chain_changed : (old new : Pairs) (hash : ℕ) → hash_of key ≡ hash → new ≢ [] → AreApart new → ((other : List ℕ) → key ≢ other → value_in new other ≡ value_in old other) → IsChain hash_of (length key) hash old → IsChain hash_of (length key) hash new
+  chain_changed : (old new : Pairs) (hash : ℕ) → hash_of key ≡ hash → new ≢ [] → AreApart new → ((other : List ℕ) → key ≢ other → value_in new other ≡ value_in old other) →
+      IsChain hash_of (length key) hash old → IsChain hash_of (length key) hash new
   chain_changed old new hash has used apart others is = record {
     used = used;
     apart = apart;
@@ -121,24 +119,29 @@ module _ (hash_of : List ℕ → ℕ) (key : List ℕ) (bytes : IsByteString key
     has = sym (part_long hash_of key is.many)
 
     -- A chain that is changed at the key, where its hash leads.
-    pub long-changed : (place : ℕ) (new : Pairs) → get group.hashes.map (part_of hash_of key) ≡ Some place → place < length group.chains → ((other : List ℕ) → key ≢ other → value_in new other ≡ value_in (chain_at group place) other)
+    pub long-changed : (place : ℕ) (new : Pairs) → get group.hashes.map (part_of hash_of key) ≡ Some place → place < length group.chains →
+        ((other : List ℕ) → key ≢ other → value_in new other ≡ value_in (chain_at group place) other)
         → IsStep (long group) (long (record group { chains = set group.chains place new }))
     long-changed place new leads within others = record {
       others = λ other o.
           let after : Long = record group { chains = set group.chains place new } in
           let found = get group.hashes.map (part_of hash_of other) in
           chain_is after found other
-          ∙ through-set_other [] value_in (IsChain hash_of (length key)) (never (length key)) group.hashes.map group.chains (two_of group is) (part_of hash_of key) place leads within new found other (others other o.differs)
+          ∙ through-set_other [] value_in (IsChain hash_of (length key)) (never (length key)) group.hashes.map group.chains (two_of group is)
+          (part_of hash_of key) place leads within new found other (others other o.differs)
           ∙ sym (chain_is group found other);
     }
 
-    pub IsLong-changed : (place : ℕ) (new : Pairs) → get group.hashes.map (part_of hash_of key) ≡ Some place → place < length group.chains → new ≢ [] → AreApart new → ((other : List ℕ) → key ≢ other → value_in new other ≡ value_in (chain_at group place) other)
+    pub IsLong-changed : (place : ℕ) (new : Pairs) → get group.hashes.map (part_of hash_of key) ≡ Some place → place < length group.chains → new ≢ [] → AreApart new →
+        ((other : List ℕ) → key ≢ other → value_in new other ≡ value_in (chain_at group place) other)
         → IsLong hash_of (length key) (record group { chains = set group.chains place new })
     IsLong-changed place new leads within used apart others =
-        let two = two-set [] value_in (IsChain hash_of (length key)) (never (length key)) group.hashes.map group.chains (two_of group is) (part_of hash_of key) place leads within new (chain_changed (chain_at group place) new (part_of hash_of key) has used apart others (is.chains (part_of hash_of key) place leads)) in
+        let two = two-set [] value_in (IsChain hash_of (length key)) (never (length key)) group.hashes.map group.chains (two_of group is) (part_of hash_of key) place leads within new
+        (chain_changed (chain_at group place) new (part_of hash_of key) has used apart others (is.chains (part_of hash_of key) place leads)) in
         record { many = is.many; length_is = is.length_is; used = is.used; apart = two.apart; chains = two.good }
 
-    pub in_long-changed : (place : ℕ) (new : Pairs) → get group.hashes.map (part_of hash_of key) ≡ Some place → place < length group.chains → in_long (record group { chains = set group.chains place new }) (part_of hash_of key) key ≡ value_in new key
+    pub in_long-changed : (place : ℕ) (new : Pairs) → get group.hashes.map (part_of hash_of key) ≡ Some place → place < length group.chains →
+        in_long (record group { chains = set group.chains place new }) (part_of hash_of key) key ≡ value_in new key
     in_long-changed place new leads within =
         chain_is (record group { chains = set group.chains place new }) (get group.hashes.map (part_of hash_of key)) key
         ∙ through-set [] value_in (IsChain hash_of (length key)) (never (length key)) group.hashes.map group.chains (two_of group is) (part_of hash_of key) place leads within new key
@@ -148,19 +151,29 @@ module _ (hash_of : List ℕ → ℕ) (key : List ℕ) (bytes : IsByteString key
     long-chain place absent free = record {
       others = λ other o.
           chain_is (with_chain group (part_of hash_of key) key place) (get (insert group.hashes.map (part_of hash_of key) place) (part_of hash_of other)) other
-          ∙ through-put_other [] value_in (IsChain hash_of (length key)) (never (length key)) group.hashes.map group.chains (two_of group is) (part_of hash_of key) place absent free.within free.no_key ((key, 0) ∷ []) (part_of hash_of other) other (λ _. value_in-later (key, 0) [] other o.differs)
+          ∙ through-put_other [] value_in (IsChain hash_of (length key)) (never (length key)) group.hashes.map group.chains (two_of group is)
+          (part_of hash_of key) place absent free.within free.no_key ((key, 0) ∷ []) (part_of hash_of other) other (λ _. value_in-later (key, 0) [] other o.differs)
           ∙ sym (chain_is group (get group.hashes.map (part_of hash_of other)) other);
     }
 
     pub IsLong-chain : (place : ℕ) → get group.hashes.map (part_of hash_of key) ≡ None → IsFreePlace group.chains place → IsLong hash_of (length key) (with_chain group (part_of hash_of key) key place)
     IsLong-chain place absent free =
-        let two = two-put [] value_in (IsChain hash_of (length key)) (never (length key)) group.hashes.map group.chains (two_of group is) (part_of hash_of key) place absent free.within free.no_key ((key, 0) ∷ []) (chain_of_one (part_of hash_of key) has) in
-        record { many = is.many; length_is = is.length_is; used = (part_of hash_of key, place, get-write_same nat_cmp_total group.hashes.map (part_of hash_of key) place); apart = two.apart; chains = two.good }
+        let two = two-put [] value_in (IsChain hash_of (length key)) (never (length key)) group.hashes.map group.chains (two_of group is)
+        (part_of hash_of key) place absent free.within free.no_key ((key, 0) ∷ []) (chain_of_one (part_of hash_of key) has) in
+        record {
+          many = is.many;
+          length_is = is.length_is;
+          used = (part_of hash_of key, place, get-write_same nat_cmp_total group.hashes.map (part_of hash_of key) place);
+          apart = two.apart;
+          chains = two.good;
+        }
 
-    pub in_long-chain : (place : ℕ) → get group.hashes.map (part_of hash_of key) ≡ None → IsFreePlace group.chains place → in_long (with_chain group (part_of hash_of key) key place) (part_of hash_of key) key ≡ Some 0
+    pub in_long-chain : (place : ℕ) → get group.hashes.map (part_of hash_of key) ≡ None → IsFreePlace group.chains place →
+        in_long (with_chain group (part_of hash_of key) key place) (part_of hash_of key) key ≡ Some 0
     in_long-chain place absent free =
         chain_is (with_chain group (part_of hash_of key) key place) (get (insert group.hashes.map (part_of hash_of key) place) (part_of hash_of key)) key
-        ∙ through-put [] value_in (IsChain hash_of (length key)) (never (length key)) group.hashes.map group.chains (two_of group is) (part_of hash_of key) place absent free.within free.no_key ((key, 0) ∷ []) key
+        ∙ through-put [] value_in (IsChain hash_of (length key)) (never (length key)) group.hashes.map group.chains (two_of group is)
+        (part_of hash_of key) place absent free.within free.no_key ((key, 0) ∷ []) key
         ∙ value_in-head key 0 []
 
     -- The chain of the key alone taken away.
@@ -170,11 +183,13 @@ module _ (hash_of : List ℕ → ℕ) (key : List ℕ) (bytes : IsByteString key
         others = λ other o.
             let after : Long = record group { hashes = with_map group.hashes (remove group.hashes.map (part_of hash_of key)); chains = set group.chains place [] } in
             chain_is after (get (remove group.hashes.map (part_of hash_of key)) (part_of hash_of other)) other
-            ∙ through-gone_other [] value_in (IsChain hash_of (length key)) (never (length key)) group.hashes.map group.chains (two_of group is) (part_of hash_of key) place leads (part_of hash_of other) other (λ _. alone other o.differs)
+            ∙ through-gone_other [] value_in (IsChain hash_of (length key)) (never (length key)) group.hashes.map group.chains (two_of group is)
+            (part_of hash_of key) place leads (part_of hash_of other) other (λ _. alone other o.differs)
             ∙ sym (chain_is group (get group.hashes.map (part_of hash_of other)) other);
       }
 
-      pub IsLong-gone : IsUsed (remove group.hashes.map (part_of hash_of key)) → IsLong hash_of (length key) (record group { hashes = with_map group.hashes (remove group.hashes.map (part_of hash_of key)); chains = set group.chains place [] })
+      pub IsLong-gone : IsUsed (remove group.hashes.map (part_of hash_of key)) → IsLong hash_of (length key)
+          (record group { hashes = with_map group.hashes (remove group.hashes.map (part_of hash_of key)); chains = set group.chains place [] })
       IsLong-gone used =
           let two = two-gone [] value_in (IsChain hash_of (length key)) (never (length key)) group.hashes.map group.chains (two_of group is) (part_of hash_of key) place leads in
           record { many = is.many; length_is = is.length_is; used = used; apart = two.apart; chains = two.good }

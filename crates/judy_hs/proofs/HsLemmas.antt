@@ -1,5 +1,6 @@
 -- Arrays: what the changes of their groups make of them.
-use Rattle.std.proofs.Common.{◌≡◌, ◌≢◌, ℕ, ◌+◌, ◌-◌, ◌<◌, ◌≤◌, ◌==◌, Bool, true, false, not, cond, List, length, get_or, set, Option, Some, None, is_some, IsSome, Result, Ok, Err, IsOk, IfOk, OnOk, IfErr, MutBor, IsTrue, IsFalse, ◌↔◌, eq-eqb, refl, sym, ap, ◌∙◌, subst, ◌⊎◌, inl, inr, ⊎_elim, arith}
+use Rattle.std.proofs.Common.{◌≡◌, ◌≢◌, ℕ, ◌+◌, ◌-◌, ◌<◌, ◌≤◌, ◌==◌, Bool, true, false, not, cond, List, length, get_or, set, Option, Some, None, is_some, IsSome, Result, Ok, Err}
+use Rattle.std.proofs.Common.{IsOk, IfOk, OnOk, IfErr, MutBor, IsTrue, IsFalse, ◌↔◌, eq-eqb, refl, sym, ap, ◌∙◌, subst, ◌⊎◌, inl, inr, ⊎_elim, arith}
 use Rattle.std.specs.FinMap.{FinMap, get, insert, remove, empty, len, contains_key, len-empty, len-insert, len-remove, get-empty, empty_of_len}
 use Rattle.std.specs.Borrow.{name_if_ok}
 use borrow.Follows.Closed.{read_of}
@@ -96,7 +97,8 @@ module _ (hash_of : List ℕ → ℕ) (longest : ℕ) where
       IsHs-written =
           let held = spot-some keyed key is_key place inside spot in
           let same : len (map_of hash_of longest (keyed_with keyed place inside key value)) ≡ len (map_of hash_of longest keyed) =
-          ap len made_with.map_is ∙ len-insert byte_order_total (map_of hash_of longest keyed) key value ∙ ap (λ (found : Option ℕ). cond (is_some found) (len (map_of hash_of longest keyed)) (len (map_of hash_of longest keyed) + 1)) held.1 in
+          ap len made_with.map_is ∙ len-insert byte_order_total (map_of hash_of longest keyed) key value ∙
+          ap (λ (found : Option ℕ). cond (is_some found) (len (map_of hash_of longest keyed)) (len (map_of hash_of longest keyed) + 1)) held.1 in
           record {
             is_keyed = made_with.is;
             counted = is.counted ∙ sym same;
@@ -107,10 +109,12 @@ module _ (hash_of : List ℕ → ℕ) (longest : ℕ) where
 
     -- ---- a key put in
 
-    put_key : (place : ℕ) (inside : Inside) (found : Option ℕ) → get keyed.lengths.map (length key) ≡ found → in_place keyed found (part_of hash_of key) key ≡ None → IsNewSpot keyed (part_of hash_of key) key found place inside
+    put_key : (place : ℕ) (inside : Inside) (found : Option ℕ) → get keyed.lengths.map (length key) ≡ found → in_place keyed found (part_of hash_of key) key ≡ None →
+        IsNewSpot keyed (part_of hash_of key) key found place inside
         → IsPut hash_of longest keyed is.is_keyed key is_key (added_keyed keyed (part_of hash_of key) key found place inside) place inside
     put_key place inside None leads absent new =
-        subst (λ i. IsPut hash_of longest keyed is.is_keyed key is_key (with_group keyed (part_of hash_of key) key place) place i) (sym new.1) (put-group hash_of longest keyed is.is_keyed key is_key place leads new.0)
+        subst (λ i. IsPut hash_of longest keyed is.is_keyed key is_key (with_group keyed (part_of hash_of key) key place) place i) (sym new.1)
+        (put-group hash_of longest keyed is.is_keyed key is_key place leads new.0)
     put_key place inside (Some held) leads absent new =
         let group = group_at keyed held in
         let grown = group-add hash_of key is_key.is_byte_string group inside (is.is_keyed.groups (length key) held leads) absent new.2 in
@@ -120,7 +124,8 @@ module _ (hash_of : List ℕ → ℕ) (longest : ℕ) where
             leads = leads ∙ ap (λ (p : ℕ). Some p) (sym new.0);
             within = set_within keyed.groups held place (group_with_key group (part_of hash_of key) key inside) new.0 new.1;
             is_inside = subst (λ p. IsInside (get_or (set keyed.groups held (group_with_key group (part_of hash_of key) key inside)) p none) (part_of hash_of key) key inside) (sym new.0)
-                (subst (λ (g : Group). IsInside g (part_of hash_of key) key inside) (sym (get_or-set_here keyed.groups held (group_with_key group (part_of hash_of key) key inside) none new.1)) grown.there);
+                (subst (λ (g : Group). IsInside g (part_of hash_of key) key inside) (sym (get_or-set_here keyed.groups held
+                (group_with_key group (part_of hash_of key) key inside) none new.1)) grown.there);
           };
         }
 
@@ -138,7 +143,8 @@ module _ (hash_of : List ℕ → ℕ) (longest : ℕ) where
       IsHs-added room =
           let within = is.within_limit in
           let more : len (map_of hash_of longest (added_keyed keyed (part_of hash_of key) key (get keyed.lengths.map (length key)) place inside)) ≡ len (map_of hash_of longest keyed) + 1 =
-          ap len put.made.map_is ∙ len-insert byte_order_total (map_of hash_of longest keyed) key 0 ∙ ap (λ (found : Option ℕ). cond (is_some found) (len (map_of hash_of longest keyed)) (len (map_of hash_of longest keyed) + 1)) (get_is keyed key is_key ∙ absent) in
+          ap len put.made.map_is ∙ len-insert byte_order_total (map_of hash_of longest keyed) key 0 ∙
+          ap (λ (found : Option ℕ). cond (is_some found) (len (map_of hash_of longest keyed)) (len (map_of hash_of longest keyed) + 1)) (get_is keyed key is_key ∙ absent) in
           record {
             is_keyed = put.made.is;
             counted = ap (λ n. n + 1) is.counted ∙ sym more;
@@ -150,21 +156,25 @@ module _ (hash_of : List ℕ → ℕ) (longest : ℕ) where
     -- ---- a key taken out
 
     module _ (place : ℕ) (inside : Inside) (spot : IsSpot keyed (part_of hash_of key) key place inside) where
-      pub made_kept : (IsEmptyGroup (group_without (group_at keyed place) (part_of hash_of key) inside key) → ⊥) → IsMade hash_of longest (keyed_without keyed place (part_of hash_of key) inside key) (remove (map_of hash_of longest keyed) key)
+      pub made_kept : (IsEmptyGroup (group_without (group_at keyed place) (part_of hash_of key) inside key) → ⊥) →
+          IsMade hash_of longest (keyed_without keyed place (part_of hash_of key) inside key) (remove (map_of hash_of longest keyed) key)
       made_kept used = made-without hash_of longest keyed is.is_keyed key is_key place spot.leads spot.within (group_without (group_at keyed place) (part_of hash_of key) inside key)
           (group-remove hash_of key is_key.is_byte_string (group_at keyed place) inside (is.is_keyed.groups (length key) place spot.leads) spot.is_inside) used
 
-      pub made_emptied : IsEmptyGroup (group_without (group_at keyed place) (part_of hash_of key) inside key) → IsMade hash_of longest (without_group keyed (length key) place) (remove (map_of hash_of longest keyed) key)
+      pub made_emptied : IsEmptyGroup (group_without (group_at keyed place) (part_of hash_of key) inside key) →
+          IsMade hash_of longest (without_group keyed (length key) place) (remove (map_of hash_of longest keyed) key)
       made_emptied gone = made-gone hash_of longest keyed is.is_keyed key is_key place spot.leads (λ other o.
           sym ((group-remove hash_of key is_key.is_byte_string (group_at keyed place) inside (is.is_keyed.groups (length key) place spot.leads) spot.is_inside).step.others other o)
           ∙ empty-none (group_without (group_at keyed place) (part_of hash_of key) inside key) gone (part_of hash_of other) other)
 
     -- The groups without the key are an array of one key less.
-    pub IsHs-removed : (after : Keyed) → IsMade hash_of longest after (remove (map_of hash_of longest keyed) key) → (value : ℕ) → get (map_of hash_of longest keyed) key ≡ Some value → IsHs hash_of longest limit (count - 1) after
+    pub IsHs-removed : (after : Keyed) → IsMade hash_of longest after (remove (map_of hash_of longest keyed) key) → (value : ℕ) → get (map_of hash_of longest keyed) key ≡ Some value →
+        IsHs hash_of longest limit (count - 1) after
     IsHs-removed after made value held =
         let within = is.within_limit in
         let less : len (map_of hash_of longest after) ≡ len (map_of hash_of longest keyed) - 1 =
-        ap len made.map_is ∙ len-remove byte_order_total (map_of hash_of longest keyed) key ∙ ap (λ (found : Option ℕ). cond (is_some found) (len (map_of hash_of longest keyed) - 1) (len (map_of hash_of longest keyed))) held in
+        ap len made.map_is ∙ len-remove byte_order_total (map_of hash_of longest keyed) key ∙ ap (λ (found : Option ℕ). cond (is_some found)
+        (len (map_of hash_of longest keyed) - 1) (len (map_of hash_of longest keyed))) held in
         record {
           is_keyed = made.is;
           counted = ap (λ n. n - 1) is.counted ∙ sym less;
@@ -190,12 +200,14 @@ group_or_not none = inl tt
 group_or_not (short words) = empty_or_not words.map
 group_or_not (long group) = empty_or_not group.hashes.map
 
-module _ (hash_of : List ℕ → ℕ) (longest limit count : ℕ) (keyed : Keyed) (is : IsHs hash_of longest limit count keyed) (key : List ℕ) (is_key : IsBytesKeyTo longest key) (place : ℕ) (inside : Inside) (spot : IsSpot keyed (part_of hash_of key) key place inside) (after : Keyed)
+module _ (hash_of : List ℕ → ℕ) (longest limit count : ℕ) (keyed : Keyed) (is : IsHs hash_of longest limit count keyed) (key : List ℕ) (is_key : IsBytesKeyTo longest key)
+    (place : ℕ) (inside : Inside) (spot : IsSpot keyed (part_of hash_of key) key place inside) (after : Keyed)
     (kept : (IsEmptyGroup (group_without (group_at keyed place) (part_of hash_of key) inside key) → ⊥) → after ≡ keyed_without keyed place (part_of hash_of key) inside key)
     (emptied : IsEmptyGroup (group_without (group_at keyed place) (part_of hash_of key) inside key) → after ≡ without_group keyed (length key) place) where
   removed_made : IsMade hash_of longest after (remove (map_of hash_of longest keyed) key)
   removed_made = ⊎_elim
-      (λ gone. subst (λ k. IsMade hash_of longest k (remove (map_of hash_of longest keyed) key)) (sym (emptied gone)) (made_emptied hash_of longest limit count keyed is key is_key place inside spot gone))
+      (λ gone. subst (λ k. IsMade hash_of longest k (remove (map_of hash_of longest keyed) key)) (sym (emptied gone))
+      (made_emptied hash_of longest limit count keyed is key is_key place inside spot gone))
       (λ used. subst (λ k. IsMade hash_of longest k (remove (map_of hash_of longest keyed) key)) (sym (kept used)) (made_kept hash_of longest limit count keyed is key is_key place inside spot used))
       (group_or_not (group_without (group_at keyed place) (part_of hash_of key) inside key))
 
@@ -255,7 +267,9 @@ module _ (hash_of : List ℕ → ℕ) (longest limit count : ℕ) (keyed : Keyed
 
   module _ (place : ℕ) (inside : Inside) (spot : IsSpot keyed (part_of hash_of key) key place inside) where
     pub present-some : IsSome (value_inside (group_at keyed place) inside key)
-    present-some = let held = spot-some hash_of longest keyed key is_key place inside spot in ap (λ (found : Option ℕ). is_some found) (sym (spot-value hash_of longest keyed key is_key place inside spot) ∙ held.1)
+    present-some =
+        let held = spot-some hash_of longest keyed key is_key place inside spot in ap (λ (found : Option ℕ). is_some found)
+        (sym (spot-value hash_of longest keyed key is_key place inside spot) ∙ held.1)
 
     pub present-room : IsFalse (is_full (array_of hash_of longest limit keyed) key)
     present-room = let held = spot-some hash_of longest keyed key is_key place inside spot in is_full_present (array_of hash_of longest limit keyed) key held.0 held.1
@@ -277,7 +291,9 @@ module _ (hash_of : List ℕ → ℕ) (longest limit count : ℕ) (keyed : Keyed
     after-hs room = subst (IsHs hash_of longest limit (count + 1)) (sym made) (IsHs-added hash_of longest limit count keyed is key is_key place inside absent new room)
 
     pub after-some : IsSome (value_inside (group_at after place) inside key)
-    after-some = let held = spot-some hash_of longest after key is_key place inside after-spot in ap (λ (found : Option ℕ). is_some found) (sym (spot-value hash_of longest after key is_key place inside after-spot) ∙ held.1)
+    after-some =
+        let held = spot-some hash_of longest after key is_key place inside after-spot in ap (λ (found : Option ℕ). is_some found)
+        (sym (spot-value hash_of longest after key is_key place inside after-spot) ∙ held.1)
 
     pub after-value : (slot : ℕ) → Some slot ≡ value_inside (group_at after place) inside key → Some slot ≡ get (ins (map_of hash_of longest keyed) key) key
     after-value slot e =

@@ -23,7 +23,8 @@ use Rattle.judy_hs.proofs.GroupSteps.{some_none}
 
 IsByteString-low_bytes : (width word : ℕ) → IsByteString (low_bytes width word)
 IsByteString-low_bytes zero word = All-nil (λ byte. byte < 256)
-IsByteString-low_bytes (suc width) word = All-cons (λ byte. byte < 256) (word / 256 ^ width % 256) (low_bytes width word) (mod_below (word / 256 ^ width) 256 (omega arith)) (IsByteString-low_bytes width word)
+IsByteString-low_bytes (suc width) word =
+    All-cons (λ byte. byte < 256) (word / 256 ^ width % 256) (low_bytes width word) (mod_below (word / 256 ^ width) 256 (omega arith)) (IsByteString-low_bytes width word)
 
 held_is : (map : FinMap word_order ℕ) (word : ℕ) → IsTrue (contains_key map word) → (value : ℕ) × (get map word ≡ Some value)
 held_is map word held = elim (get map word) as (λ found. IsTrue (is_some found) → (value : ℕ) × (found ≡ Some value)) [
@@ -36,16 +37,19 @@ holds map word value held = ap (λ (found : Option ℕ). is_some found) held
 
 module _ (hash_of : List ℕ → ℕ) (longest : ℕ) (keyed : Keyed) (is : IsKeyed hash_of longest keyed) where
   -- A key of the map is one whose length leads to the group that holds it.
-  pub key_led : (key : List ℕ) (value : ℕ) → get (map_of hash_of longest keyed) key ≡ Some value → (place : ℕ) × (get keyed.lengths.map (length key) ≡ Some place) × (in_group (group_at keyed place) (part_of hash_of key) key ≡ Some value)
+  pub key_led : (key : List ℕ) (value : ℕ) → get (map_of hash_of longest keyed) key ≡ Some value → (place : ℕ) × (get keyed.lengths.map (length key) ≡ Some place) ×
+      (in_group (group_at keyed place) (part_of hash_of key) key ≡ Some value)
   key_led key value held =
       let found = (table_some (bytes_keys-all longest) (value_of hash_of keyed) key value held).1 in
-      elim (get keyed.lengths.map (length key)) as (λ lead. in_place keyed lead (part_of hash_of key) key ≡ Some value → (place : ℕ) × (lead ≡ Some place) × (in_group (group_at keyed place) (part_of hash_of key) key ≡ Some value)) [
+      elim (get keyed.lengths.map (length key)) as (λ lead. in_place keyed lead (part_of hash_of key) key ≡ Some value →
+      (place : ℕ) × (lead ≡ Some place) × (in_group (group_at keyed place) (part_of hash_of key) key ≡ Some value)) [
         | None ↦ λ no. absurd (some_none value (sym no))
         | Some place ↦ λ yes. (place, refl, yes)
       ] found
 
   -- What a group holds under a length that leads to it is in the map.
-  led_key : (n place : ℕ) → get keyed.lengths.map n ≡ Some place → (key : List ℕ) (value : ℕ) → IsBytesKeyTo longest key → length key ≡ n → in_group (group_at keyed place) (part_of hash_of key) key ≡ Some value → get (map_of hash_of longest keyed) key ≡ Some value
+  led_key : (n place : ℕ) → get keyed.lengths.map n ≡ Some place → (key : List ℕ) (value : ℕ) → IsBytesKeyTo longest key → length key ≡ n →
+      in_group (group_at keyed place) (part_of hash_of key) key ≡ Some value → get (map_of hash_of longest keyed) key ≡ Some value
   led_key n place leads key value is_key has held =
       get-table (bytes_keys-all longest) (value_of hash_of keyed) key is_key ∙ ap (λ lead. in_place keyed lead (part_of hash_of key) key) (ap (get keyed.lengths.map) has ∙ leads) ∙ held
 
@@ -97,7 +101,8 @@ module _ (hash_of : List ℕ → ℕ) (longest : ℕ) (keyed : Keyed) (is : IsKe
               (ap (λ group. in_group group (part_of hash_of key) key) at ∙ ap (λ found. in_chain group found key) (ap (get group.hashes.map) (part_long hash_of key long_key ∙ of.2) ∙ e) ∙ pair.2),
         )
 
-    key_hash : (word : ℕ) → ((key : List ℕ) × (value : ℕ) × (length key ≡ n) × (hash_of key ≡ word) × (get (map_of hash_of longest keyed) key ≡ Some value)) → IsTrue (contains_key group.hashes.map word)
+    key_hash : (word : ℕ) → ((key : List ℕ) × (value : ℕ) × (length key ≡ n) × (hash_of key ≡ word) × (get (map_of hash_of longest keyed) key ≡ Some value)) →
+        IsTrue (contains_key group.hashes.map word)
     key_hash word found =
         let key = found.0 in
         let many = kept.many in
@@ -107,7 +112,8 @@ module _ (hash_of : List ℕ → ℕ) (longest : ℕ) (keyed : Keyed) (is : IsKe
         let same : Some led.0 ≡ Some place = sym led.1 ∙ ap (get keyed.lengths.map) has ∙ leads in
         let here : led.0 ≡ place = cc in
         let held : in_chain group (get group.hashes.map word) key ≡ Some found.1 =
-        ap (λ w. in_chain group (get group.hashes.map w) key) (sym (part_long hash_of key long_key ∙ found.3)) ∙ ap (λ group. in_group group (part_of hash_of key) key) (sym (ap (group_at keyed) here ∙ at)) ∙ led.2 in
+        ap (λ w. in_chain group (get group.hashes.map w) key) (sym (part_long hash_of key long_key ∙ found.3)) ∙
+        ap (λ group. in_group group (part_of hash_of key) key) (sym (ap (group_at keyed) here ∙ at)) ∙ led.2 in
         elim (get group.hashes.map word) as (λ lead. in_chain group lead key ≡ Some found.1 → IsTrue (is_some lead)) [
           | None ↦ λ no. absurd (some_none found.1 (sym no))
           | Some held ↦ λ yes. refl
@@ -146,15 +152,18 @@ module _ (hash_of : List ℕ → ℕ) (longest : ℕ) (keyed : Keyed) (is : IsKe
     λ found. let lead = has_led n found in subst (λ l. IsSome (words_at keyed l)) (sym lead.1) (words_some n (group_at keyed lead.0) (is.groups n lead.0 lead.1)),
   )
 
-  short_form : (n place : ℕ) → get keyed.lengths.map n ≡ Some place → n ≤ 8 → (group : Group) → group_at keyed place ≡ group → IsGroup hash_of n group → IfSome (words_of group) (λ words. IsShortGroup (map_of hash_of longest keyed) n words.map)
+  short_form : (n place : ℕ) → get keyed.lengths.map n ≡ Some place → n ≤ 8 → (group : Group) → group_at keyed place ≡ group → IsGroup hash_of n group →
+      IfSome (words_of group) (λ words. IsShortGroup (map_of hash_of longest keyed) n words.map)
   short_form n place leads few none at kept = tt
   short_form n place leads few (short words) at kept = λ word value. (word_key n place leads words at kept word value, key_word n place leads words at kept word value)
   short_form n place leads few (long group) at kept = absurd (let many = kept.many in omega arith)
 
-  long_form : (n place : ℕ) → get keyed.lengths.map n ≡ Some place → 8 < n → (group : Group) → group_at keyed place ≡ group → IsGroup hash_of n group → IfSome (words_of group) (λ words. IsLongGroup hash_of (map_of hash_of longest keyed) n words.map)
+  long_form : (n place : ℕ) → get keyed.lengths.map n ≡ Some place → 8 < n → (group : Group) → group_at keyed place ≡ group → IsGroup hash_of n group →
+      IfSome (words_of group) (λ words. IsLongGroup hash_of (map_of hash_of longest keyed) n words.map)
   long_form n place leads many none at kept = tt
   long_form n place leads many (short words) at kept = absurd (let few = kept.few in omega arith)
-  long_form n place leads many (long group) at kept = λ word. (λ held. let lead = held_is group.hashes.map word held in hash_key n place leads group at kept word lead.0 lead.1, key_hash n place leads group at kept word)
+  long_form n place leads many (long group) at kept =
+      λ word. (λ held. let lead = held_is group.hashes.map word held in hash_key n place leads group at kept word lead.0 lead.1, key_hash n place leads group at kept word)
 
   pub group-short : (n : ℕ) → n ≤ 8 → IfSome (words_at keyed (get keyed.lengths.map n)) (λ words. IsShortGroup (map_of hash_of longest keyed) n words.map)
   group-short n few = elim (get keyed.lengths.map n) as (λ lead. get keyed.lengths.map n ≡ lead → IfSome (words_at keyed lead) (λ words. IsShortGroup (map_of hash_of longest keyed) n words.map)) [
@@ -163,10 +172,11 @@ module _ (hash_of : List ℕ → ℕ) (longest : ℕ) (keyed : Keyed) (is : IsKe
   ] refl
 
   pub group-long : (n : ℕ) → 8 < n → IfSome (words_at keyed (get keyed.lengths.map n)) (λ words. IsLongGroup hash_of (map_of hash_of longest keyed) n words.map)
-  group-long n many = elim (get keyed.lengths.map n) as (λ lead. get keyed.lengths.map n ≡ lead → IfSome (words_at keyed lead) (λ words. IsLongGroup hash_of (map_of hash_of longest keyed) n words.map)) [
-    | None ↦ λ e. tt
-    | Some place ↦ λ e. long_form n place e many (group_at keyed place) refl (is.groups n place e)
-  ] refl
+  group-long n many =
+      elim (get keyed.lengths.map n) as (λ lead. get keyed.lengths.map n ≡ lead → IfSome (words_at keyed lead) (λ words. IsLongGroup hash_of (map_of hash_of longest keyed) n words.map)) [
+        | None ↦ λ e. tt
+        | Some place ↦ λ e. long_form n place e many (group_at keyed place) refl (is.groups n place e)
+      ] refl
 
 module _ (hash_of : List ℕ → ℕ) (longest : ℕ) (keyed : Keyed) (is : IsKeyed hash_of longest keyed) where
   of_length : (group : Group) (n : ℕ) (key : List ℕ) → IsGroup hash_of n group → length key ≡ n → IsOfLength group key

@@ -47,18 +47,17 @@ module _ (hash_of : List ℕ → ℕ) (longest : ℕ) where
     pub is : IsKeyed hash_of longest keyed
     pub map_is : map_of hash_of longest keyed ≡ map
 
-  bytes_of : (key : List ℕ) → IsBytesKeyTo longest key → IsByteString key
-  bytes_of key is = is.is_byte_string
-
   module _ (keyed : Keyed) (is : IsKeyed hash_of longest keyed) (key : List ℕ) (is_key : IsBytesKeyTo longest key) where
     other_of : (other : List ℕ) → IsBytesKeyTo longest other → (other ≡ key → ⊥) → length other ≡ length key → IsOther hash_of key is_key.is_byte_string other
     other_of other also differ same = record { other_bytes = also.is_byte_string; same_length = same; differs = λ e. differ (sym e) }
 
     -- The map of groups that differ at the key alone.
-    written : (after : Keyed) (value : ℕ) → value_of hash_of after key ≡ Some value → ((other : List ℕ) → IsBytesKeyTo longest other → (other ≡ key → ⊥) → value_of hash_of after other ≡ value_of hash_of keyed other) → map_of hash_of longest after ≡ insert (map_of hash_of longest keyed) key value
+    written : (after : Keyed) (value : ℕ) → value_of hash_of after key ≡ Some value → ((other : List ℕ) → IsBytesKeyTo longest other → (other ≡ key → ⊥) →
+        value_of hash_of after other ≡ value_of hash_of keyed other) → map_of hash_of longest after ≡ insert (map_of hash_of longest keyed) key value
     written after value here others = table_insert (bytes_keys-all longest) (value_of hash_of keyed) (value_of hash_of after) key value is_key here others
 
-    removed : (after : Keyed) → value_of hash_of after key ≡ None → ((other : List ℕ) → IsBytesKeyTo longest other → (other ≡ key → ⊥) → value_of hash_of after other ≡ value_of hash_of keyed other) → map_of hash_of longest after ≡ remove (map_of hash_of longest keyed) key
+    removed : (after : Keyed) → value_of hash_of after key ≡ None → ((other : List ℕ) → IsBytesKeyTo longest other → (other ≡ key → ⊥) →
+        value_of hash_of after other ≡ value_of hash_of keyed other) → map_of hash_of longest after ≡ remove (map_of hash_of longest keyed) key
     removed after here others = table_remove (bytes_keys-all longest) (value_of hash_of keyed) (value_of hash_of after) key (λ _. here) others
 
     -- ---- another group at the place of the key's group
@@ -74,17 +73,27 @@ module _ (hash_of : List ℕ → ℕ) (longest : ℕ) where
           place_is (record keyed { groups = set keyed.groups place new }) (get keyed.lengths.map (length key)) key
           ∙ through-set none held Good never keyed.lengths.map keyed.groups (two_of keyed is) (length key) place leads within new key
 
-      value-set_other : IsStep hash_of key is_key.is_byte_string (group_at keyed place) new → (other : List ℕ) → IsBytesKeyTo longest other → (other ≡ key → ⊥) → value_of hash_of (record keyed { groups = set keyed.groups place new }) other ≡ value_of hash_of keyed other
+      value-set_other : IsStep hash_of key is_key.is_byte_string (group_at keyed place) new → (other : List ℕ) → IsBytesKeyTo longest other → (other ≡ key → ⊥) →
+          value_of hash_of (record keyed { groups = set keyed.groups place new }) other ≡ value_of hash_of keyed other
       value-set_other step other also differ =
           place_is (record keyed { groups = set keyed.groups place new }) (get keyed.lengths.map (length other)) other
-          ∙ through-set_at none held Good never keyed.lengths.map keyed.groups (two_of keyed is) (length key) place leads within new (length other) other (λ same. step.others other (other_of other also differ same))
+          ∙ through-set_at none held Good never keyed.lengths.map keyed.groups (two_of keyed is) (length key) place leads within new (length other) other
+          (λ same. step.others other (other_of other also differ same))
           ∙ sym (place_is keyed (get keyed.lengths.map (length other)) other)
 
-      pub made-set : (value : ℕ) → IsChanged hash_of key is_key.is_byte_string (group_at keyed place) new (Some value) → IsMade (record keyed { groups = set keyed.groups place new }) (insert (map_of hash_of longest keyed) key value)
-      made-set value changed = record { is = IsKeyed-set changed.is; map_is = written (record keyed { groups = set keyed.groups place new }) value (value-set ∙ changed.here) (value-set_other changed.step) }
+      pub made-set : (value : ℕ) → IsChanged hash_of key is_key.is_byte_string (group_at keyed place) new (Some value) →
+          IsMade (record keyed { groups = set keyed.groups place new }) (insert (map_of hash_of longest keyed) key value)
+      made-set value changed = record {
+        is = IsKeyed-set changed.is;
+        map_is = written (record keyed { groups = set keyed.groups place new }) value (value-set ∙ changed.here) (value-set_other changed.step);
+      }
 
-      pub made-without : IsShrunk hash_of key is_key.is_byte_string (group_at keyed place) new → (IsEmptyGroup new → ⊥) → IsMade (record keyed { groups = set keyed.groups place new }) (remove (map_of hash_of longest keyed) key)
-      made-without shrunk used = record { is = IsKeyed-set (shrunk.kept used); map_is = removed (record keyed { groups = set keyed.groups place new }) (value-set ∙ shrunk.here) (value-set_other shrunk.step) }
+      pub made-without : IsShrunk hash_of key is_key.is_byte_string (group_at keyed place) new → (IsEmptyGroup new → ⊥) →
+          IsMade (record keyed { groups = set keyed.groups place new }) (remove (map_of hash_of longest keyed) key)
+      made-without shrunk used = record {
+        is = IsKeyed-set (shrunk.kept used);
+        map_is = removed (record keyed { groups = set keyed.groups place new }) (value-set ∙ shrunk.here) (value-set_other shrunk.step);
+      }
 
     -- ---- a group of the key alone, put at a free place
 
@@ -144,22 +153,26 @@ module _ (hash_of : List ℕ → ℕ) (longest : ℕ) where
         chains = λ hash place e.
             let at = one_place place hash e in
             subst (λ h. IsChain hash_of (length key) h (get_or (((key, 0) ∷ []) ∷ []) place [])) (sym at.0)
-            (subst (λ p. IsChain hash_of (length key) (part_of hash_of key) (get_or (((key, 0) ∷ []) ∷ []) p [])) (sym at.1) (chain_of_one hash_of key is_key.is_byte_string (part_of hash_of key) (sym (part_long hash_of key many))));
+            (subst (λ p. IsChain hash_of (length key) (part_of hash_of key) (get_or (((key, 0) ∷ []) ∷ []) p [])) (sym at.1)
+            (chain_of_one hash_of key is_key.is_byte_string (part_of hash_of key) (sym (part_long hash_of key many))));
       };
       there = record { leads = word_one; within = omega arith; is_there = some_is (value_in ((key, 0) ∷ []) key) 0 (value_in-head key 0 []) };
     }
 
     one : IsOne (one_group (part_of hash_of key) key) (one_inside (part_of hash_of key) key)
     one = ⊎_elim
-        (λ (few : length key ≤ 8). subst (λ b. IsOne (cond b (short (one_word (part_of hash_of key) 0)) (long (one_long (part_of hash_of key) key))) (cond b (Word (part_of hash_of key)) (Chained 0))) (sym (le-leb (length key) 8 few)) (short_one few))
-        (λ (many : 8 < length key). subst (λ b. IsOne (cond b (short (one_word (part_of hash_of key) 0)) (long (one_long (part_of hash_of key) key))) (cond b (Word (part_of hash_of key)) (Chained 0))) (sym (lt-leb (length key) 8 many)) (long_one many))
+        (λ (few : length key ≤ 8). subst (λ b. IsOne (cond b (short (one_word (part_of hash_of key) 0)) (long (one_long (part_of hash_of key) key)))
+        (cond b (Word (part_of hash_of key)) (Chained 0))) (sym (le-leb (length key) 8 few)) (short_one few))
+        (λ (many : 8 < length key). subst (λ b. IsOne (cond b (short (one_word (part_of hash_of key) 0)) (long (one_long (part_of hash_of key) key)))
+        (cond b (Word (part_of hash_of key)) (Chained 0))) (sym (lt-leb (length key) 8 many)) (long_one many))
         (⊎_elim (λ e. inl (omega arith)) (λ apart. ⊎_elim (λ less. inl (omega arith)) (λ more. inr more) apart) (cases_order (length key) 8))
 
     pub record IsPut (after : Keyed) (place : ℕ) (inside : Inside) : Type 0 where
       pub made : IsMade after (insert (map_of hash_of longest keyed) key 0)
       pub spot : IsSpot after (part_of hash_of key) key place inside
 
-    pub put-group : (place : ℕ) → get keyed.lengths.map (length key) ≡ None → IsFreeGroup keyed.groups place → IsPut (with_group keyed (part_of hash_of key) key place) place (one_inside (part_of hash_of key) key)
+    pub put-group : (place : ℕ) → get keyed.lengths.map (length key) ≡ None → IsFreeGroup keyed.groups place →
+        IsPut (with_group keyed (part_of hash_of key) key place) place (one_inside (part_of hash_of key) key)
     put-group place absent free =
         let new = one_group (part_of hash_of key) key in
         let after = with_group keyed (part_of hash_of key) key place in
@@ -172,7 +185,8 @@ module _ (hash_of : List ℕ → ℕ) (longest : ℕ) where
                 ∙ through-put none held Good never keyed.lengths.map keyed.groups (two_of keyed is) (length key) place absent free.within free.no_group new key
                 ∙ one.here)
                 (λ other also differ. place_is after (get (insert keyed.lengths.map (length key) place) (length other)) other
-                ∙ through-put_other none held Good never keyed.lengths.map keyed.groups (two_of keyed is) (length key) place absent free.within free.no_group new (length other) other (λ same. one.others other (other_of other also differ same))
+                ∙ through-put_other none held Good never keyed.lengths.map keyed.groups (two_of keyed is) (length key) place absent free.within free.no_group new
+                (length other) other (λ same. one.others other (other_of other also differ same))
                 ∙ sym (place_is keyed (get keyed.lengths.map (length other)) other));
           };
           spot = record {
@@ -184,7 +198,8 @@ module _ (hash_of : List ℕ → ℕ) (longest : ℕ) where
 
     -- ---- a group taken away
 
-    pub made-gone : (place : ℕ) → get keyed.lengths.map (length key) ≡ Some place → ((other : List ℕ) → IsOther hash_of key is_key.is_byte_string other → held (group_at keyed place) other ≡ None) → IsMade (without_group keyed (length key) place) (remove (map_of hash_of longest keyed) key)
+    pub made-gone : (place : ℕ) → get keyed.lengths.map (length key) ≡ Some place → ((other : List ℕ) → IsOther hash_of key is_key.is_byte_string other →
+        held (group_at keyed place) other ≡ None) → IsMade (without_group keyed (length key) place) (remove (map_of hash_of longest keyed) key)
     made-gone place leads alone =
         let after = without_group keyed (length key) place in
         let both = two-gone none held Good never keyed.lengths.map keyed.groups (two_of keyed is) (length key) place leads in
@@ -194,6 +209,7 @@ module _ (hash_of : List ℕ → ℕ) (longest : ℕ) where
               (place_is after (get (remove keyed.lengths.map (length key)) (length key)) key
               ∙ through-gone none held Good never keyed.lengths.map keyed.groups (two_of keyed is) (length key) place leads key)
               (λ other also differ. place_is after (get (remove keyed.lengths.map (length key)) (length other)) other
-              ∙ through-gone_other none held Good never keyed.lengths.map keyed.groups (two_of keyed is) (length key) place leads (length other) other (λ same. alone other (other_of other also differ same))
+              ∙ through-gone_other none held Good never keyed.lengths.map keyed.groups (two_of keyed is) (length key) place leads (length other) other
+              (λ same. alone other (other_of other also differ same))
               ∙ sym (place_is keyed (get keyed.lengths.map (length other)) other));
         }

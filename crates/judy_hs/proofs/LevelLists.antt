@@ -43,7 +43,8 @@ find_later word entry rest differ =
 pub find_below : (word : ℕ) (rest : List (ℕ × ℕ)) → T (below_all word_order word rest) → find word_order word rest ≡ None
 find_below word [] below = refl
 find_below word (entry ∷ rest) below =
-    ap (λ b. cond b (Some entry.1) (find word_order word rest)) (not_tied (word_order word entry.0) (is_Less (word_order word entry.0) (left_of (is_lt (word_order word entry.0)) (below_all word_order word rest) below)))
+    ap (λ b. cond b (Some entry.1) (find word_order word rest)) (not_tied (word_order word entry.0) (is_Less (word_order word entry.0)
+    (left_of (is_lt (word_order word entry.0)) (below_all word_order word rest) below)))
     ∙ find_below word rest (right_of (is_lt (word_order word entry.0)) (below_all word_order word rest) below)
 
 -- One that is below all is below each that is found.
@@ -61,7 +62,8 @@ rest_sorted : (entry : ℕ × ℕ) (rest : List (ℕ × ℕ)) → T (is_sorted w
 rest_sorted entry rest sorted = right_of (below_all word_order entry.0 rest) (is_sorted word_order rest) sorted
 
 -- What is found among the rest is found among all.
-found_later : (entry : ℕ × ℕ) (rest : List (ℕ × ℕ)) → T (is_sorted word_order (entry ∷ rest)) → (word place : ℕ) → find word_order word rest ≡ Some place → find word_order word (entry ∷ rest) ≡ Some place
+found_later : (entry : ℕ × ℕ) (rest : List (ℕ × ℕ)) → T (is_sorted word_order (entry ∷ rest)) → (word place : ℕ) → find word_order word rest ≡ Some place →
+    find word_order word (entry ∷ rest) ≡ Some place
 found_later entry rest sorted word place is = ⊎_elim
     (λ (same : word ≡ entry.0). absurd (none-some place (sym (find_below entry.0 rest (first_below entry rest sorted)) ∙ ap (λ w. find word_order w rest) (sym same) ∙ is)))
     (λ differ. find_later word entry rest differ ∙ is)
@@ -100,14 +102,16 @@ apart_append (pair ∷ rest) back one other never = (
 -- ---- order
 
 -- A key is below pairs where it is below each key that is found among them.
-pub below_found_keys : (order : List ℕ → List ℕ → Ordering) (key : List ℕ) (pairs : Pairs) → ((other : List ℕ) (value : ℕ) → value_in pairs other ≡ Some value → order key other ≡ Less) → T (below_all order key pairs)
+pub below_found_keys : (order : List ℕ → List ℕ → Ordering) (key : List ℕ) (pairs : Pairs) → ((other : List ℕ) (value : ℕ) → value_in pairs other ≡ Some value → order key other ≡ Less) →
+    T (below_all order key pairs)
 below_found_keys order key [] each = tt
 below_found_keys order key (pair ∷ rest) each =
     both (is_lt (order key pair.0)) (below_all order key rest) (less_holds (order key pair.0) (each pair.0 pair.1 (value_in-here pair rest pair.0 refl)))
     (below_found_keys order key rest (λ other value is. let found = still_found pair rest other value is in each other found.0 found.1))
 
 -- It is below each of them.
-found_above : (order : List ℕ → List ℕ → Ordering) (key : List ℕ) (pairs : Pairs) → T (below_all order key pairs) → (other : List ℕ) (value : ℕ) → value_in pairs other ≡ Some value → order key other ≡ Less
+found_above : (order : List ℕ → List ℕ → Ordering) (key : List ℕ) (pairs : Pairs) → T (below_all order key pairs) → (other : List ℕ) (value : ℕ) →
+    value_in pairs other ≡ Some value → order key other ≡ Less
 found_above order key [] below other value is = absurd (none-some value is)
 found_above order key (pair ∷ rest) below other value is = elim (bytes_cases pair.0 other) [
   | inl same ↦ ap (order key) (sym same) ∙ is_Less (order key pair.0) (left_of (is_lt (order key pair.0)) (below_all order key rest) below)
@@ -117,17 +121,21 @@ found_above order key (pair ∷ rest) below other value is = elim (bytes_cases p
 below_append : (order : List ℕ → List ℕ → Ordering) (key : List ℕ) (front back : Pairs) → T (below_all order key front) → T (below_all order key back) → T (below_all order key (front ++ back))
 below_append order key [] back one other = other
 below_append order key (pair ∷ rest) back one other =
-    both (is_lt (order key pair.0)) (below_all order key (rest ++ back)) (left_of (is_lt (order key pair.0)) (below_all order key rest) one) (below_append order key rest back (right_of (is_lt (order key pair.0)) (below_all order key rest) one) other)
+    both (is_lt (order key pair.0)) (below_all order key (rest ++ back)) (left_of (is_lt (order key pair.0)) (below_all order key rest) one)
+    (below_append order key rest back (right_of (is_lt (order key pair.0)) (below_all order key rest) one) other)
 
-sorted_append : (order : List ℕ → List ℕ → Ordering) (front back : Pairs) → T (is_sorted order front) → T (is_sorted order back) → ((key : List ℕ) (value : ℕ) → value_in front key ≡ Some value → T (below_all order key back)) → T (is_sorted order (front ++ back))
+sorted_append : (order : List ℕ → List ℕ → Ordering) (front back : Pairs) → T (is_sorted order front) → T (is_sorted order back) →
+    ((key : List ℕ) (value : ℕ) → value_in front key ≡ Some value → T (below_all order key back)) → T (is_sorted order (front ++ back))
 sorted_append order [] back one other each = other
 sorted_append order (pair ∷ rest) back one other each =
     both (below_all order pair.0 (rest ++ back)) (is_sorted order (rest ++ back))
     (below_append order pair.0 rest back (left_of (below_all order pair.0 rest) (is_sorted order rest) one) (each pair.0 pair.1 (value_in-here pair rest pair.0 refl)))
-    (sorted_append order rest back (right_of (below_all order pair.0 rest) (is_sorted order rest) one) other (λ key value is. let found = still_found pair rest key value is in each key found.0 found.1))
+    (sorted_append order rest back (right_of (below_all order pair.0 rest) (is_sorted order rest) one) other
+    (λ key value is. let found = still_found pair rest key value is in each key found.0 found.1))
 
 -- Keys of one length are in the order of a dump where they are in that of their bytes.
-pub sorted_by_length : (key_length : ℕ) (pairs : Pairs) → T (is_sorted byte_order pairs) → ((key : List ℕ) (value : ℕ) → value_in pairs key ≡ Some value → length key ≡ key_length) → T (is_sorted length_order pairs)
+pub sorted_by_length : (key_length : ℕ) (pairs : Pairs) → T (is_sorted byte_order pairs) → ((key : List ℕ) (value : ℕ) → value_in pairs key ≡ Some value → length key ≡ key_length) →
+    T (is_sorted length_order pairs)
 sorted_by_length key_length [] sorted long = tt
 sorted_by_length key_length (pair ∷ rest) sorted long =
     let here = long pair.0 pair.1 (value_in-here pair rest pair.0 refl) in
@@ -165,7 +173,8 @@ module _ (part : ℕ × ℕ → Pairs) (tell : List ℕ → ℕ) where
     missed : (key : List ℕ) → value_in (part entry) key ≡ None → led (find word_order (tell key) (entry ∷ rest)) key ≡ led (find word_order (tell key) rest) key
     missed key absent = ⊎_elim
         (λ (same : tell key ≡ entry.0).
-        ap (λ (found : Option ℕ). led found key) (ap (λ w. find word_order w (entry ∷ rest)) same ∙ find_here entry rest) ∙ ap (λ w. value_in (part (w, entry.1)) key) same ∙ absent ∙ sym (not_later key same))
+        ap (λ (found : Option ℕ). led found key) (ap (λ w. find word_order w (entry ∷ rest)) same ∙ find_here entry rest) ∙ ap (λ w. value_in (part (w, entry.1)) key) same ∙
+        absent ∙ sym (not_later key same))
         (λ differ. ap (λ (found : Option ℕ). led found key) (find_later (tell key) entry rest differ))
         (same_or_not (tell key) entry.0)
 
@@ -174,7 +183,8 @@ module _ (part : ℕ × ℕ → Pairs) (tell : List ℕ → ℕ) where
         let same = here_tells key value is in
         ap (λ (found : Option ℕ). led found key) (ap (λ w. find word_order w (entry ∷ rest)) same ∙ find_here entry rest) ∙ ap (λ w. value_in (part (w, entry.1)) key) same ∙ is
 
-  value_first : (entry : ℕ × ℕ) (rest : List (ℕ × ℕ)) (sorted : T (is_sorted word_order (entry ∷ rest))) (tells : Tells (entry ∷ rest)) (key : List ℕ) → value_in (flat_map part rest) key ≡ led (find word_order (tell key) rest) key
+  value_first : (entry : ℕ × ℕ) (rest : List (ℕ × ℕ)) (sorted : T (is_sorted word_order (entry ∷ rest))) (tells : Tells (entry ∷ rest)) (key : List ℕ) →
+      value_in (flat_map part rest) key ≡ led (find word_order (tell key) rest) key
       → (found : Option ℕ) → value_in (part entry) key ≡ found → value_in (part entry ++ flat_map part rest) key ≡ led (find word_order (tell key) (entry ∷ rest)) key
   value_first entry rest sorted tells key later None is = append_none (part entry) (flat_map part rest) key is ∙ later ∙ sym (missed entry rest sorted tells key is)
   value_first entry rest sorted tells key later (Some value) is = append_some (part entry) (flat_map part rest) key value is ∙ sym (held entry rest sorted tells key value is)
@@ -186,7 +196,8 @@ module _ (part : ℕ × ℕ → Pairs) (tell : List ℕ → ℕ) where
       value_first entry rest sorted tells key (value_levels rest (rest_sorted entry rest sorted) (later_tells entry rest sorted tells) key) (value_in (part entry) key) refl
 
   -- No key is in two parts.
-  pub apart_levels : (entries : List (ℕ × ℕ)) → T (is_sorted word_order entries) → Tells entries → ((word place : ℕ) → find word_order word entries ≡ Some place → AreApart (part (word, place))) → AreApart (flat_map part entries)
+  pub apart_levels : (entries : List (ℕ × ℕ)) → T (is_sorted word_order entries) → Tells entries → ((word place : ℕ) → find word_order word entries ≡ Some place →
+      AreApart (part (word, place))) → AreApart (flat_map part entries)
   apart_levels [] sorted tells each = tt
   apart_levels (entry ∷ rest) sorted tells each =
       apart_append (part entry) (flat_map part rest) (each entry.0 entry.1 (find_here entry rest))
@@ -199,11 +210,13 @@ module _ (part : ℕ × ℕ → Pairs) (tell : List ℕ → ℕ) where
   led_by None key value is = absurd (none-some value is)
   led_by (Some place) key value is = (place, refl, is)
 
-  pub found_levels : (entries : List (ℕ × ℕ)) → T (is_sorted word_order entries) → Tells entries → (key : List ℕ) (value : ℕ) → value_in (flat_map part entries) key ≡ Some value → (place : ℕ) × (find word_order (tell key) entries ≡ Some place) × (value_in (part (tell key, place)) key ≡ Some value)
+  pub found_levels : (entries : List (ℕ × ℕ)) → T (is_sorted word_order entries) → Tells entries → (key : List ℕ) (value : ℕ) → value_in (flat_map part entries) key ≡ Some value →
+      (place : ℕ) × (find word_order (tell key) entries ≡ Some place) × (value_in (part (tell key, place)) key ≡ Some value)
   found_levels entries sorted tells key value is = led_by (find word_order (tell key) entries) key value (sym (value_levels entries sorted tells key) ∙ is)
 
 -- Parts of keys of ascending lengths, each in the order of their bytes, are in the order of a dump.
-pub sorted_levels : (part : ℕ × ℕ → Pairs) (entries : List (ℕ × ℕ)) → T (is_sorted word_order entries) → Tells part length entries → ((word place : ℕ) → find word_order word entries ≡ Some place → T (is_sorted byte_order (part (word, place)))) → T (is_sorted length_order (flat_map part entries))
+pub sorted_levels : (part : ℕ × ℕ → Pairs) (entries : List (ℕ × ℕ)) → T (is_sorted word_order entries) → Tells part length entries →
+    ((word place : ℕ) → find word_order word entries ≡ Some place → T (is_sorted byte_order (part (word, place)))) → T (is_sorted length_order (flat_map part entries))
 sorted_levels part [] sorted tells each = tt
 sorted_levels part (entry ∷ rest) sorted tells each =
     let later = later_tells part length entry rest sorted tells in
@@ -212,5 +225,6 @@ sorted_levels part (entry ∷ rest) sorted tells each =
     (sorted_levels part rest (rest_sorted entry rest sorted) later (λ word place is. each word place (found_later entry rest sorted word place is)))
     (λ key value is. below_found_keys length_order key (flat_map part rest) (λ other worth there.
     let found = found_levels part length rest (rest_sorted entry rest sorted) later other worth there in
-    let shorter = ap (λ n. word_order n (length other)) (here_tells part length entry rest sorted tells key value is) ∙ below_found entry.0 (length other) found.0 rest (first_below entry rest sorted) found.1 in
+    let shorter = ap (λ n. word_order n (length other)) (here_tells part length entry rest sorted tells key value is) ∙
+    below_found entry.0 (length other) found.0 rest (first_below entry rest sorted) found.1 in
     ap (λ r. ordering_then r (byte_order key other)) shorter))

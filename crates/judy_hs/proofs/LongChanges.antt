@@ -13,7 +13,8 @@ use Rattle.judy_hs.specs.LongRecords.{others_at, all_pairs, IsKeyOf, IsSpelled, 
 use Rattle.judy_hs.proofs.ChainLemmas.{bytes_itself, bytes_apart, value_in-here, value_in-later}
 use Rattle.judy_hs.proofs.LongLemmas.{at-held, long_of, pairs-changed, spot-within, changed-kept, beside-kept, beside-changed}
 
-module _ (hashes : ArrayOf word_order) (key_length : ℕ) (chains : BTreeMap ℕ Pairs) (records : RecordList) (are : AreLongRecords hashes.map key_length chains records) (place : ℕ) (is : IsHeld (spot_at records place)) where
+module _ (hashes : ArrayOf word_order) (key_length : ℕ) (chains : BTreeMap ℕ Pairs) (records : RecordList) (are : AreLongRecords hashes.map key_length chains records)
+    (place : ℕ) (is : IsHeld (spot_at records place)) where
   -- The key and the value of the record there.
   abbrev spelled : List ℕ
   spelled = bytes_in key_length (text_of (spot_at records place))
@@ -44,12 +45,16 @@ module _ (hashes : ArrayOf word_order) (key_length : ℕ) (chains : BTreeMap ℕ
     valued-spot (held old text) stands good = good
 
     pub value-kept : AreLongRecords hashes.map key_length chains (with_record_value records place new)
-    value-kept = changed-kept hashes.map key_length chains records are place is chains (λ at apart. refl) (are.keys place) (held new (text_of (spot_at records place))) tt (valued-spot (spot_at records place) is (are.spelled place))
+    value-kept =
+        changed-kept hashes.map key_length chains records are place is chains (λ at apart. refl) (are.keys place) (held new (text_of (spot_at records place))) tt
+        (valued-spot (spot_at records place) is (are.spelled place))
 
     pub value-written : long_of hashes key_length chains (with_record_value records place new) ≡ long_with (long_of hashes key_length chains records) place key new
     value-written = alike _ _
-        (pairs-changed key_length chains chains records place (spot-within hashes.map key_length chains records are place is chains (λ at apart. refl) (are.keys place)) (held new (text_of (spot_at records place))) (λ at apart. refl)
-        ∙ ap (λ b. set (all_pairs key_length chains records) place (cond b ((spelled, new) ∷ others_at chains place) ((spelled, value) ∷ with_value (others_at chains place) key new))) (sym (ap (bytes_eq spelled) (sym own) ∙ bytes_itself spelled))
+        (pairs-changed key_length chains chains records place (spot-within hashes.map key_length chains records are place is chains (λ at apart. refl) (are.keys place))
+        (held new (text_of (spot_at records place))) (λ at apart. refl)
+        ∙ ap (λ b. set (all_pairs key_length chains records) place (cond b ((spelled, new) ∷ others_at chains place) ((spelled, value) ∷ with_value (others_at chains place) key new)))
+        (sym (ap (bytes_eq spelled) (sym own) ∙ bytes_itself spelled))
         ∙ ap (λ (pairs : Pairs). set (all_pairs key_length chains records) place (with_value pairs key new)) (sym (at-held key_length chains records place is)))
 
   -- and else beside it.
@@ -58,22 +63,27 @@ module _ (hashes : ArrayOf word_order) (key_length : ℕ) (chains : BTreeMap ℕ
     keys-with new [] all = all
     keys-with new (pair ∷ rest) all = elim (bytes_eq pair.0 key) as (λ b. All (λ pair. IsKeyOf key_length pair.0) (cond b ((pair.0, new) ∷ rest) (pair ∷ with_value rest key new))) [
       | true ↦ All-cons (λ pair. IsKeyOf key_length pair.0) (pair.0, new) rest (All-head (λ pair. IsKeyOf key_length pair.0) pair rest all) (All-tail (λ pair. IsKeyOf key_length pair.0) pair rest all)
-      | false ↦ All-cons (λ pair. IsKeyOf key_length pair.0) pair (with_value rest key new) (All-head (λ pair. IsKeyOf key_length pair.0) pair rest all) (keys-with new rest (All-tail (λ pair. IsKeyOf key_length pair.0) pair rest all))
+      | false ↦ All-cons (λ pair. IsKeyOf key_length pair.0) pair (with_value rest key new) (All-head (λ pair. IsKeyOf key_length pair.0) pair rest all)
+          (keys-with new rest (All-tail (λ pair. IsKeyOf key_length pair.0) pair rest all))
     ]
 
     pub other-kept : (new : ℕ) → others_at after place ≡ with_value (others_at chains place) key new → AreLongRecords hashes.map key_length after records
     other-kept new written = beside-kept hashes.map key_length chains records are place is after same
         (subst (λ (pairs : Pairs). All (λ pair. IsKeyOf key_length pair.0) pairs) (sym written) (keys-with new (others_at chains place) (are.keys place)))
 
-    pub other-written : (new : ℕ) → others_at after place ≡ with_value (others_at chains place) key new → long_of hashes key_length after records ≡ long_with (long_of hashes key_length chains records) place key new
+    pub other-written : (new : ℕ) → others_at after place ≡ with_value (others_at chains place) key new →
+        long_of hashes key_length after records ≡ long_with (long_of hashes key_length chains records) place key new
     other-written new written = alike _ _
-        (beside-changed hashes.map key_length chains records are place is after same (subst (λ (pairs : Pairs). All (λ pair. IsKeyOf key_length pair.0) pairs) (sym written) (keys-with new (others_at chains place) (are.keys place)))
+        (beside-changed hashes.map key_length chains records are place is after same (subst (λ (pairs : Pairs). All (λ pair. IsKeyOf key_length pair.0) pairs)
+        (sym written) (keys-with new (others_at chains place) (are.keys place)))
         ∙ ap (λ (pairs : Pairs). set (all_pairs key_length chains records) place ((spelled, value) ∷ pairs)) written
-        ∙ ap (λ b. set (all_pairs key_length chains records) place (cond b ((spelled, new) ∷ others_at chains place) ((spelled, value) ∷ with_value (others_at chains place) key new))) (sym (bytes_apart spelled key other))
+        ∙ ap (λ b. set (all_pairs key_length chains records) place (cond b ((spelled, new) ∷ others_at chains place) ((spelled, value) ∷ with_value (others_at chains place) key new)))
+        (sym (bytes_apart spelled key other))
         ∙ ap (λ (pairs : Pairs). set (all_pairs key_length chains records) place (with_value pairs key new)) (sym (at-held key_length chains records place is)))
 
   -- Nothing written there leaves the group as it was.
-  pub beside-same : (after : BTreeMap ℕ Pairs) → ((at : ℕ) → others_at after at ≡ others_at chains at) → (long_of hashes key_length after records ≡ long_of hashes key_length chains records) × AreLongRecords hashes.map key_length after records
+  pub beside-same : (after : BTreeMap ℕ Pairs) → ((at : ℕ) → others_at after at ≡ others_at chains at) →
+      (long_of hashes key_length after records ≡ long_of hashes key_length chains records) × AreLongRecords hashes.map key_length after records
   beside-same after same =
       let keys = subst (λ (pairs : Pairs). All (λ pair. IsKeyOf key_length pair.0) pairs) (sym (same place)) (are.keys place) in (
         alike _ _

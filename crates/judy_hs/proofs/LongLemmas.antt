@@ -1,5 +1,6 @@
 -- Groups of long keys: what stands at their places, and what a change at one place makes of them.
-use Rattle.std.proofs.Common.{◌≡◌, ◌≢◌, ◌↔◌, ℕ, zero, suc, ◌+◌, ◌<◌, ◌≤◌, inl, inr, true, false, cond, nat_lt, nat_cmp, Option, unwrap_or, is_some, IsSome, List, [], ◌∷◌, ◌++◌, length, get_or, set, All, refl, sym, ap, ◌∙◌, subst, arith}
+use Rattle.std.proofs.Common.{◌≡◌, ◌≢◌, ◌↔◌, ℕ, zero, suc, ◌+◌, ◌<◌, ◌≤◌, inl, inr, true, false, cond, nat_lt, nat_cmp, Option, unwrap_or, is_some, IsSome, List, [], ◌∷◌, ◌++◌}
+use Rattle.std.proofs.Common.{length, get_or, set, All, refl, sym, ap, ◌∙◌, subst, arith}
 use Rattle.std.specs.BTreeMap.{BTreeMap, btree_map_len, is_at}
 use Rattle.std.specs.Map.{lookup}
 use Rattle.std.specs.FinMap.{FinMap}
@@ -27,7 +28,8 @@ pub key-back : (key_length : ℕ) (key : List ℕ) → IsKeyOf key_length key �
 key-back key_length key is = ap (λ n. bytes_in n (words_of key)) (sym is.1) ∙ bytes-back key is.0
 
 -- A record that spells a key has the words of exactly that one,
-pub spells-key : (key_length : ℕ) (spot : Spot) → IsHeld spot → IsSpelled key_length spot → (key : List ℕ) → IsKeyOf key_length key → (text_of spot ≡ words_of key) ↔ (bytes_in key_length (text_of spot) ≡ key)
+pub spells-key : (key_length : ℕ) (spot : Spot) → IsHeld spot → IsSpelled key_length spot → (key : List ℕ) → IsKeyOf key_length key →
+    (text_of spot ≡ words_of key) ↔ (bytes_in key_length (text_of spot) ≡ key)
 spells-key key_length (free next) is spelled key good = absurd is
 spells-key key_length (held value text) is spelled key good = (
   λ same. ap (bytes_in key_length) same ∙ key-back key_length key good,
@@ -55,7 +57,8 @@ module _ (key_length : ℕ) (chains : BTreeMap ℕ Pairs) where
       let e : suc at + place ≡ at + suc place = omega arith in
       get-from (suc at) rest place ∙ ap (λ n. pairs_of key_length (others_at chains n) (get_or rest place (free 0))) e
 
-  set-from : (at : ℕ) (spots : List Spot) (place : ℕ) (spot : Spot) → pairs_from key_length chains at (set spots place spot) ≡ set (pairs_from key_length chains at spots) place (pairs_of key_length (others_at chains (at + place)) spot)
+  set-from : (at : ℕ) (spots : List Spot) (place : ℕ) (spot : Spot) → pairs_from key_length chains at (set spots place spot) ≡
+      set (pairs_from key_length chains at spots) place (pairs_of key_length (others_at chains (at + place)) spot)
   set-from at [] place spot = refl
   set-from at (first ∷ rest) zero spot = (let e : at ≡ at + 0 = omega arith in ap (λ n. pairs_of key_length (others_at chains n) spot ∷ pairs_from key_length chains (suc at) rest) e)
   set-from at (first ∷ rest) (suc place) spot =
@@ -63,7 +66,8 @@ module _ (key_length : ℕ) (chains : BTreeMap ℕ Pairs) where
       ap (λ (pairs : List Pairs). pairs_of key_length (others_at chains at) first ∷ pairs)
       (set-from (suc at) rest place spot ∙ ap (λ n. set (pairs_from key_length chains (suc at) rest) place (pairs_of key_length (others_at chains n) spot)) e)
 
-  append-from : (at : ℕ) (spots : List Spot) (spot : Spot) → pairs_from key_length chains at (spots ++ spot ∷ []) ≡ pairs_from key_length chains at spots ++ pairs_of key_length (others_at chains (at + length spots)) spot ∷ []
+  append-from : (at : ℕ) (spots : List Spot) (spot : Spot) → pairs_from key_length chains at (spots ++ spot ∷ []) ≡ pairs_from key_length chains at spots ++
+      pairs_of key_length (others_at chains (at + length spots)) spot ∷ []
   append-from at [] spot = (let e : at ≡ at + 0 = omega arith in ap (λ n. pairs_of key_length (others_at chains n) spot ∷ []) e)
   append-from at (first ∷ rest) spot =
       let e : suc at + length rest ≡ at + suc (length rest) = omega arith in
@@ -89,7 +93,8 @@ pairs-put key_length chains records place spot within = elim (cases_lt place (le
       ap (λ b. pairs_from key_length chains 0 (cond b (set records.spots place spot) (records.spots ++ spot ∷ []))) e
       ∙ set-from key_length chains 0 records.spots place spot
       ∙ ap (λ n. set (all_pairs key_length chains records) place (pairs_of key_length (others_at chains n) spot)) (let z : 0 + place ≡ place = omega arith in z)
-      ∙ sym (ap (λ b. cond b (set (all_pairs key_length chains records) place (pairs_of key_length (others_at chains place) spot)) (all_pairs key_length chains records ++ pairs_of key_length (others_at chains place) spot ∷ [])) f)
+      ∙ sym (ap (λ b. cond b (set (all_pairs key_length chains records) place (pairs_of key_length (others_at chains place) spot))
+      (all_pairs key_length chains records ++ pairs_of key_length (others_at chains place) spot ∷ [])) f)
   | inr past ↦
       let e : nat_lt place (length records.spots) ≡ false = le-ltb place (length records.spots) past in
       let f : nat_lt place (length (all_pairs key_length chains records)) ≡ false = ap (nat_lt place) (length-pairs key_length chains records) ∙ e in
@@ -97,7 +102,8 @@ pairs-put key_length chains records place spot within = elim (cases_lt place (le
       ap (λ b. pairs_from key_length chains 0 (cond b (set records.spots place spot) (records.spots ++ spot ∷ []))) e
       ∙ append-from key_length chains 0 records.spots spot
       ∙ ap (λ n. all_pairs key_length chains records ++ pairs_of key_length (others_at chains n) spot ∷ []) end
-      ∙ sym (ap (λ b. cond b (set (all_pairs key_length chains records) place (pairs_of key_length (others_at chains place) spot)) (all_pairs key_length chains records ++ pairs_of key_length (others_at chains place) spot ∷ [])) f)
+      ∙ sym (ap (λ b. cond b (set (all_pairs key_length chains records) place (pairs_of key_length (others_at chains place) spot))
+      (all_pairs key_length chains records ++ pairs_of key_length (others_at chains place) spot ∷ [])) f)
 ]
 
 -- Keys stand exactly where a record does,
@@ -122,9 +128,6 @@ module _ (key_length : ℕ) (chains : BTreeMap ℕ Pairs) (records : RecordList)
     pub is-used : get_or (all_pairs key_length chains records) place [] ≢ []
     is-used none = held-used key_length (others_at chains place) (spot_at records place) is (sym (pairs-at key_length chains records place) ∙ none)
 
-    pub held-within : place < length (all_pairs key_length chains records)
-    held-within = (let inside = held-inside records.spots place is in let long = length-pairs key_length chains records in omega (arith, inside, long))
-
     pub at-held : get_or (all_pairs key_length chains records) place [] ≡ (bytes_in key_length (text_of (spot_at records place)), value_of (spot_at records place)) ∷ others_at chains place
     at-held = pairs-at key_length chains records place ∙ held-pairs key_length (others_at chains place) (spot_at records place) is
 
@@ -141,7 +144,8 @@ own-alone pair others key none some = elim (bytes_cases pair.0 key) [
   | inr differ ↦ absurd (false≢true (sym (ap is_some (value_in-later pair others key differ ∙ ap (λ (pairs : Pairs). value_in pairs key) none)) ∙ some))
 ]
 
-pub own-only : (key_length : ℕ) (chains : BTreeMap ℕ Pairs) (place : ℕ) (spot : Spot) (key : List ℕ) → btree_map_len chains ≡ 0 → IsHeld spot → IsSome (value_in (pairs_of key_length (others_at chains place) spot) key) → bytes_in key_length (text_of spot) ≡ key
+pub own-only : (key_length : ℕ) (chains : BTreeMap ℕ Pairs) (place : ℕ) (spot : Spot) (key : List ℕ) → btree_map_len chains ≡ 0 → IsHeld spot →
+    IsSome (value_in (pairs_of key_length (others_at chains place) spot) key) → bytes_in key_length (text_of spot) ≡ key
 own-only key_length chains place (free next) key none is some = absurd is
 own-only key_length chains place (held value text) key none is some = own-alone (bytes_in key_length text, value) (others_at chains place) key (none-beside chains place none) some
 
@@ -159,7 +163,8 @@ seen-held key_length chains records place seen used =
 
 -- ---- a change at one place
 
-module _ (key_length : ℕ) (chains after : BTreeMap ℕ Pairs) (records : RecordList) (place : ℕ) (within : place < length records.spots) (spot : Spot) (same : (at : ℕ) → at ≢ place → others_at after at ≡ others_at chains at) where
+module _ (key_length : ℕ) (chains after : BTreeMap ℕ Pairs) (records : RecordList) (place : ℕ) (within : place < length records.spots) (spot : Spot)
+    (same : (at : ℕ) → at ≢ place → others_at after at ≡ others_at chains at) where
   pub spot-here : spot_at (with_spot records place spot) place ≡ spot
   spot-here = get_or-set_same records.spots place spot (free 0) within
 
@@ -194,7 +199,8 @@ module _ (key_length : ℕ) (chains after : BTreeMap ℕ Pairs) (records : Recor
             ∙ sym (get_or-set_other (all_pairs key_length chains records) place at new [] apart)
       ]
 
-module _ (hashes : FinMap word_order ℕ) (key_length : ℕ) (chains : BTreeMap ℕ Pairs) (records : RecordList) (are : AreLongRecords hashes key_length chains records) (place : ℕ) (is : IsHeld (spot_at records place))
+module _ (hashes : FinMap word_order ℕ) (key_length : ℕ) (chains : BTreeMap ℕ Pairs) (records : RecordList) (are : AreLongRecords hashes key_length chains records)
+    (place : ℕ) (is : IsHeld (spot_at records place))
     (after : BTreeMap ℕ Pairs) (same : (at : ℕ) → at ≢ place → others_at after at ≡ others_at chains at) (keys : All (λ pair. IsKeyOf key_length pair.0) (others_at after place)) where
   pub spot-within : place < length records.spots
   spot-within = held-inside records.spots place is
@@ -207,7 +213,8 @@ module _ (hashes : FinMap word_order ℕ) (key_length : ℕ) (chains : BTreeMap 
       apart = are.apart;
       led = λ hash at leads. still-held at (are.led hash at leads);
       spelled = λ at. elim (cases_eq at place) [
-        | inl here ↦ subst (λ n. IsSpelled key_length (spot_at (with_spot records place spot) n)) (sym here) (subst (IsSpelled key_length) (sym (spot-here key_length chains after records place spot-within spot same)) spelled)
+        | inl here ↦ subst (λ n. IsSpelled key_length (spot_at (with_spot records place spot) n)) (sym here)
+            (subst (IsSpelled key_length) (sym (spot-here key_length chains after records place spot-within spot same)) spelled)
         | inr apart ↦ subst (IsSpelled key_length) (sym (spot-there key_length chains after records place spot-within spot same at apart)) (are.spelled at)
       ];
       beside = λ at some. elim (cases_eq at place) [
@@ -233,7 +240,8 @@ module _ (hashes : FinMap word_order ℕ) (key_length : ℕ) (chains : BTreeMap 
   pub beside-kept : AreLongRecords hashes key_length after records
   beside-kept = subst (λ (now : RecordList). AreLongRecords hashes key_length after now) own (changed-kept (spot_at records place) is (are.spelled place))
 
-  pub beside-changed : all_pairs key_length after records ≡ set (all_pairs key_length chains records) place ((bytes_in key_length (text_of (spot_at records place)), value_of (spot_at records place)) ∷ others_at after place)
+  pub beside-changed : all_pairs key_length after records ≡ set (all_pairs key_length chains records) place
+      ((bytes_in key_length (text_of (spot_at records place)), value_of (spot_at records place)) ∷ others_at after place)
   beside-changed =
       ap (all_pairs key_length after) (sym own)
       ∙ pairs-changed key_length chains after records place spot-within (spot_at records place) same

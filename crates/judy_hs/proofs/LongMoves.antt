@@ -12,12 +12,16 @@ use Rattle.judy_model.specs.Keys.{word_order, byte_order}
 use Rattle.judy_model.specs.Arrays.{ArrayOf, with_map}
 use Rattle.judy_model.proofs.lemmas.maps.ChangesLemmas.{get-del_same, get-del_other}
 use Rattle.judy_records.specs.Texts.{words_of, bytes_in}
-use Rattle.judy_records.specs.Spots.{free, held, RecordList, IsHeld, spot_at, value_of, text_of, with_spot, taken_out}
+use Rattle.judy_records.specs.Spots.{free, held, RecordList, IsHeld, spot_at, value_of, text_of, with_spot}
 use Rattle.judy_hs.specs.Chains.{Pairs, with_pair, joined, without}
 use Rattle.judy_hs.specs.LongGroups.{Long, added_long, IsAdded, IsFound, hashes_without, without_key}
 use Rattle.judy_hs.specs.LongRecords.{others_at, all_pairs, IsKeyOf, IsSpelled, AreLongRecords}
 use Rattle.judy_hs.proofs.ChainLemmas.{bytes_itself, bytes_apart}
 use Rattle.judy_hs.proofs.LongLemmas.{key-back, at-held, long_of, spot-here, spot-there, pairs-changed, spot-within, changed-kept, beside-kept, beside-changed}
+
+-- A list without the record at a place.
+abbrev pub taken_out : RecordList → ℕ → RecordList
+taken_out records place = with_spot records place (free 0)
 
 -- ---- the length of keys beside others
 
@@ -26,7 +30,8 @@ module _ (key_length : ℕ) where
   keys-without key [] all = all
   keys-without key (pair ∷ rest) all = elim (bytes_eq pair.0 key) as (λ b. All (λ pair. IsKeyOf key_length pair.0) (cond b rest (pair ∷ without rest key))) [
     | true ↦ All-tail (λ pair. IsKeyOf key_length pair.0) pair rest all
-    | false ↦ All-cons (λ pair. IsKeyOf key_length pair.0) pair (without rest key) (All-head (λ pair. IsKeyOf key_length pair.0) pair rest all) (keys-without key rest (All-tail (λ pair. IsKeyOf key_length pair.0) pair rest all))
+    | false ↦ All-cons (λ pair. IsKeyOf key_length pair.0) pair (without rest key) (All-head (λ pair. IsKeyOf key_length pair.0) pair rest all)
+        (keys-without key rest (All-tail (λ pair. IsKeyOf key_length pair.0) pair rest all))
   ]
 
   keys-put : (key : List ℕ) → IsKeyOf key_length key → (value : ℕ) (pairs : Pairs) → All (λ pair. IsKeyOf key_length pair.0) pairs → All (λ pair. IsKeyOf key_length pair.0) (with_pair pairs key value)
@@ -34,13 +39,15 @@ module _ (key_length : ℕ) where
   keys-put key good value (pair ∷ rest) all =
       let here = All-head (λ pair. IsKeyOf key_length pair.0) pair rest all in
       let later = All-tail (λ pair. IsKeyOf key_length pair.0) pair rest all in
-      elim (byte_order key pair.0) as (λ answer. All (λ pair. IsKeyOf key_length pair.0) (match_ordering answer ((key, value) ∷ pair ∷ rest) ((pair.0, value) ∷ rest) (pair ∷ with_pair rest key value))) [
+      elim (byte_order key pair.0) as (λ answer. All (λ pair. IsKeyOf key_length pair.0) (match_ordering answer ((key, value) ∷ pair ∷ rest) ((pair.0, value) ∷ rest)
+      (pair ∷ with_pair rest key value))) [
         | Less ↦ All-cons (λ pair. IsKeyOf key_length pair.0) (key, value) (pair ∷ rest) good all
         | Equal ↦ All-cons (λ pair. IsKeyOf key_length pair.0) (pair.0, value) rest here later
         | Greater ↦ All-cons (λ pair. IsKeyOf key_length pair.0) pair (with_pair rest key value) here (keys-put key good value rest later)
       ]
 
-module _ (hashes : ArrayOf word_order) (key_length : ℕ) (chains : BTreeMap ℕ Pairs) (records : RecordList) (are : AreLongRecords hashes.map key_length chains records) (hash place : ℕ) (leads : get hashes.map hash ≡ Some place) (key : List ℕ)
+module _ (hashes : ArrayOf word_order) (key_length : ℕ) (chains : BTreeMap ℕ Pairs) (records : RecordList) (are : AreLongRecords hashes.map key_length chains records)
+    (hash place : ℕ) (leads : get hashes.map hash ≡ Some place) (key : List ℕ)
     (after : BTreeMap ℕ Pairs) (same : (at : ℕ) → at ≢ place → others_at after at ≡ others_at chains at) where
   is : IsHeld (spot_at records place)
   is = are.led hash place leads
@@ -69,7 +76,8 @@ module _ (hashes : ArrayOf word_order) (key_length : ℕ) (chains : BTreeMap ℕ
 
     pub added-held : IsAdded (long_of hashes key_length chains records) (long_of hashes key_length after records) hash key place
     added-held =
-        subst (λ (found : Option ℕ). IsFound (long_of hashes key_length chains records) found place × (long_of hashes key_length after records ≡ added_long (long_of hashes key_length chains records) hash key found place)) (sym leads) (
+        subst (λ (found : Option ℕ). IsFound (long_of hashes key_length chains records) found place ×
+        (long_of hashes key_length after records ≡ added_long (long_of hashes key_length chains records) hash key found place)) (sym leads) (
           refl,
           ap (λ (all : List Pairs). record { key_length = key_length; hashes = hashes; chains = all })
               (beside-changed hashes.map key_length chains records are place is after same keys-joined
@@ -135,7 +143,7 @@ module _ (hashes : ArrayOf word_order) (key_length : ℕ) (chains : BTreeMap ℕ
       pub freed : long_of (with_map hashes (remove hashes.map hash)) key_length after (taken_out records place) ≡ without_key (long_of hashes key_length chains records) hash place key
       freed =
           ap (λ (all : List Pairs). record { key_length = key_length; hashes = with_map hashes (remove hashes.map hash); chains = all })
-          (pairs-changed key_length chains after records place within (free records.first) same)
+          (pairs-changed key_length chains after records place within (free 0) same)
           ∙ ap gone-to (sym alone)
           ∙ gone
 
@@ -146,7 +154,7 @@ module _ (hashes : ArrayOf word_order) (key_length : ℕ) (chains : BTreeMap ℕ
       ]
 
       still-held : (at : ℕ) → at ≢ place → IsHeld (spot_at records at) → IsHeld (spot_at (taken_out records place) at)
-      still-held at apart was = subst IsHeld (sym (spot-there key_length chains after records place within (free records.first) same at apart)) was
+      still-held at apart was = subst IsHeld (sym (spot-there key_length chains after records place within (free 0) same at apart)) was
 
       pub freed-kept : AreLongRecords (remove hashes.map hash) key_length after (taken_out records place)
       freed-kept = record {
@@ -156,8 +164,9 @@ module _ (hashes : ArrayOf word_order) (key_length : ℕ) (chains : BTreeMap ℕ
             let was = still-led other at leads' in
             still-held at (λ e. was.0 (are.apart other hash place (was.1 ∙ ap (λ (n : ℕ). Some n) e) leads)) (are.led other at was.1);
         spelled = λ at. elim (cases_eq at place) [
-          | inl here ↦ subst (λ n. IsSpelled key_length (spot_at (taken_out records place) n)) (sym here) (subst (IsSpelled key_length) (sym (spot-here key_length chains after records place within (free records.first) same)) tt)
-          | inr apart ↦ subst (IsSpelled key_length) (sym (spot-there key_length chains after records place within (free records.first) same at apart)) (are.spelled at)
+          | inl here ↦ subst (λ n. IsSpelled key_length (spot_at (taken_out records place) n)) (sym here)
+              (subst (IsSpelled key_length) (sym (spot-here key_length chains after records place within (free 0) same)) tt)
+          | inr apart ↦ subst (IsSpelled key_length) (sym (spot-there key_length chains after records place within (free 0) same at apart)) (are.spelled at)
         ];
         beside = λ at some. elim (cases_eq at place) [
           | inl here ↦ absurd (some (ap (others_at after) here ∙ none))

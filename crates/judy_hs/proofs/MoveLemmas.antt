@@ -29,7 +29,8 @@ module _ {X A : Type 0} (part : X → List A) where
   two_moved (x ∷ xs) zero zero d here there = IsPermutation-refl (flat_map part (x ∷ xs))
   two_moved (x ∷ xs) zero (suc j) d here there = first_moved x xs j d (omega arith)
   two_moved (x ∷ xs) (suc i) zero d here there = first_moved x xs i d (omega arith)
-  two_moved (x ∷ xs) (suc i) (suc j) d here there = IsPermutation-append_right (part x) (flat_map part xs) (flat_map part (set (set xs i (get_or xs j d)) j (get_or xs i d))) (two_moved xs i j d (omega arith) (omega arith))
+  two_moved (x ∷ xs) (suc i) (suc j) d here there =
+      IsPermutation-append_right (part x) (flat_map part xs) (flat_map part (set (set xs i (get_or xs j d)) j (get_or xs i d))) (two_moved xs i j d (omega arith) (omega arith))
 
   first_of : (xs : List X) → 0 < length xs → X
   first_of [] some = absurd (omega arith)

@@ -27,7 +27,8 @@ module _ (chains after : BTreeMap ℕ Pairs) (place : ℕ) (chain new : Pairs) (
   through-there at apart = ap (λ (found : Option Pairs). unwrap_or found []) ((through.3 some).2 at (apart-place place at apart))
 
 -- What is the same at a place and at the others is the same.
-pub same-each : (chains after : BTreeMap ℕ Pairs) (place : ℕ) → others_at after place ≡ others_at chains place → ((at : ℕ) → at ≢ place → others_at after at ≡ others_at chains at) → (at : ℕ) → others_at after at ≡ others_at chains at
+pub same-each : (chains after : BTreeMap ℕ Pairs) (place : ℕ) → others_at after place ≡ others_at chains place → ((at : ℕ) → at ≢ place → others_at after at ≡ others_at chains at) →
+    (at : ℕ) → others_at after at ≡ others_at chains at
 same-each chains after place here there at = elim (cases_eq at place) [
   | inl is ↦ ap (others_at after) is ∙ here ∙ ap (others_at chains) (sym is)
   | inr apart ↦ there at apart

@@ -1,6 +1,7 @@
 -- Sorted entries: what a sort of the last ones of a list leaves, and that what it makes of keys that differ is the list of
 -- a map.
-use Rattle.std.proofs.Common.{◌≡◌, ℕ, ◌+◌, ◌-◌, ◌≤◌, false, cond, T, List, [], ◌∷◌, ◌++◌, map, length, get_or, take, drop, Option, Some, None, Less, Equal, Greater, bytes_eq, refl, sym, ap, subst, ◌∙◌, inl, inr, arith, true≢false}
+use Rattle.std.proofs.Common.{◌≡◌, ℕ, ◌+◌, ◌-◌, ◌≤◌, false, cond, T, List, [], ◌∷◌, ◌++◌, map, length, get_or, take, drop, Option, Some, None, Less, Equal, Greater, bytes_eq, refl}
+use Rattle.std.proofs.Common.{sym, ap, subst, ◌∙◌, inl, inr, arith, true≢false}
 use Rattle.std.specs.declared.cmp.Ordering.{Ordering}
 use Rattle.std.specs.Ordering.{is_lt, is_eq, eq_by_cmp}
 use Rattle.std.specs.List.{AllByRecursion, IsDistinct}
@@ -46,7 +47,8 @@ flips one other = elim (bytes_cases one other) [
 pub drop-put_mid_rest : {X : Type 0} (start : ℕ) (xs ys : List X) → start ≤ length xs → drop start (put_mid start (length xs - start) xs ys) ≡ ys
 drop-put_mid_rest start xs ys within =
     let rest : length (drop start xs) ≤ length xs - start = omega (arith, length-drop start xs) in
-    drop_at (take start xs) (ys ++ post_of start (length xs - start) xs) start (omega (arith, length-take start xs)) ∙ ap (λ more. ys ++ more) (drop_all (length xs - start) (drop start xs) rest) ∙ append-nil ys
+    drop_at (take start xs) (ys ++ post_of start (length xs - start) xs) start (omega (arith, length-take start xs)) ∙
+    ap (λ more. ys ++ more) (drop_all (length xs - start) (drop start xs) rest) ∙ append-nil ys
 
 -- ---- pairs with keys that differ
 
@@ -91,8 +93,10 @@ among_value (pair ∷ rest) apart key value there = elim there [
 -- Pairs in another order answer alike.
 moved_value : (before after : Pairs) → AreApart before → AreApart after → IsPermutation before after → (key : List ℕ) → value_in after key ≡ value_in before key
 moved_value before after one other moved key = same_by_some (value_in after key) (value_in before key)
-    (λ value is. among_value before one key value (among_from_Contains before (key, value) (Contains-permutation after before (key, value) (IsPermutation-sym before after moved) (Contains-from_among after (key, value) (value_among after key value is)))))
-    (λ value is. among_value after other key value (among_from_Contains after (key, value) (Contains-permutation before after (key, value) moved (Contains-from_among before (key, value) (value_among before key value is)))))
+    (λ value is. among_value before one key value (among_from_Contains before (key, value) (Contains-permutation after before (key, value) (IsPermutation-sym before after moved)
+    (Contains-from_among after (key, value) (value_among after key value is)))))
+    (λ value is. among_value after other key value (among_from_Contains after (key, value) (Contains-permutation before after (key, value) moved
+    (Contains-from_among before (key, value) (value_among before key value is)))))
 
 -- ---- a map answers as the pairs do that it is made of
 
@@ -144,10 +148,12 @@ keys_still_differ before after apart moved =
     IsDistinct-IsPermutation bytes_eq flips (map (λ pair. pair.0) before) (map (λ pair. pair.0) after) (IsPermutation-map (λ pair. pair.0) before after moved) (distinct_keys before apart)
 
 -- What a sort by the bytes of keys makes of pairs whose keys differ is the list of the map that they make.
-pub sorted_list : (before after : Pairs) → AreApart before → IsPermutation before after → IsStrictlySortedBy byte_order (map (λ pair. pair.0) after) → after ≡ entries (from_entries {R = byte_order} before)
+pub sorted_list : (before after : Pairs) → AreApart before → IsPermutation before after → IsStrictlySortedBy byte_order (map (λ pair. pair.0) after) →
+    after ≡ entries (from_entries {R = byte_order} before)
 sorted_list before after apart moved ascending =
     let keys_apart = keys_still_differ before after apart moved in
-    let one : from_entries {R = byte_order} after ≡ from_entries before = same_map byte_order_total byte_order_same _ _ (λ key. get-made after key ∙ moved_value before after apart (apart_keys after keys_apart) moved key ∙ sym (get-made before key)) in
+    let one : from_entries {R = byte_order} after ≡ from_entries before = same_map byte_order_total byte_order_same _ _
+    (λ key. get-made after key ∙ moved_value before after apart (apart_keys after keys_apart) moved key ∙ sym (get-made before key)) in
     sym (entries-made byte_order_total byte_order_same after (in_order after ascending)) ∙ ap entries one
 
 -- What a write through the whole list leaves is what was written.
@@ -167,10 +173,12 @@ module _ (before all added : Pairs) (middle new : List HsEntry) (start : ℕ) (l
   rest_added : entries_in (drop start middle) ≡ added
   rest_added = sym (drop-map (λ (entry : HsEntry). (key_bytes entry.key, entry.value)) start middle) ∙ ap (drop start) put ∙ drop_at before added start (sym long)
 
-  pub sorted_behind : AreApart all → IsPermutation all added → take start new ≡ take start middle → IsPermutation (drop start middle) (drop start new) → IsSortedBy is_before (drop start new) → entries_in new ≡ before ++ entries (from_entries {R = byte_order} all)
+  pub sorted_behind : AreApart all → IsPermutation all added → take start new ≡ take start middle → IsPermutation (drop start middle) (drop start new) →
+      IsSortedBy is_before (drop start new) → entries_in new ≡ before ++ entries (from_entries {R = byte_order} all)
   sorted_behind apart any same moved sorted =
       let pair : HsEntry → List ℕ × ℕ = λ entry. (key_bytes entry.key, entry.value) in
-      let pairs_moved : IsPermutation all (entries_in (drop start new)) = IsPermutation-trans all added (entries_in (drop start new)) any (subst (λ xs. IsPermutation xs (entries_in (drop start new))) rest_added (IsPermutation-map pair (drop start middle) (drop start new) moved)) in
+      let pairs_moved : IsPermutation all (entries_in (drop start new)) = IsPermutation-trans all added (entries_in (drop start new)) any
+      (subst (λ xs. IsPermutation xs (entries_in (drop start new))) rest_added (IsPermutation-map pair (drop start middle) (drop start new) moved)) in
       let one : map (λ (p : List ℕ × ℕ). p.0) (entries_in (drop start new)) ≡ map (λ (entry : HsEntry). key_bytes entry.key) (drop start new) = keys_listed (drop start new) in
       let differ = keys_still_differ all (entries_in (drop start new)) apart pairs_moved in
       let ascending = strictly (λ (entry : HsEntry). key_bytes entry.key) (drop start new) (subst (IsDistinct bytes_eq) one differ) sorted in

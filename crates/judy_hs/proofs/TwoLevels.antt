@@ -1,6 +1,7 @@
 -- Two levels: an array leads from words to places, and at each place stands something with keys. Chains under their
 -- hashes and groups under their lengths are such.
-use Rattle.std.proofs.Common.{◌≡◌, ◌≢◌, ℕ, zero, suc, ◌<◌, ◌≤◌, true, false, List, [], ◌∷◌, ◌++◌, length, get_or, set, Option, Some, None, nat_lt, refl, sym, ap, ◌∙◌, subst, ◌⊎◌, inl, inr, ⊎_elim, arith}
+use Rattle.std.proofs.Common.{◌≡◌, ◌≢◌, ℕ, zero, suc, ◌<◌, ◌≤◌, true, false, List, [], ◌∷◌, ◌++◌, length, get_or, set, Option, Some, None, nat_lt, refl, sym, ap, ◌∙◌, subst, ◌⊎◌}
+use Rattle.std.proofs.Common.{inl, inr, ⊎_elim, arith}
 use Rattle.std.specs.FinMap.{FinMap, get, insert, remove, nat_cmp-IsAntisymmetric}
 use Rattle.std.specs.Cmp.{nat_cmp_total}
 use Rattle.std.proofs.lemmas.Bool.{lt-ltb, le-ltb, cases_order}
@@ -100,7 +101,8 @@ module _ {X : Type 0} (none : X) (look : X → List ℕ → Option ℕ) where
       untouched other key differ None e = refl
       untouched other key differ (Some at) e = ap (λ x. look x key) (get_or-set_there xs place at new none (unmoved other at differ e))
 
-      pub through-set_at : (other : ℕ) (key : List ℕ) → (other ≡ word → look new key ≡ look (get_or xs place none) key) → through (set xs place new) (get outer other) key ≡ through xs (get outer other) key
+      pub through-set_at : (other : ℕ) (key : List ℕ) → (other ≡ word → look new key ≡ look (get_or xs place none) key) →
+          through (set xs place new) (get outer other) key ≡ through xs (get outer other) key
       through-set_at other key alike = ⊎_elim
           (λ (same : other ≡ word). through-set_other (get outer other) key (alike same))
           (λ differ. untouched other key differ (get outer other) refl)
@@ -130,7 +132,8 @@ module _ {X : Type 0} (none : X) (look : X → List ℕ → Option ℕ) where
         good = λ other at e. ⊎_elim
             (λ (one : other ≡ word).
             let here : at ≡ place = some_same at place (sym e ∙ ap (get (insert outer word place)) one ∙ leads_here) in
-            subst (λ w. Good w (get_or (put_at xs place new) at none)) (sym one) (subst (Good word) (sym (ap (λ p. get_or (put_at xs place new) p none) here ∙ get_or-put xs place new none within)) good))
+            subst (λ w. Good w (get_or (put_at xs place new) at none)) (sym one) (subst (Good word) (sym
+            (ap (λ p. get_or (put_at xs place new) p none) here ∙ get_or-put xs place new none within)) good))
             (λ differ.
             let before = sym (leads_there other differ) ∙ e in
             subst (Good other) (sym (get_or-put_other xs place at new none within (not_free free other at before))) (two.good other at before))
@@ -144,7 +147,8 @@ module _ {X : Type 0} (none : X) (look : X → List ℕ → Option ℕ) where
       there other key None e = refl
       there other key (Some at) e = ap (λ x. look x key) (get_or-put_other xs place at new none within (not_free free other at e))
 
-      pub through-put_other : (other : ℕ) (key : List ℕ) → (other ≡ word → look new key ≡ None) → through (put_at xs place new) (get (insert outer word place) other) key ≡ through xs (get outer other) key
+      pub through-put_other : (other : ℕ) (key : List ℕ) → (other ≡ word → look new key ≡ None) → through (put_at xs place new) (get (insert outer word place) other) key ≡
+          through xs (get outer other) key
       through-put_other other key missing = ⊎_elim
           (λ (same : other ≡ word). rw same (through-put key ∙ missing same ∙ ap (λ (found : Option ℕ). through xs found key) (sym absent)))
           (λ differ. ap (λ (found : Option ℕ). through (put_at xs place new) found key) (leads_there other differ) ∙ there other key (get outer other) refl)
@@ -180,7 +184,8 @@ module _ {X : Type 0} (none : X) (look : X → List ℕ → Option ℕ) where
       still other key differ None e = refl
       still other key differ (Some at) e = ap (λ x. look x key) (get_or-set_there xs place at none none (elsewhere other at differ e))
 
-      pub through-gone_other : (other : ℕ) (key : List ℕ) → (other ≡ word → look (get_or xs place none) key ≡ None) → through (set xs place none) (get (remove outer word) other) key ≡ through xs (get outer other) key
+      pub through-gone_other : (other : ℕ) (key : List ℕ) → (other ≡ word → look (get_or xs place none) key ≡ None) →
+          through (set xs place none) (get (remove outer word) other) key ≡ through xs (get outer other) key
       through-gone_other other key missing = ⊎_elim
           (λ (same : other ≡ word). rw (same, leads) (through-gone key ∙ sym (missing same)))
           (λ differ. ap (λ (found : Option ℕ). through (set xs place none) found key) (gone_there other differ) ∙ still other key differ (get outer other) refl)

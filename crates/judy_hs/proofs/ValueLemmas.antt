@@ -99,7 +99,8 @@ module _ (lengths : ArrayOf word_order) (places : List GroupPlace) (each : All (
 -- ---- the array
 
 -- What holds of each key and its value holds of each entry.
-pub entries_hold : {K : Type 0} {order : K → K → Ordering} → IsTotalOrder order → (m : FinMap order ℕ) (P : K × ℕ → Type 0) → ((key : K) (value : ℕ) → get m key ≡ Some value → P (key, value)) → All P (entries m)
+pub entries_hold : {K : Type 0} {order : K → K → Ordering} → IsTotalOrder order → (m : FinMap order ℕ) (P : K × ℕ → Type 0) →
+    ((key : K) (value : ℕ) → get m key ≡ Some value → P (key, value)) → All P (entries m)
 entries_hold {order = order} total m P each = λ k d within.
     let pair = get_or (entries m) k d in
     each pair.0 pair.1 (get-entries m pair.0 ∙ find-at order total (entries m) pair.0 k d (entries_sorted m) within (tied_itself total pair.0))
@@ -115,6 +116,10 @@ module _ (hash_of : List ℕ → ℕ) (longest limit count : ℕ) (keyed : Keyed
     holds_some = is.holds_some;
     limit_is_word = let fits = is.limit_fits in omega arith;
     within_limit = let counted = is.counted in let within = is.within_limit in omega arith;
-    keys_are = All-map (IsBytesKeyTo longest) (λ pair. pair.0) (entries (map_of hash_of longest keyed)) (entries_hold byte_order_total (map_of hash_of longest keyed) (λ pair. IsBytesKeyTo longest pair.0) (λ key value is. (held key value is).0));
-    values_are = All-map IsWord (λ pair. pair.1) (entries (map_of hash_of longest keyed)) (entries_hold byte_order_total (map_of hash_of longest keyed) (λ pair. IsWord pair.1) (λ key value is. (held key value is).1));
+    keys_are =
+        All-map (IsBytesKeyTo longest) (λ pair. pair.0) (entries (map_of hash_of longest keyed)) (entries_hold byte_order_total (map_of hash_of longest keyed)
+        (λ pair. IsBytesKeyTo longest pair.0) (λ key value is. (held key value is).0));
+    values_are =
+        All-map IsWord (λ pair. pair.1) (entries (map_of hash_of longest keyed)) (entries_hold byte_order_total (map_of hash_of longest keyed) (λ pair. IsWord pair.1)
+        (λ key value is. (held key value is).1));
   }

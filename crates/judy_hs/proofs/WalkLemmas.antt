@@ -24,7 +24,8 @@ pub came_all : {A : Type 0} (all came left : List A) → all ≡ came ++ left �
 came_all all came left is none = sym (is ∙ ap (λ r. came ++ r) none ∙ append-nil came)
 
 -- What is listed goes on with the part of the next entry.
-pub listed_on : (part : ℕ × ℕ → Pairs) (before now after : Pairs) (came : List (ℕ × ℕ)) (entry : ℕ × ℕ) → now ≡ before ++ flat_map part came → after ≡ now ++ part entry → after ≡ before ++ flat_map part (came ++ entry ∷ [])
+pub listed_on : (part : ℕ × ℕ → Pairs) (before now after : Pairs) (came : List (ℕ × ℕ)) (entry : ℕ × ℕ) → now ≡ before ++ flat_map part came → after ≡ now ++ part entry →
+    after ≡ before ++ flat_map part (came ++ entry ∷ [])
 listed_on part before now after came entry is more = more ∙ ap (λ all. all ++ part entry) is ∙ flat_map_more part before came entry
 
 -- The value of an entry that comes is its key's.
@@ -32,7 +33,8 @@ pub entry_held : (m : FinMap word_order ℕ) (came rest : List (ℕ × ℕ)) (ke
 entry_held m came rest key value is =
     let there : get_or (entries m) (length came) (key, value) ≡ (key, value) = ap (λ es. get_or es (length came) (key, value)) is ∙ get_or-append_seam came (key, value) rest (key, value) in
     let within : length came < length (entries m) = subst (λ es. length came < length es) (sym is) (omega (arith, length-append came ((key, value) ∷ rest))) in
-    get-entries m key ∙ find-at word_order nat_cmp_total (entries m) key (length came) (key, value) (entries_sorted m) within (ap (λ e. nat_cmp e.0 key) there ∙ tied_itself nat_cmp_total key) ∙ ap (λ e. Some e.1) there
+    get-entries m key ∙ find-at word_order nat_cmp_total (entries m) key (length came) (key, value) (entries_sorted m) within
+    (ap (λ e. nat_cmp e.0 key) there ∙ tied_itself nat_cmp_total key) ∙ ap (λ e. Some e.1) there
 
 -- A short key, spelled by a word, with its value.
 abbrev pub spelled : ℕ → ℕ × ℕ → Pairs

@@ -15,7 +15,9 @@ pub record Keyed : Type 0 where
 
 -- It is stored as the pair of these.
 abbrev pub keyed_code : Coded Keyed
-keyed_code = code_by (ArrayOf word_order × List Group) (coded× (array_code coded_ℕ) (coded_list group_code)) (λ keyed. (keyed.lengths, keyed.groups)) (λ pair. record { lengths = pair.0; groups = pair.1 }) (λ _. refl)
+keyed_code =
+    code_by (ArrayOf word_order × List Group) (coded× (array_code coded_ℕ) (coded_list group_code)) (λ keyed. (keyed.lengths, keyed.groups))
+    (λ pair. record { lengths = pair.0; groups = pair.1 }) (λ _. refl)
 
 -- Without a key.
 abbrev pub no_keys : Keyed

@@ -18,7 +18,9 @@ pairs_code = coded_list (coded× (coded_list coded_ℕ) coded_ℕ)
 
 -- A group is stored as its parts.
 abbrev pub long_code : Coded Long
-long_code = code_by ((ℕ × ArrayOf word_order) × List Pairs) (coded× (coded× coded_ℕ (array_code coded_ℕ)) (coded_list pairs_code)) (λ long. ((long.key_length, long.hashes), long.chains)) (λ parts. record { key_length = parts.0.0; hashes = parts.0.1; chains = parts.1 }) (λ _. refl)
+long_code =
+    code_by ((ℕ × ArrayOf word_order) × List Pairs) (coded× (coded× coded_ℕ (array_code coded_ℕ)) (coded_list pairs_code)) (λ long. ((long.key_length, long.hashes), long.chains))
+    (λ parts. record { key_length = parts.0.0; hashes = parts.0.1; chains = parts.1 }) (λ _. refl)
 
 -- The chain at a place: of no key where the place is free or there is none.
 abbrev pub chain_at : Long → ℕ → Pairs

@@ -4,7 +4,7 @@ use Rattle.std.specs.Borrow.{LendsIf, LendsIfOk, MutBor, Fml, RattleType, u64}
 use Rattle.judy_model.specs.Keys.{byte_order}
 use Rattle.judy_model.specs.Arrays.{ArrayOf, with_map, write}
 use Rattle.judy_hs.specs.declared.error.HsError.{HsError}
-use Rattle.judy_hs.specs.contracts.bytes.JudyHs.{the_row}
+use Rattle.judy_hs.specs.contracts.judyhs.JudyHs.{the_row}
 use Rattle.judy_hs.specs.declared.hash.ByteHash.{Ghosts}
 
 -- The array with a value written at a key.

@@ -13,8 +13,8 @@ use std::alloc::{AllocError, Global};
 use std::collections::BTreeMap;
 use std::marker::Model;
 
-// Keys that differ, each with its value, in the order of their bytes: each call takes the logarithm of their number. In contracts it
-// is the list of these pairs.
+// Keys that differ, each with its value, in the order of their bytes: each call takes the logarithm of their number. In
+// contracts it is the list of these pairs.
 #[derive(Drop)]
 pub struct Chain {
     entries: BTreeMap<Vec<u8>, u64>,

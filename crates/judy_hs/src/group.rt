@@ -96,7 +96,8 @@ impl GroupPlace {
         }
     }
 
-    // Puts a key in that isn't there, by the place of the chain of its hash, with the value 0, and answers where it stands.
+    // Puts a key in that isn't there, by the place of the chain of its hash, with the value 0, and answers where it
+    // stands.
     pub fn add(
         &mut self,
         alloc: Global,
@@ -125,7 +126,8 @@ impl GroupPlace {
         }
     }
 
-    // Puts a key in with the value 0 where it and each key with its hash are absent, by one way down, and answers where it stands.
+    // Puts a key in with the value 0 where it and each key with its hash are absent, by one way down, and answers where
+    // it stands.
     pub fn try_add(&mut self, alloc: Global, part: u64, key: &[u8]) -> Trial<Inside>
         requires of_length { IsOfLength (group_of self.old) key.now }
         ensures absent { UnlessOpen result (in_group (group_of self.old) part key.now ≡ None) }

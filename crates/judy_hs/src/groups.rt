@@ -22,7 +22,7 @@ use std::marker::Model;
 
 // Where a key stands: the place of its group, and where it stands in the group.
 #[derive(Clone, Copy)]
-pub struct Spot {
+pub struct KeyPlace {
     pub group: usize,
     pub inside: Inside,
 }
@@ -130,7 +130,7 @@ impl Groups {
     }
 
     // Where a key stands, by its way.
-    pub fn find(&self, way: Way, part: u64, key: &[u8]) -> Option<Spot>
+    pub fn find(&self, way: Way, part: u64, key: &[u8]) -> Option<KeyPlace>
         requires group { way.group ≡ get self.now.lengths.map (length key.now) }
         requires chain { way.chain ≡ chain_led self.now way.group part }
         ensures { MatchOption result (in_keyed self.now part key.now ≡ None)
@@ -140,7 +140,7 @@ impl Groups {
         let group = place as usize;
         match self.groups.get(group) {
             Some(held) => match held.find(way.chain, part, key) {
-                Some(inside) => Some(Spot { group, inside }),
+                Some(inside) => Some(KeyPlace { group, inside }),
                 None => None,
             },
             None => None,
@@ -148,7 +148,7 @@ impl Groups {
     }
 
     // The slot of a key that stands there.
-    pub fn slot(&mut self, spot: Spot, key: &[u8]) -> Option<&mut u64>
+    pub fn slot(&mut self, spot: KeyPlace, key: &[u8]) -> Option<&mut u64>
         requires within { spot.group < length self.old.groups }
         requires usable { IsUsable (group_at self.old spot.group) spot.inside key.now }
         ensures* writes_back { sem 𝓛 (LendsSpot self.entry spot.group spot.inside key.now result) }
@@ -160,7 +160,7 @@ impl Groups {
     }
 
     // The same where its value is known to be there.
-    pub fn slot_of(&mut self, spot: Spot, key: &[u8]) -> Result<&mut u64, HsError>
+    pub fn slot_of(&mut self, spot: KeyPlace, key: &[u8]) -> Result<&mut u64, HsError>
         requires within { spot.group < length self.old.groups }
         requires usable { IsUsable (group_at self.old spot.group) spot.inside key.now }
         requires present { IsSome
@@ -180,7 +180,7 @@ impl Groups {
 
     // Puts a key in with the value 0, by one way down its group, where `tries` says so and its length has a group, and
     // answers where it stands.
-    pub fn try_add(&mut self, alloc: Global, tries: bool, part: u64, key: &[u8]) -> Trial<Spot>
+    pub fn try_add(&mut self, alloc: Global, tries: bool, part: u64, key: &[u8]) -> Trial<KeyPlace>
         requires of_length { IfSome (get self.old.lengths.map (length key.now))
             (λ place. IsOfLength (group_at self.old place) key.now) }
         ensures tried { UnlessOpen result (IsTrue tries) }
@@ -207,7 +207,7 @@ impl Groups {
             return Trial::Open;
         };
         match held.try_add(alloc, part, key) {
-            Trial::Added(inside) => Trial::Added(Spot { group, inside }),
+            Trial::Added(inside) => Trial::Added(KeyPlace { group, inside }),
             Trial::Refused => Trial::Refused,
             Trial::Open => Trial::Open,
         }
@@ -220,7 +220,7 @@ impl Groups {
         way: Way,
         part: u64,
         key: &[u8],
-    ) -> Result<Spot, AllocError>
+    ) -> Result<KeyPlace, AllocError>
         requires way { way.group ≡ get self.old.lengths.map (length key.now) }
         requires chain { way.chain ≡ chain_led self.old way.group part }
         requires of_length { IfSome (get self.old.lengths.map (length key.now))
@@ -239,7 +239,7 @@ impl Groups {
             Some(held) => {
                 let group = held as usize;
                 let inside = self.groups[group].add(alloc, way.chain, part, key)?;
-                Ok(Spot { group, inside })
+                Ok(KeyPlace { group, inside })
             }
             None => self.add_group(alloc, part, key),
         }
@@ -247,7 +247,7 @@ impl Groups {
 
     // Puts a group of one key in, of a length that has none. The insert into `lengths` is the last step that can be
     // refused.
-    fn add_group(&mut self, alloc: Global, part: u64, key: &[u8]) -> Result<Spot, AllocError>
+    fn add_group(&mut self, alloc: Global, part: u64, key: &[u8]) -> Result<KeyPlace, AllocError>
         requires absent { get self.old.lengths.map (length key.now) ≡ None }
         ensures place { IfOk result (λ spot. IsFreeGroup self.old.groups spot.group) }
         ensures inside { IfOk result (λ spot. spot.inside ≡ one_inside part key.now) }
@@ -260,11 +260,11 @@ impl Groups {
         self.lengths.put(key.len() as u64, group as u64)?;
         self.free = next;
         put(&mut self.groups, group, made);
-        Ok(Spot { group, inside })
+        Ok(KeyPlace { group, inside })
     }
 
     // Takes a key out that stands there. A group that becomes empty goes, with the length of its keys.
-    pub fn remove(&mut self, part: u64, key: &[u8], spot: Spot)
+    pub fn remove(&mut self, part: u64, key: &[u8], spot: KeyPlace)
         requires within { spot.group < length self.old.groups }
         requires is_inside { IsInside (group_at self.old spot.group) part key.now spot.inside }
         ensures kept { (IsEmptyGroup
@@ -353,8 +353,8 @@ fn first_link(groups: &[GroupPlace], free: usize) -> Option<usize>
     }
 }
 
-// The place that the next group takes, and the one that is free first then: the first free one, for which nothing is asked,
-// or the end of the list, where room is reserved.
+// The place that the next group takes, and the one that is free first then: the first free one, for which nothing is
+// asked, or the end of the list, where room is reserved.
 fn free_place(groups: &mut Vec<GroupPlace>, free: usize) -> Result<(usize, usize), AllocError>
     requires { NoneLost (links_of groups.old.items) free }
     ensures next { IfOk result

@@ -7,8 +7,8 @@ ghost use Rattle.judy_hs.specs.Eights.{by_eights, last_step, word_step};
 
 use judy_model::keys::LONGEST_KEY;
 
-/// What the type of a `JudyHs` says of its keys: how long one may be, and a hash of them, a function of the bytes alone. A
-/// `JudyHs` is right for each, also for a hash that is the same for all bytes.
+/// What the type of a `JudyHs` says of its keys: how long one may be, and a hash of them, a function of the bytes
+/// alone. A `JudyHs` is right for each, also for a hash that is the same for all bytes.
 pub trait ByteHash {
     /// The most bytes of a key. (This project's own.)
     const LONGEST: usize;
@@ -22,8 +22,8 @@ pub trait ByteHash {
         ensures { result ≡ hash_of bytes.now };
 }
 
-/// The hash FNV-1a in 32 bits, for keys of at most 1,024 bytes, as a store has them: from 2166136261 on, each byte is xored to the hash, which is then multiplied by 16777619
-/// modulo 2^32.
+/// The hash FNV-1a in 32 bits, for keys of at most 1,024 bytes, as a store has them: from 2166136261 on, each byte is
+/// xored to the hash, which is then multiplied by 16777619 modulo 2^32.
 #[derive(Clone, Copy)]
 pub struct Fnv1a;
 
@@ -41,11 +41,12 @@ impl ByteHash for Fnv1a {
     }
 }
 
-/// A hash that takes eight bytes at a step, where `Fnv1a` takes one: a word is xored to the hash, which is then multiplied by
-/// 11400714819323198485 modulo 2^64, and the upper half of that is xored to the lower one. It begins with 14695981039346656037, reads a
-/// word's first byte as its lowest, and ends with the lower half. Where more than eight bytes are left it takes the first eight of them,
-/// and at last the last eight of all, some of them again; of fewer than eight in all, each is a word. Keys have at most 9,223,372,036,854,775,807 bytes, as many as memory
-/// that is lent may have. (This project's own.)
+/// A hash that takes eight bytes at a step, where `Fnv1a` takes one: a word is xored to the hash, which is then
+/// multiplied by 11400714819323198485 modulo 2^64, and the upper half of that is xored to the lower one. It begins with
+/// 14695981039346656037, reads a word's first byte as its lowest, and ends with the lower half. Where more than eight
+/// bytes are left it takes the first eight of them, and at last the last eight of all, some of them again; of fewer
+/// than eight in all, each is a word. Keys have at most 9,223,372,036,854,775,807 bytes, as many as memory that is lent
+/// may have. (This project's own.)
 #[derive(Clone, Copy)]
 pub struct Eights;
 

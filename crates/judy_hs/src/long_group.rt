@@ -1,5 +1,5 @@
-//! The keys of one length above 8 bytes, by their hashes. A hash leads to a place, which has the record of a key. Where other keys share
-//! the hash, a chain has these (shared.rt).
+//! The keys of one length above 8 bytes, by their hashes. A hash leads to a place, which has the record of a key. Where
+//! other keys share the hash, a chain has these (shared.rt).
 
 ghost use Rattle.std.specs.Prelude.{ℕ, ◌≡◌, ◌≢◌, [], ◌<◌, IfOk, OnOk, OnErr, None, Some, MatchOption, ◌++◌, ◌↔◌, IsTrue, IsSome, IfSome, All, length};
 ghost use Rattle.std.specs.List.{flat_map};
@@ -23,8 +23,8 @@ use std::alloc::{AllocError, Global};
 use std::collections::BTreeMap;
 use std::marker::Model;
 
-// A map from the hashes of keys to places, a record of a key at each of these, and chains of the other keys with its hash, by its place. In
-// contracts: that array and, place by place, the keys with their values.
+// A map from the hashes of keys to places, a record of a key at each of these, and chains of the other keys with its
+// hash, by its place. In contracts: that array and, place by place, the keys with their values.
 #[derive(Drop)]
 pub struct LongGroup {
     hashes: WordMap,
@@ -55,7 +55,8 @@ impl Model for LongGroup {
         AreLongRecords group.hashes.map group.key_length group.chains group.records };
 }
 
-// Whether a record, which spells a key of so many bytes, spells this one. Their bytes decide, zero bytes at the end too.
+// Whether a record, which spells a key of so many bytes, spells this one. Their bytes decide, zero bytes at the end
+// too.
 #[inline(always)]
 fn is_key(stored: &Record<'_>, key_length: usize, key: &[u8]) -> bool
     requires held { IsHeld stored.now }
@@ -65,7 +66,8 @@ fn is_key(stored: &Record<'_>, key_length: usize, key: &[u8]) -> bool
     key.len() == key_length && stored.is_of(key)
 }
 
-// The same for a key that stands at the place, in its record or among the others. Where no two keys share a hash no byte is looked at.
+// The same for a key that stands at the place, in its record or among the others. Where no two keys share a hash no
+// byte is looked at.
 fn is_own(
     records: &Records,
     chains: &BTreeMap<usize, Chain>,
@@ -99,8 +101,7 @@ impl LongGroup {
         ensures { IfOk result (λ group. group ≡ one_long hash key.now) }
     {
         let mut records = Records::new(alloc, words_for(key.len()));
-        records.reserve()?;
-        records.put(0, key);
+        records.put(0, key)?;
         let mut hashes = WordMap::unbounded(alloc);
         hashes.put(hash, 0)?;
         Ok(LongGroup {
@@ -202,8 +203,9 @@ impl LongGroup {
         }
     }
 
-    // Puts a key in with the value 0 where its hash leads nowhere, and answers its place: one way down the hashes shows that and
-    // puts the hash in. Only then is more memory asked for, so that none is for a key that is there; where it is refused, the hash goes again.
+    // Puts a key in with the value 0 where its hash leads nowhere, and answers its place: one way down the hashes shows
+    // that and puts the hash in. Only then is more memory asked for, so that none is for a key that is there; where it
+    // is refused, the hash goes again.
     pub fn try_add(&mut self, alloc: Global, hash: u64, key: &[u8]) -> Trial<usize>
         requires of_length { length key.now ≡ self.old.key_length }
         ensures absent { UnlessOpen result (get self.old.hashes.map hash ≡ None) }
@@ -218,11 +220,8 @@ impl LongGroup {
             Ok(false) => return Trial::Open,
             Err(_) => return Trial::Refused,
         }
-        match self.records.reserve() {
-            Ok(_) => {
-                self.records.put(0, key);
-                Trial::Added(place)
-            }
+        match self.records.put(0, key) {
+            Ok(_) => Trial::Added(place),
             Err(_) => {
                 self.hashes.del(hash);
                 Trial::Refused
@@ -230,8 +229,8 @@ impl LongGroup {
         }
     }
 
-    // Takes a key at the place of its hash out. Where its record is there, another key with that hash takes its place; where there is none,
-    // the hash goes too, and the place is free.
+    // Takes a key at the place of its hash out. Where its record is there, another key with that hash takes its place;
+    // where there is none, the hash goes too, and the place is free.
     pub fn remove(&mut self, hash: u64, place: usize, key: &[u8])
         requires leads { get self.old.hashes.map hash ≡ Some place }
         requires is_there { IsSome (value_in (chain_at self.old place) key.now) }
@@ -276,7 +275,8 @@ impl LongGroup {
         Ok(())
     }
 
-    // Adds them in the order of their places. Where keys were put in by their bytes, most of them come so, and the sort goes through memory in order.
+    // Adds them in the order of their places. Where keys were put in by their bytes, most of them come so, and the sort
+    // goes through memory in order.
     fn list_unsorted<'a>(&'a self, list: &mut Vec<HsEntry<'a>>) -> Result<(), AllocError>
         ensures { OnOk result
             (AreListed self.now (entries_in list.old.items) (entries_in list.new.items)) }

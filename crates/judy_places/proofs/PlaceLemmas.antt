@@ -74,7 +74,8 @@ free-linked zero links first all = sym (free-none links all)
 free-linked (suc count) links first linked = ap (λ n. suc n) (free-linked count (set links first None) linked.0 linked.2) ∙ sym (free-some links first linked.0 linked.1)
 
 -- A list grows only where all its places are taken.
-pub within-most : (before : Links) (first : ℕ) (after : Links) (next most : ℕ) → NoneLost before first → AreReused before first after next → length before ≤ most → taken_places after ≤ most → length after ≤ most
+pub within-most : (before : Links) (first : ℕ) (after : Links) (next most : ℕ) → NoneLost before first → AreReused before first after next → length before ≤ most →
+    taken_places after ≤ most → length after ≤ most
 within-most before first after next most lost reused short taken = elim (reused.tight lost) [
   | inl same ↦ omega (arith, same, short)
   | inr all ↦ (let none = free-none after all in omega (arith, none, taken))

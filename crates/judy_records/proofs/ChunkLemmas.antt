@@ -1,5 +1,6 @@
 -- Words of bytes that are read eight at a time, and the shorter word behind them.
-use Rattle.std.proofs.Common.{◌≡◌, ◌↔◌, ℕ, zero, suc, ◌+◌, ◌-◌, ◌*◌, ◌/◌, ◌%◌, ◌^◌, ◌<◌, ◌≤◌, List, [], ◌∷◌, ◌++◌, length, take, drop, get_or, set, refl, sym, ap, ◌∙◌, arith, Bool, ◌&&◌, nat_eq, IsTrue}
+use Rattle.std.proofs.Common.{◌≡◌, ◌↔◌, ℕ, zero, suc, ◌+◌, ◌-◌, ◌*◌, ◌/◌, ◌%◌, ◌^◌, ◌<◌, ◌≤◌, List, [], ◌∷◌, ◌++◌, length, take, drop, get_or, set, refl, sym, ap, ◌∙◌, arith, Bool}
+use Rattle.std.proofs.Common.{◌&&◌, nat_eq, IsTrue}
 use Rattle.std.specs.Int.{from_be_bytes, w16, w32, w64}
 use Rattle.std.specs.Simd.{first_chunks}
 use Rattle.std.proofs.lemmas.List.{length-drop, length-take-le, drop-drop, drop_all, take_all, get_or-drop, append-nil}
@@ -27,7 +28,8 @@ chunk-word i count bytes chunk inside within is =
     ap (from_be_bytes w64) (is ∙ chunk-is i count bytes inside) ∙ from_be_bytes-spelled (drop (8 * i) bytes) (omega (arith, left))
 
 -- The word of a chunk that is read.
-pub read-word : (i : ℕ) (bytes : List ℕ) (chunks : List (List ℕ)) (word : ℕ) → i < length bytes / 8 → chunks ≡ first_chunks 8 (length bytes / 8) bytes → word ≡ from_be_bytes w64 (get_or chunks i []) → word ≡ first_word (drop (8 * i) bytes)
+pub read-word : (i : ℕ) (bytes : List ℕ) (chunks : List (List ℕ)) (word : ℕ) → i < length bytes / 8 → chunks ≡ first_chunks 8 (length bytes / 8) bytes →
+    word ≡ from_be_bytes w64 (get_or chunks i []) → word ≡ first_word (drop (8 * i) bytes)
 read-word i bytes chunks word inside are read = read ∙ chunk-word i (length bytes / 8) bytes (get_or chunks i []) inside (omega arith) (ap (λ chunks. get_or chunks i []) are)
 
 -- ---- the shorter word behind them
@@ -82,7 +84,8 @@ bits-of (suc count) =
     ap (λ n. 2 ^ n) e ∙ pow-add 2 8 (8 * count) ∙ ap (λ n. 256 * n) (bits-of count) ∙ sym (pow-succ' 256 count)
 
 -- The last word, made of the last eight bytes.
-pub last-word : (bytes last : List ℕ) → ((k : ℕ) → get_or bytes k 0 < 256) → 8 ≤ length bytes → 0 < length bytes % 8 → last ≡ drop (length bytes - 8) bytes → from_be_bytes w64 last * 2 ^ (64 - length bytes % 8 * 8) % 256 ^ 8 ≡ first_word (drop (8 * (length bytes / 8)) bytes)
+pub last-word : (bytes last : List ℕ) → ((k : ℕ) → get_or bytes k 0 < 256) → 8 ≤ length bytes → 0 < length bytes % 8 → last ≡ drop (length bytes - 8) bytes →
+    from_be_bytes w64 last * 2 ^ (64 - length bytes % 8 * 8) % 256 ^ 8 ≡ first_word (drop (8 * (length bytes / 8)) bytes)
 unfolding first_word
 last-word bytes last below enough some is =
     let over = length bytes % 8 in
@@ -129,7 +132,8 @@ module _ (bytes : List ℕ) (i at word : ℕ) (ended : i ≡ length bytes / 8) (
       ∙ ap (λ words. old ++ value ∷ words) all-words
 
   -- Whether it is the last word of a text too.
-  pub last-same : (text : List ℕ) (same : Bool) → length text ≡ words_for (length bytes) → (IsTrue same ↔ take i text ≡ words_in i bytes) → IsTrue (same && nat_eq (get_or text at 0) word) ↔ text ≡ words_of bytes
+  pub last-same : (text : List ℕ) (same : Bool) → length text ≡ words_for (length bytes) → (IsTrue same ↔ take i text ≡ words_in i bytes) →
+      IsTrue (same && nat_eq (get_or text at 0) word) ↔ text ≡ words_of bytes
   last-same text same long so_far =
       let both = both-true same (get_or text at 0) word in
       let more = same-more text bytes (drop (8 * i) bytes) i (omega (arith, long, ended, some)) refl in
@@ -179,7 +183,8 @@ cut-twice upper lower n =
     ∙ mod-mul-add (n / 2 ^ lower % 2 ^ upper) (2 ^ lower) (n % 2 ^ lower) (mod_below n (2 ^ lower) (pow_pos lower))
 
 -- Both reads are of so many bytes.
-short-ends : (part unit : ℕ) (read : List ℕ → ℕ) → ((bytes : List ℕ) → length bytes ≡ part → read bytes ≡ spelled part bytes) → unit ≡ 256 ^ (8 - part) → ((n : ℕ) → n % 18446744073709551616 % unit ≡ n % unit)
+short-ends : (part unit : ℕ) (read : List ℕ → ℕ) → ((bytes : List ℕ) → length bytes ≡ part → read bytes ≡ spelled part bytes) → unit ≡ 256 ^ (8 - part) →
+    ((n : ℕ) → n % 18446744073709551616 % unit ≡ n % unit)
     → (bytes first last : List ℕ) → ((k : ℕ) → get_or bytes k 0 < 256) → part ≤ length bytes → length bytes < 2 * part → length bytes < 8
     → first ≡ take part bytes → last ≡ drop (length bytes - part) bytes
     → read first * unit + read last * 2 ^ (64 - 8 * length bytes) % 18446744073709551616 % unit ≡ first_word bytes

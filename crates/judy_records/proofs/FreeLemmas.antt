@@ -1,10 +1,8 @@
 -- Free places among records: what stands stays as it is, and each free one is found.
-use Rattle.std.proofs.Common.{◌≡◌, ◌≢◌, ℕ, zero, suc, ◌-◌, ◌<◌, ◌≤◌, List, [], ◌∷◌, length, get_or, set, map, None, Some, refl, sym, ap, subst, ◌∙◌, arith}
-use Rattle.std.proofs.lemmas.List.{length-set, length-map, get_or-set_same, get_or-set_other, set-set, set_comm, set-get_or, map-set}
-use Rattle.judy_places.specs.Places.{Links, AllTaken, AreLinked, free_places}
-use Rattle.judy_places.proofs.PlaceLemmas.{free-linked}
-use Rattle.judy_records.specs.Spots.{Spot, free, held, IsHeld, value_of, link_of}
-use Rattle.judy_records.specs.Inside.{spots_in, freed, AreChained}
+use Rattle.std.proofs.Common.{◌≡◌, ◌≢◌, ℕ, zero, suc, ◌+◌, ◌-◌, ◌<◌, ◌≤◌, List, [], ◌∷◌, length, get_or, set, refl, sym, ap, subst, ◌∙◌, arith}
+use Rattle.std.proofs.lemmas.List.{length-set, get_or-set_same, get_or-set_other, set-set, set_comm}
+use Rattle.judy_records.specs.Spots.{Spot, free, held, IsHeld, value_of}
+use Rattle.judy_records.specs.PageInside.{spots_in, freed, AreChained}
 
 -- The place to which the first one leads.
 abbrev pub next_of : List Spot → ℕ → ℕ
@@ -82,7 +80,8 @@ module _ (count first : ℕ) (all : List Spot) (at : ℕ) (is : IsHeld (get_or (
   chained-more chained =
       let inside = held-inside (freed count first all) at is in
       subst (λ n. IsHeld (get_or (freed count n (set all at (held first text))) at (free 0)) × AreChained count n (set all at (held first text))) (sym gone-next) (
-        subst IsHeld (sym (ap (λ spots. get_or spots at (free 0)) (freed-set at (held first text) count first all is) ∙ get_or-set_same (freed count first all) at (held first text) (free 0) inside)) tt,
+        subst IsHeld (sym (ap (λ spots. get_or spots at (free 0)) (freed-set at (held first text) count first all is) ∙
+            get_or-set_same (freed count first all) at (held first text) (free 0) inside)) tt,
         chained-set at (held first text) count first all is chained,
       )
 
@@ -97,50 +96,6 @@ module _ (count first : ℕ) (all : List Spot) (chained : AreChained (suc count)
   pub chained-fewer : AreChained count (next_of all first) (set all first spot)
   chained-fewer = chained-set first spot count (next_of all first) all chained.0 chained.1
 
--- ---- the links
-
-held-unlinked : (spots : List Spot) (at : ℕ) → IsHeld (get_or spots at (free 0)) → get_or (map link_of spots) at None ≡ None
-held-unlinked [] at is = refl
-held-unlinked (free next ∷ rest) zero is = absurd is
-held-unlinked (held value text ∷ rest) zero is = refl
-held-unlinked (spot ∷ rest) (suc at) is = held-unlinked rest at is
-
-pub spots-taken : (count size : ℕ) (words : List ℕ) → AllTaken (map link_of (spots_in count size words))
-spots-taken zero size words at = refl
-spots-taken (suc count) size words zero = refl
-spots-taken (suc count) size words (suc at) = spots-taken count size _ at
-
-module _ (all : List Spot) (taken : AllTaken (map link_of all)) where
-  -- What the first free place is linked to.
-  pub first-link : (count first : ℕ) → AreChained (suc count) first all → get_or (map link_of (freed (suc count) first all)) first None ≡ Some (next_of all first)
-  first-link count first chained =
-      let next = next_of all first in
-      let inside = held-inside (freed count next all) first chained.0 in
-      let long = length-map (freed count next all) link_of in
-      ap (λ links. get_or links first None) (map-set link_of (freed count next all) first (free next))
-      ∙ get_or-set_same (map link_of (freed count next all)) first (Some next) None (omega (arith, inside, long))
-
-  pub freed-linked : (count first : ℕ) → AreChained count first all → AreLinked count (map link_of (freed count first all)) first
-  freed-linked zero first chained = taken
-  freed-linked (suc count) first chained =
-      let next = next_of all first in
-      let links = map link_of (freed count next all) in
-      let back : set (map link_of (freed (suc count) first all)) first None ≡ links =
-      ap (λ l. set l first None) (map-set link_of (freed count next all) first (free next))
-      ∙ set-set links first (Some next) None
-      ∙ ap (set links first) (sym (held-unlinked (freed count next all) first chained.0))
-      ∙ set-get_or links first None in
-      (next, first-link count first chained, subst (λ (l : Links). AreLinked count l next) (sym back) (freed-linked count next chained.1))
-
-  pub free-counted : (count first : ℕ) → AreChained count first all → free_places (map link_of (freed count first all)) ≡ count
-  free-counted count first chained = sym (free-linked count (map link_of (freed count first all)) first (freed-linked count first chained))
-
--- No more are free than there are.
-pub free-most : (links : Links) → free_places links ≤ length links
-free-most [] = omega arith
-free-most (None ∷ rest) = (let most = free-most rest in omega (arith, most))
-free-most (Some next ∷ rest) = (let most = free-most rest in omega (arith, most))
-
 -- ---- by how many are free
 
 module _ (all : List Spot) (first : ℕ) where
@@ -150,7 +105,8 @@ module _ (all : List Spot) (first : ℕ) where
   none-freed (suc count) none = absurd (omega (arith, none))
 
   -- Where some are, a record may come to the first one,
-  pub some-freed : (spare : ℕ) → AreChained spare first all → 0 < spare → (spot : Spot) → (freed (spare - 1) (next_of all first) (set all first spot) ≡ set (freed spare first all) first spot) × AreChained (spare - 1) (next_of all first) (set all first spot)
+  pub some-freed : (spare : ℕ) → AreChained spare first all → 0 < spare → (spot : Spot) → (freed (spare - 1) (next_of all first) (set all first spot) ≡
+      set (freed spare first all) first spot) × AreChained (spare - 1) (next_of all first) (set all first spot)
   some-freed zero chained some spot = absurd (omega (arith, some))
   some-freed (suc count) chained some spot =
       let e : count ≡ suc count - 1 = omega arith in (
@@ -166,11 +122,49 @@ module _ (all : List Spot) (first : ℕ) where
       let long = length-freed count (next_of all first) all in
       omega (arith, inside, long)
 
-  module _ (taken : AllTaken (map link_of all)) where
-    pub none-linked : (spare : ℕ) → AreChained spare first all → spare ≡ 0 → get_or (map link_of (freed spare first all)) first None ≡ None
-    none-linked zero chained none = taken first
-    none-linked (suc count) chained none = absurd (omega (arith, none))
+-- ---- how many stand
 
-    pub some-linked : (spare : ℕ) → AreChained spare first all → 0 < spare → get_or (map link_of (freed spare first all)) first None ≡ Some (next_of all first)
-    some-linked zero chained some = absurd (omega (arith, some))
-    some-linked (suc count) chained some = first-link all taken count first chained
+abbrev pub stands : List Spot → ℕ
+stands [] = 0
+stands (free next ∷ rest) = stands rest
+stands (held value text ∷ rest) = suc (stands rest)
+
+stands-set : (spots : List Spot) (at next : ℕ) → IsHeld (get_or spots at (free 0)) → suc (stands (set spots at (free next))) ≡ stands spots
+stands-set [] at next is = absurd is
+stands-set (free link ∷ rest) zero next is = absurd is
+stands-set (held value text ∷ rest) zero next is = refl
+stands-set (free link ∷ rest) (suc at) next is = stands-set rest at next is
+stands-set (held value text ∷ rest) (suc at) next is = ap (λ n. suc n) (stands-set rest at next is)
+
+pub stands-freed : (count first : ℕ) (all : List Spot) → AreChained count first all → count + stands (freed count first all) ≡ stands all
+stands-freed zero first all chained = omega arith
+stands-freed (suc count) first all chained =
+    let more = stands-freed count (next_of all first) all chained.1 in
+    let one = stands-set (freed count (next_of all first) all) first (next_of all first) chained.0 in
+    omega (arith, more, one)
+
+pub stands-all : (count size : ℕ) (words : List ℕ) → stands (spots_in count size words) ≡ count
+stands-all zero size words = refl
+stands-all (suc count) size words = ap (λ n. suc n) (stands-all count size _)
+
+pub none-stand : (spots : List Spot) → stands spots ≡ 0 → (at : ℕ) → IsHeld (get_or spots at (free 0)) → ⊥
+none-stand [] none at is = is
+none-stand (free next ∷ rest) none zero is = is
+none-stand (free next ∷ rest) none (suc at) is = none-stand rest none at is
+none-stand (held value text ∷ rest) none at is = absurd (omega (arith, none))
+
+pub some-stand : (spots : List Spot) → 0 < stands spots → (at : ℕ) × IsHeld (get_or spots at (free 0))
+some-stand [] some = absurd (omega (arith, some))
+some-stand (held value text ∷ rest) some = (0, tt)
+some-stand (free next ∷ rest) some = (let one = some-stand rest some in (suc one.0, one.1))
+
+pub all-stand : (count size : ℕ) (words : List ℕ) (at : ℕ) → at < count → IsHeld (get_or (spots_in count size words) at (free 0))
+all-stand zero size words at inside = absurd (omega (arith, inside))
+all-stand (suc count) size words zero inside = tt
+all-stand (suc count) size words (suc at) inside = all-stand count size _ at (omega (arith, inside))
+
+-- The first free place is free.
+pub first-free : (count first : ℕ) (all : List Spot) → AreChained (suc count) first all → get_or (freed (suc count) first all) first (free 0) ≡ free (next_of all first)
+first-free count first all chained =
+    let inside = held-inside (freed count (next_of all first) all) first chained.0 in
+    get_or-set_same (freed count (next_of all first) all) first (free (next_of all first)) (free 0) inside

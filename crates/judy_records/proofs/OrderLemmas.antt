@@ -1,5 +1,6 @@
 -- Texts, and byte strings of one length, compare as their words do.
-use Rattle.std.proofs.Common.{◌≡◌, ◌≢◌, ℕ, zero, suc, ◌+◌, ◌*◌, ◌^◌, ◌<◌, ◌≤◌, ⊎_elim, List, [], ◌∷◌, All, length, get_or, drop, sym, refl, ap, ◌∙◌, subst, arith, Ordering, Less, Equal, Greater, nat_cmp}
+use Rattle.std.proofs.Common.{◌≡◌, ◌≢◌, ℕ, zero, suc, ◌+◌, ◌*◌, ◌^◌, ◌<◌, ◌≤◌, ⊎_elim, List, [], ◌∷◌, All, length, get_or, drop, sym, refl, ap, ◌∙◌, subst, arith, Ordering, Less}
+use Rattle.std.proofs.Common.{Equal, Greater, nat_cmp}
 use Rattle.std.specs.Cmp.{nat_cmp_is, tied_itself}
 use Rattle.std.specs.Cmp.Lexicographic.{nat_list_cmp_total}
 use Rattle.std.specs.Ordering.{ordering_then}
@@ -95,10 +96,13 @@ below_high unit left right low other p less =
 -- And else what stands above.
 order-high : (unit left right low other : ℕ) → low < unit → other < unit → nat_cmp (left * unit + low) (right * unit + other) ≡ ordering_then (nat_cmp left right) (nat_cmp low other)
 order-high unit left right low other p q = ⊎_elim
-    (λ same. ap (λ n. nat_cmp (left * unit + low) (n * unit + other)) (sym same) ∙ order-low (left * unit) low other ∙ ap (λ answer. ordering_then answer (nat_cmp low other)) (nat_cmp_is left right Equal same))
+    (λ same. ap (λ n. nat_cmp (left * unit + low) (n * unit + other)) (sym same) ∙ order-low (left * unit) low other ∙
+    ap (λ answer. ordering_then answer (nat_cmp low other)) (nat_cmp_is left right Equal same))
     (λ apart. ⊎_elim
-    (λ less. sym (nat_cmp_is (left * unit + low) (right * unit + other) Less (below_high unit left right low other p less)) ∙ ap (λ answer. ordering_then answer (nat_cmp low other)) (nat_cmp_is left right Less less))
-    (λ more. sym (nat_cmp_is (left * unit + low) (right * unit + other) Greater (below_high unit right left other low q more)) ∙ ap (λ answer. ordering_then answer (nat_cmp low other)) (nat_cmp_is left right Greater more))
+    (λ less. sym (nat_cmp_is (left * unit + low) (right * unit + other) Less (below_high unit left right low other p less)) ∙
+    ap (λ answer. ordering_then answer (nat_cmp low other)) (nat_cmp_is left right Less less))
+    (λ more. sym (nat_cmp_is (left * unit + low) (right * unit + other) Greater (below_high unit right left other low q more)) ∙
+    ap (λ answer. ordering_then answer (nat_cmp low other)) (nat_cmp_is left right Greater more))
     apart)
     (cases_order left right)
 
@@ -111,7 +115,8 @@ spelled-some width byte bytes some =
 -- ---- the order
 
 -- They compare as the numbers that their first bytes spell, and where these are one, as their rests do.
-order-spelled : (width : ℕ) (one two : List ℕ) → IsByteString one → IsByteString two → AreTold one two → byte_order one two ≡ ordering_then (nat_cmp (spelled width one) (spelled width two)) (byte_order (drop width one) (drop width two))
+order-spelled : (width : ℕ) (one two : List ℕ) → IsByteString one → IsByteString two → AreTold one two →
+    byte_order one two ≡ ordering_then (nat_cmp (spelled width one) (spelled width two)) (byte_order (drop width one) (drop width two))
 order-spelled zero one two p q told = refl
 order-spelled (suc width) [] [] p q told = refl
 order-spelled (suc width) [] (y ∷ ys) p q told =
@@ -123,10 +128,12 @@ order-spelled (suc width) (x ∷ xs) (y ∷ ys) p q told =
     let qs = All-tail (λ b. b < 256) y ys q in
     ap (λ answer. ordering_then (nat_cmp x y) answer) (order-spelled width xs ys ps qs told)
     ∙ sym (then_assoc (nat_cmp x y) (nat_cmp (spelled width xs) (spelled width ys)) (byte_order (drop width xs) (drop width ys)))
-    ∙ ap (λ answer. ordering_then answer (byte_order (drop width xs) (drop width ys))) (sym (order-high (256 ^ width) x y (spelled width xs) (spelled width ys) (spelled-lt width xs ps) (spelled-lt width ys qs)))
+    ∙ ap (λ answer. ordering_then answer (byte_order (drop width xs) (drop width ys))) (sym (order-high (256 ^ width) x y (spelled width xs) (spelled width ys)
+    (spelled-lt width xs ps) (spelled-lt width ys qs)))
 
 -- As their first words, and where these are one, as what stands behind them.
-pub order-first : (one two : List ℕ) → IsByteString one → IsByteString two → AreTold one two → byte_order one two ≡ ordering_then (nat_cmp (first_word one) (first_word two)) (byte_order (drop 8 one) (drop 8 two))
+pub order-first : (one two : List ℕ) → IsByteString one → IsByteString two → AreTold one two → byte_order one two ≡
+    ordering_then (nat_cmp (first_word one) (first_word two)) (byte_order (drop 8 one) (drop 8 two))
 unfolding first_word
 order-first one two p q told = order-spelled 8 one two p q told
 
@@ -139,7 +146,8 @@ order-within (suc most) (x ∷ xs) (y ∷ ys) within p q told =
     let left = length-drop 8 (x ∷ xs) in
     (λ i. byte_order (words-cons (x ∷ xs) (omega arith) i) (words-cons (y ∷ ys) (omega arith) i))
     ∙ ap (ordering_then (nat_cmp (first_word (x ∷ xs)) (first_word (y ∷ ys))))
-    (order-within most (drop 8 (x ∷ xs)) (drop 8 (y ∷ ys)) (omega (arith, left, within)) (all-drop (λ b. b < 256) 8 (x ∷ xs) p) (all-drop (λ b. b < 256) 8 (y ∷ ys) q) (told-drop 8 (x ∷ xs) (y ∷ ys) told))
+    (order-within most (drop 8 (x ∷ xs)) (drop 8 (y ∷ ys)) (omega (arith, left, within)) (all-drop (λ b. b < 256) 8 (x ∷ xs) p) (all-drop (λ b. b < 256) 8 (y ∷ ys) q)
+    (told-drop 8 (x ∷ xs) (y ∷ ys) told))
     ∙ sym (order-first (x ∷ xs) (y ∷ ys) p q told)
 
 -- As their words, and only one of them has its words.

@@ -1,9 +1,10 @@
 -- Records in words, one after the other: each of them, a new one behind them, and another one in the place of one.
 use Rattle.std.proofs.Common.{◌≡◌, ℕ, zero, suc, ◌+◌, ◌-◌, ◌*◌, ◌<◌, ◌≤◌, List, [], ◌∷◌, ◌++◌, length, take, drop, get_or, set, refl, sym, ap, ◌∙◌, arith}
 use Rattle.std.proofs.lemmas.Nat.{mul-le}
-use Rattle.std.proofs.lemmas.List.{get_or-take, drop-take, length-drop, length-take-le, nil_from_length, drop-append-le, take-append-le, take-append-drop, get_or_append_left, drop-drop, set_at, set_split, take_all}
+use Rattle.std.proofs.lemmas.List.{get_or-take, drop-take, length-drop, length-take-le, nil_from_length, drop-append-le, take-append-le, take-append-drop, get_or_append_left}
+use Rattle.std.proofs.lemmas.List.{drop-drop, set_at, set_split, take_all}
 use Rattle.judy_records.specs.Spots.{Spot, held}
-use Rattle.judy_records.specs.Inside.{first_spot, spots_in}
+use Rattle.judy_records.specs.PageInside.{first_spot, spots_in}
 
 -- How many records they are.
 pub length-spots : (count size : ℕ) (words : List ℕ) → length (spots_in count size words) ≡ count

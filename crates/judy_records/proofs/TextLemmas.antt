@@ -1,5 +1,6 @@
 -- The words of bytes, one after the other.
-use Rattle.std.proofs.Common.{◌≡◌, ◌≢◌, ◌↔◌, ℕ, zero, suc, ◌+◌, ◌*◌, ◌<◌, ◌≤◌, List, [], ◌∷◌, ◌++◌, length, take, drop, get_or, set, refl, sym, ap, ◌∙◌, arith, add-one, Bool, true, false, ◌&&◌, nat_eq, IsTrue, Ordering, Less, Equal, Greater, nat_cmp}
+use Rattle.std.proofs.Common.{◌≡◌, ◌≢◌, ◌↔◌, ℕ, zero, suc, ◌+◌, ◌*◌, ◌<◌, ◌≤◌, List, [], ◌∷◌, ◌++◌, length, take, drop, get_or, set, refl, sym, ap, ◌∙◌, arith, add-one, Bool, true}
+use Rattle.std.proofs.Common.{false, ◌&&◌, nat_eq, IsTrue, Ordering, Less, Equal, Greater, nat_cmp}
 use Rattle.std.proofs.lemmas.List.{length-drop, length-append, drop-drop, drop_all, drop_more, take_more, set_at, append_assoc, same_from_push}
 use Rattle.std.proofs.lemmas.Bool.{eqb-true, eq-eqb, false≢true}
 use Rattle.std.specs.Cmp.{nat_cmp_is}
@@ -17,7 +18,8 @@ words-suc : (count : ℕ) (bytes : List ℕ) → words_in (suc count) bytes ≡ 
 words-suc zero bytes = refl
 words-suc (suc count) bytes =
     let e : 8 + 8 * count ≡ 8 * suc count = omega arith in
-    ap (λ words. first_word bytes ∷ words) (words-suc count (drop 8 bytes) ∙ ap (λ rest. words_in count (drop 8 bytes) ++ first_word rest ∷ []) (drop-drop (8 * count) 8 bytes ∙ ap (λ n. drop n bytes) e))
+    ap (λ words. first_word bytes ∷ words) (words-suc count (drop 8 bytes) ∙ ap (λ rest. words_in count (drop 8 bytes) ++ first_word rest ∷ [])
+    (drop-drop (8 * count) 8 bytes ∙ ap (λ n. drop n bytes) e))
 
 pub words-more : (count : ℕ) (bytes : List ℕ) → words_in (count + 1) bytes ≡ words_in count bytes ++ first_word (drop (8 * count) bytes) ∷ []
 words-more count bytes = ap (λ n. words_in n bytes) (add-one count) ∙ words-suc count bytes
@@ -38,7 +40,8 @@ words-at (suc count) (suc at) bytes inside =
     words-at count at (drop 8 bytes) (omega (arith, inside)) ∙ ap first_word (drop-drop (8 * at) 8 bytes ∙ ap (λ n. drop n bytes) e)
 
 -- A word is written over a text.
-pub words-written : (old now bytes rest : List ℕ) (count : ℕ) → count < length old → now ≡ words_in count bytes ++ drop count old → rest ≡ drop (8 * count) bytes → set now count (first_word rest) ≡ words_in (count + 1) bytes ++ drop (count + 1) old
+pub words-written : (old now bytes rest : List ℕ) (count : ℕ) → count < length old → now ≡ words_in count bytes ++ drop count old → rest ≡ drop (8 * count) bytes →
+    set now count (first_word rest) ≡ words_in (count + 1) bytes ++ drop (count + 1) old
 words-written old now bytes rest count inside e behind =
     ap (λ words. set words count (first_word rest)) (e ∙ ap (λ words. words_in count bytes ++ words) (drop_more old count 0 inside))
     ∙ set_at (words_in count bytes) (get_or old count 0) (drop (count + 1) old) (first_word rest) count (length-words count bytes)
@@ -46,7 +49,8 @@ words-written old now bytes rest count inside e behind =
     ∙ ap (λ words. words ++ drop (count + 1) old) (ap (λ r. words_in count bytes ++ first_word r ∷ []) behind ∙ sym (words-more count bytes))
 
 -- A word is put behind those of a text.
-pub words-pushed : (old now bytes rest : List ℕ) (value count : ℕ) → now ≡ old ++ value ∷ words_in count bytes → rest ≡ drop (8 * count) bytes → now ++ first_word rest ∷ [] ≡ old ++ value ∷ words_in (count + 1) bytes
+pub words-pushed : (old now bytes rest : List ℕ) (value count : ℕ) → now ≡ old ++ value ∷ words_in count bytes → rest ≡ drop (8 * count) bytes →
+    now ++ first_word rest ∷ [] ≡ old ++ value ∷ words_in (count + 1) bytes
 words-pushed old now bytes rest value count e behind =
     ap (λ words. words ++ first_word rest ∷ []) e
     ∙ append_assoc old (value ∷ words_in count bytes) (first_word rest ∷ [])
@@ -56,12 +60,15 @@ pub length-pushed : (old now : List ℕ) (value : ℕ) (text : List ℕ) → now
 length-pushed old now value text e = (let long = ap length e ∙ length-append old (value ∷ text) in omega (arith, long))
 
 -- The words of two texts are the same up to one more.
-pub same-more : (text bytes rest : List ℕ) (count : ℕ) → count < length text → rest ≡ drop (8 * count) bytes → (take count text ≡ words_in count bytes) × (get_or text count 0 ≡ first_word rest) ↔ take (count + 1) text ≡ words_in (count + 1) bytes
+pub same-more : (text bytes rest : List ℕ) (count : ℕ) → count < length text → rest ≡ drop (8 * count) bytes →
+    (take count text ≡ words_in count bytes) × (get_or text count 0 ≡ first_word rest) ↔ take (count + 1) text ≡ words_in (count + 1) bytes
 same-more text bytes rest count inside behind =
     let left = take_more text count 0 inside in
     let right = words-more count bytes in (
       λ both. left ∙ (λ i. both.0 i ++ (both.1 ∙ ap first_word behind) i ∷ []) ∙ sym right,
-      λ same. let parts = same_from_push (take count text) (words_in count bytes) (get_or text count 0) (first_word (drop (8 * count) bytes)) (sym left ∙ same ∙ right) in (parts.0, parts.1 ∙ ap first_word (sym behind)),
+      λ same. let parts =
+          same_from_push (take count text) (words_in count bytes) (get_or text count 0) (first_word (drop (8 * count) bytes)) (sym left ∙ same ∙ right) in
+          (parts.0, parts.1 ∙ ap first_word (sym behind)),
     )
 
 -- Both hold.
@@ -94,4 +101,5 @@ module _ (text rest : List ℕ) (count : ℕ) where
     order-apart differ = parted ∙ decided (get_or text count 0) (first_word rest) (byte_order (drop (count + 1) text) (words_of (drop 8 rest))) differ
 
     pub order-same : get_or text count 0 ≡ first_word rest → byte_order (drop (count + 1) text) (words_of (drop 8 rest)) ≡ byte_order (drop count text) (words_of rest)
-    order-same same = sym (parted ∙ ap (λ first. ordering_then first (byte_order (drop (count + 1) text) (words_of (drop 8 rest)))) (sym (nat_cmp_is (get_or text count 0) (first_word rest) Equal same)))
+    order-same same =
+        sym (parted ∙ ap (λ first. ordering_then first (byte_order (drop (count + 1) text) (words_of (drop 8 rest)))) (sym (nat_cmp_is (get_or text count 0) (first_word rest) Equal same)))

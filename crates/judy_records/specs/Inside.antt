@@ -1,57 +1,64 @@
--- How a list of records stands in words: record after record, each its value and then its text. The value of a free record is the place that
--- was free first before it, and the list knows the first free one and how many are free. The words stand in pages.
-use Rattle.std.specs.Prelude.{◌≤◌, ◌+◌, ◌-◌, ◌*◌, ◌^◌, ℕ, zero, suc, List, [], ◌∷◌, length, get_or, set, take, drop, map}
+-- How a list of records stands in pages.
+use Rattle.std.specs.Prelude.{◌≡◌, ◌<◌, ◌≤◌, ◌+◌, ◌*◌, ◌^◌, ℕ, zero, suc, List, [], ◌∷◌, ◌++◌, length, get_or, map, Option, None, Some}
 use Rattle.judy_records.specs.declared.records.Records.TheInside.{Inside}
-use Rattle.judy_records.specs.Pages.{joined, page_words, page_room, size_of, page_of, ArePages}
-use Rattle.judy_records.specs.Spots.{Spot, free, held, RecordList, IsHeld, value_of}
+use Rattle.judy_records.specs.Pages.{shift_of, size_of, start_of, page_of, rest_of, places_of}
+use Rattle.judy_records.specs.Kinds.{Kind, full, roomy, gone, Kinds, kind_of, first_of, AreKnown}
+use Rattle.judy_records.specs.Spots.{Spot, free, IsHeld, IsNext, RecordList}
+use Rattle.judy_records.specs.PageSpots.{PageList, spot_in, empty_page}
 
--- The record with which words begin.
-abbrev pub first_spot : ℕ → List ℕ → Spot
-first_spot size words = held (get_or words 0 0) (take size (drop 1 words))
+-- A page by its number.
+abbrev pub page_at : List PageList → ℕ → PageList
+page_at pages number = get_or pages number (empty_page 0)
 
--- So many records, one after the other.
-abbrev pub spots_in : ℕ → ℕ → List ℕ → List Spot
-spots_in zero size words = []
-spots_in (suc count) size words = first_spot size words ∷ spots_in count size (drop (size + 1) words)
+-- What stands at the places up to an end.
+abbrev pub spots_to : ℕ → (ℕ → Spot) → List Spot
+spots_to zero spot = []
+spots_to (suc end) spot = spots_to end spot ++ spot end ∷ []
 
--- What is left of records where so many are free, from the first free one on.
-abbrev pub freed : ℕ → ℕ → List Spot → List Spot
-freed zero first all = all
-freed (suc count) first all = set (freed count (value_of (get_or all first (free 0))) all) first (free (value_of (get_or all first (free 0))))
+abbrev pub spot_of : ℕ → List PageList → ℕ → Spot
+spot_of per pages place = spot_in (page_at pages (page_of per place)) (rest_of per place)
 
--- Each free place is met once on the way of links.
-abbrev pub AreChained : ℕ → ℕ → List Spot → Type 0
-AreChained zero first all = Unit {0}
-AreChained (suc count) first all = IsHeld (get_or (freed count (value_of (get_or all first (free 0))) all) first (free 0)) × AreChained count (value_of (get_or all first (free 0))) all
+-- The next place: that of such a page, or the end where there is none.
+abbrev pub next_by : Option ℕ → ℕ → ℕ → List PageList → ℕ
+next_by None per end pages = end
+next_by (Some number) per end pages = start_of per number + (page_at pages number).next
 
--- The words of each page, and for how many words each has memory.
-abbrev pub pages_of : Inside → List (List ℕ)
-pages_of list = map page_words list.pages.items
-
-abbrev pub rooms_of : Inside → List ℕ
-rooms_of list = map page_room list.pages.items
-
--- The words of all.
-abbrev pub items_of : Inside → List ℕ
-items_of list = joined (pages_of list)
-
--- For how many more words the page of a place has memory.
-abbrev pub left_at : Inside → ℕ → ℕ
-left_at list place = get_or (rooms_of list) (page_of place) 0 - length (get_or (pages_of list) (page_of place) [])
+abbrev pub capacity_of : PageList → ℕ
+capacity_of page = page.capacity
 
 -- The list that fields stand for.
 abbrev pub list_of : Inside → RecordList
 list_of list = record {
   size = list.size;
-  spots = freed list.spare list.free (spots_in list.count list.size (items_of list));
-  first = list.free;
-  capacity = list.count * (list.size + 1) + left_at list list.count;
+  spots = spots_to list.end (spot_of (2 ^ list.shift) list.pages.items);
+  next = next_by (first_of list.turns.next_roomy list.turns.next_gone) (2 ^ list.shift) list.end list.pages.items;
+  memory = map capacity_of list.pages.items;
 }
+
+-- What is known of a page by its kind: a full one has a record at each of its places; a roomy one has a place, a record and memory for all places;
+-- and a gone one has nothing.
+abbrev pub IsOfKind : Kind → ℕ → PageList → Type 0
+IsOfKind full places page = (length page.spots ≡ places) × (page.next ≡ places) × (0 < page.capacity → 0 < places)
+IsOfKind roomy places page = (length page.spots ≤ places) × (page.next < places) × ((place : ℕ) × IsHeld (spot_in page place)) × (places * (page.size + 1) ≤ page.capacity)
+IsOfKind gone places page = (page ≡ empty_page page.size) × (0 < places)
+
+pub record IsPageOf (size per end : ℕ) (kind : Kind) (number : ℕ) (page : PageList) : Type 0 where
+  pub size_is : page.size ≡ size
+  pub next : IsNext page.spots page.next
+  pub known : IsOfKind kind (places_of per end number) page
+  pub within : page.capacity ≤ size_of per number * (size + 1)
+
+-- What always holds of the pages of a list.
+pub record ArePages (size per end : ℕ) (pages : List PageList) (kinds : Kinds) : Type 0 where
+  pub known : AreKnown kinds
+  pub counted : length kinds.kinds ≡ length pages
+  pub enough : end ≤ start_of per (length pages)
+  pub few : length pages ≤ page_of per end + 1
+  pub each : (number : ℕ) → number < length pages → IsPageOf size per end (kind_of kinds number) number (page_at pages number)
 
 -- What always holds of the fields.
 pub record AreRecords (list : Inside) : Type 0 where
-  pub pages : ArePages (pages_of list) list.count (list.size + 1)
-  pub within : (at : ℕ) → get_or (rooms_of list) at 0 ≤ size_of at * (list.size + 1)
-  pub most : length list.pages.items ≤ 2 ^ 48
-  pub chained : AreChained list.spare list.free (spots_in list.count list.size (items_of list))
+  pub pages : ArePages list.size (2 ^ list.shift) list.end list.pages.items list.turns
+  pub shift_is : list.shift ≡ shift_of list.size
   pub size_within : list.size ≤ 2305843009213693952
+  pub most : list.end ≤ 288230376151711744

@@ -1,5 +1,12 @@
 pub mod Texts
 pub mod Spots
 pub mod Pages
+pub mod PageSpots
+pub mod PageInside
+pub mod PageLends
+pub mod Kinds
+pub mod InTurns
+pub mod PageSteps
 pub mod Inside
+pub mod Memory
 pub mod Lends

@@ -1,48 +1,56 @@
--- The pages of a list of records.
-use Rattle.std.specs.Prelude.{◌≡◌, ◌<◌, ◌≤◌, ◌+◌, ◌-◌, ◌*◌, ◌/◌, ◌%◌, ◌^◌, ◌⊎◌, ℕ, nat_lt, if◌then◌else◌, List, [], ◌∷◌, ◌++◌, length, get_or}
-use Rattle.std.specs.List.{flat_map}
-use Rattle.std.specs.declared.vec.Vec.{Vec}
+-- The pages of a list of records: which page a place is in. Each has so many places that a short one, of which there are 64 at first, takes 4 KiB at
+-- most, and a long one eight times as many.
+use Rattle.std.specs.Prelude.{◌≡◌, ◌<◌, ◌+◌, ◌-◌, ◌*◌, ◌/◌, ◌%◌, ◌^◌, ℕ, nat_lt, if◌then◌else◌}
 
--- The words of pages, one page after the other.
-abbrev pub joined : List (List ℕ) → List ℕ
-joined pages = flat_map (λ (page : List ℕ). page) pages
+-- How many places a short page has, as a power of two: as many as 512 words have records of such texts at least, or one.
+unfoldable pub shift_of : ℕ → ℕ
+shift_of size =
+    if nat_lt size 1 then 9
+    else (if nat_lt size 2 then 8
+    else (if nat_lt size 4 then 7
+    else (if nat_lt size 8 then 6
+    else (if nat_lt size 16 then 5
+    else (if nat_lt size 32 then 4
+    else (if nat_lt size 64 then 3
+    else (if nat_lt size 128 then 2
+    else (if nat_lt size 256 then 1 else 0))))))))
 
--- The words of a page, and for how many it has memory.
-abbrev pub page_words : {Z : Type 0} → Vec ℕ Z → List ℕ
-page_words page = page.items
+unfoldable pub per_of : ℕ → ℕ
+per_of size = 2 ^ shift_of size
 
-abbrev pub page_room : {Z : Type 0} → Vec ℕ Z → ℕ
-page_room page = page.cap
+-- How many short pages a page is as long as, and how many are as long as those before it.
+unfoldable pub units_of : ℕ → ℕ
+units_of page = if nat_lt page 64 then 1 else 8
 
--- How many records a page has: the first 64 are short, and all behind them long.
-unfoldable pub size_of : ℕ → ℕ
-size_of page = if nat_lt page 64 then 128 else 1024
+unfoldable pub units_before : ℕ → ℕ
+units_before page = if nat_lt page 64 then page else (page - 56) * 8
 
--- The place of its first record.
-unfoldable pub start_of : ℕ → ℕ
-start_of page = if nat_lt page 64 then page * 128 else 8192 + (page - 64) * 1024
+-- The page that has a part as long as a short page, and how many such parts are before it in its page.
+unfoldable pub unit_page : ℕ → ℕ
+unit_page unit = if nat_lt unit 64 then unit else unit / 8 + 56
 
--- The page of a place,
-unfoldable pub page_of : ℕ → ℕ
-page_of place = if nat_lt place 8192 then place / 128 else 64 + (place - 8192) / 1024
+unfoldable pub unit_rest : ℕ → ℕ
+unit_rest unit = if nat_lt unit 64 then 0 else unit % 8
 
--- and which of the page's records stands there.
-unfoldable pub rest_of : ℕ → ℕ
-rest_of place = if nat_lt place 8192 then place % 128 else (place - 8192) % 1024
+-- How many places a page has, and the first of them, where a short one has so many.
+unfoldable pub size_of : ℕ → ℕ → ℕ
+size_of per page = units_of page * per
 
--- A place is in that page, as that record of it.
-pub record IsAt (place page rest : ℕ) : Type 0 where
-  pub page_is : page ≡ page_of place
-  pub rest_is : rest ≡ rest_of place
+unfoldable pub start_of : ℕ → ℕ → ℕ
+start_of per page = units_before page * per
 
-module _ {Z : Type 0} where
-  -- There is a page of a number: it was there, or came as an empty one behind the others.
-  abbrev pub IsReached : List (Vec ℕ Z) → List (Vec ℕ Z) → ℕ → Type 0
-  IsReached before after at = ((at < length before) × (after ≡ before)) ⊎ ((at ≡ length before) × (at < 2 ^ 48) × (page : Vec ℕ Z) × (page_words page ≡ []) × (page_room page ≡ 0) × (after ≡ before ++ page ∷ []))
+-- The page of a place, and which of the page's places it is.
+unfoldable pub page_of : ℕ → ℕ → ℕ
+page_of per place = unit_page (place / per)
 
--- Each page has the records that it is to have where there are so many, of so many words each: all that it has place for, and the last one those that are left.
-pub record ArePages (pages : List (List ℕ)) (count stride : ℕ) : Type 0 where
-  pub few : length pages ≤ page_of count + 1
-  pub enough : count ≤ start_of (length pages)
-  pub full : (at : ℕ) → at < page_of count → length (get_or pages at []) ≡ size_of at * stride
-  pub last : length (get_or pages (page_of count) []) ≡ rest_of count * stride
+unfoldable pub rest_of : ℕ → ℕ → ℕ
+rest_of per place = unit_rest (place / per) * per + place % per
+
+-- A place is in that page, as that place of it.
+pub record IsAt (per place page rest : ℕ) : Type 0 where
+  pub page_is : page ≡ page_of per place
+  pub rest_is : rest ≡ rest_of per place
+
+-- How many of a page's places a list has that ends there.
+abbrev pub places_of : ℕ → ℕ → ℕ → ℕ
+places_of per end number = if nat_lt (end - start_of per number) (size_of per number) then end - start_of per number else size_of per number

@@ -1,23 +1,11 @@
 -- What a list of records holds, place by place.
-use Rattle.std.specs.Prelude.{◌≤◌, ◌+◌, ◌*◌, ℕ, ◌==◌, cond, List, [], ◌∷◌, ◌++◌, length, get_or, set, map, Option, None, Some}
-use Rattle.judy_places.specs.Places.{Links, free_places}
+use Rattle.std.specs.Prelude.{◌≡◌, ◌<◌, ◌≤◌, ◌+◌, ◌*◌, ℕ, List, [], ◌∷◌, ◌++◌, length, get_or, set, nat_lt, cond}
 
--- What stands at a place: nothing, and then which place was the first free one before it; or a record, by its value and its text.
+-- What stands at a place: nothing; or a record, by its value and its text. Within a page a free place has the place that was the first free one
+-- before it, and to callers always 0.
 pub data Spot : Type 0 where
   free : ℕ → Spot
   held : ℕ → List ℕ → Spot
-
--- A list of records: how many words of text each has, what stands at each place, the first free place, and for how many words there is
--- memory.
-pub record RecordList : Type 0 where
-  pub size : ℕ
-  pub spots : List Spot
-  pub first : ℕ
-  pub capacity : ℕ
-
--- What stands at a place; past the end nothing.
-abbrev pub spot_at : RecordList → ℕ → Spot
-spot_at list place = get_or list.spots place (free 0)
 
 -- A record stands there.
 abbrev pub IsHeld : Spot → Type 0
@@ -34,57 +22,41 @@ abbrev pub text_of : Spot → List ℕ
 text_of (free next) = []
 text_of (held value text) = text
 
--- What a place is linked to where it is free.
-abbrev pub link_of : Spot → Option ℕ
-link_of (free next) = Some next
-link_of (held value text) = None
+-- Without the place that is linked.
+abbrev pub unlinked : Spot → Spot
+unlinked (free next) = free 0
+unlinked (held value text) = held value text
 
--- The links of all places.
-abbrev pub links_of : RecordList → Links
-links_of list = map link_of list.spots
+-- A list of records: how many words of text each has, what stands at each place, the place that is taken next, and for how many words each page
+-- has memory.
+pub record RecordList : Type 0 where
+  pub size : ℕ
+  pub spots : List Spot
+  pub next : ℕ
+  pub memory : List ℕ
+
+-- What stands at a place; past the end nothing.
+abbrev pub spot_at : RecordList → ℕ → Spot
+spot_at list place = get_or list.spots place (free 0)
 
 -- The list without a record.
 abbrev pub empty_list : ℕ → RecordList
-empty_list size = record { size = size; spots = []; first = 0; capacity = 0 }
-
--- The same list with memory for so many words.
-abbrev pub with_capacity : RecordList → ℕ → RecordList
-with_capacity list words = record list { capacity = words }
+empty_list size = record { size = size; spots = []; next = 0; memory = [] }
 
 -- A list with another thing at a place.
 abbrev pub with_spot : RecordList → ℕ → Spot → RecordList
 with_spot list place spot = record list { spots = set list.spots place spot }
 
--- The same list with other values at a place.
+-- The same list with another value at a place.
 abbrev pub with_value : RecordList → ℕ → ℕ → RecordList
 with_value list place value = with_spot list place (held value (text_of (spot_at list place)))
 
--- There is memory for so many more records, in free places and behind the end of the list.
-abbrev pub HasRoom : RecordList → ℕ → Type 0
-HasRoom list more = (length list.spots + more) * (list.size + 1) ≤ list.capacity + free_places (links_of list) * (list.size + 1)
+-- Spots with another thing at a place within them, or at their end.
+abbrev pub put_at : List Spot → ℕ → Spot → List Spot
+put_at spots place spot = cond (nat_lt place (length spots)) (set spots place spot) (spots ++ spot ∷ [])
 
--- The place that the next record takes, by what the first free place is linked to: that one, or else the end.
-abbrev pub free_or : Option ℕ → ℕ → ℕ → ℕ
-free_or None first end = end
-free_or (Some next) first end = first
-
--- The same of a list.
-abbrev pub next_place : RecordList → ℕ
-next_place list = free_or (get_or (links_of list) list.first None) list.first (length list.spots)
-
--- A record was put at the first free place, which was linked so, or else at the end.
-abbrev pub put_by : Option ℕ → RecordList → Spot → RecordList
-put_by None list spot = record list { spots = list.spots ++ spot ∷ [] }
-put_by (Some next) list spot = record list { spots = set list.spots list.first spot; first = next }
-
--- The list with one more record, at the next place.
-abbrev pub put_in : RecordList → Spot → RecordList
-put_in list spot = put_by (get_or (links_of list) list.first None) list spot
-
--- The list without the record at a place, which is the first free one then.
-abbrev pub taken_out : RecordList → ℕ → RecordList
-taken_out list place = record list { spots = set list.spots place (free list.first); first = place }
-
--- The list once the record at a place is removed: without it, and given back where no other is left.
-abbrev pub removed : RecordList → ℕ → RecordList
-removed list place = cond (free_places (links_of list) + 1 == length list.spots) (empty_list list.size) (taken_out list place)
+-- The place that is taken next: nothing stands there, and it is the end only where a record stands at each place. So no free place is lost.
+pub record IsNext (spots : List Spot) (next : ℕ) : Type 0 where
+  pub within : next ≤ length spots
+  pub is_free : IsHeld (get_or spots next (free 0)) → ⊥
+  pub last : next ≡ length spots → (place : ℕ) → place < length spots → IsHeld (get_or spots place (free 0))

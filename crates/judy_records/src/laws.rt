@@ -1,11 +1,12 @@
-//! Laws of texts as words. Each is the contract of a function with an empty body, so that the check proves it; no program calls these.
+//! Laws of texts as words. Each is the contract of a function with an empty body, so that the check proves it; no
+//! program calls these.
 
 ghost use Rattle.std.specs.Prelude.{◌≡◌, ℕ, List, [], ◌∷◌, length};
 ghost use Rattle.judy_model.specs.Keys.{byte_order, IsByteString};
 ghost use Rattle.judy_records.specs.Texts.{words_of, bytes_in, text_in, EndsWell, IsText};
 
-/// Some texts as words: none at all, one of three bytes, and one of nine. Zero bytes at the end don't show in the words, and the length
-/// tells how many there are.
+/// Some texts as words: none at all, one of three bytes, and one of nine. Zero bytes at the end don't show in the
+/// words, and the length tells how many there are.
 pub fn some_texts_in_words()
     ensures empty { words_of [] ≡ [] }
     ensures short { words_of (97 ∷ 98 ∷ 99 ∷ []) ≡ 7017280021047803904 ∷ [] }
@@ -26,7 +27,8 @@ pub fn texts_compare_as_their_words()
         → one ≡ two }
 {}
 
-/// Byte strings of one length compare as their words do, zero bytes among them too, and only one of that length has its words.
+/// Byte strings of one length compare as their words do, zero bytes among them too, and only one of that length has its
+/// words.
 pub fn byte_strings_of_one_length_compare_as_their_words()
     ensures order { (one two : List ℕ) → IsByteString one → IsByteString two
         → length one ≡ length two → byte_order (words_of one) (words_of two) ≡ byte_order one two }

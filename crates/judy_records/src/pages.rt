@@ -1,102 +1,126 @@
-//! The pages of a list of records, each full but the last. So a list that grows moves one page at most, and is never moved whole.
+//! Which page of a list a place is in. The first pages are short, so that a list of few records has little memory to
+//! spare and few records hold little; and those behind them are long, so that a list of many has few pages and the list
+//! of these stays in a near cache.
 
-ghost use Rattle.std.specs.Prelude.{◌≡◌, ◌<◌, ◌≤◌, ◌+◌, ◌*◌, ◌^◌, [], IsOk, OnOk, OnErr, length, vec_len, vec_capacity};
-ghost use Rattle.judy_records.specs.Pages.{size_of, page_of, IsAt, IsReached};
-
-use std::alloc::AllocError;
-
-// How many records a short page has. The first pages are short, so that a list of few records moves few as it grows.
-const SHORT: usize = 128;
+ghost use Rattle.std.specs.Prelude.{◌≡◌, ◌<◌, ◌≤◌, ◌+◌, ◌-◌, ◌*◌, ◌^◌};
+ghost use Rattle.judy_records.specs.Pages.{shift_of, size_of, start_of, page_of, rest_of, places_of, IsAt};
 
 // How many short pages there are.
 const SHORT_PAGES: usize = 64;
 
-// How many records they have together.
-const IN_SHORT_PAGES: usize = SHORT * SHORT_PAGES;
-
-// How many records a long page has, as all behind them are: so a list of many has few pages, and the list of these stays in a near cache.
-const LONG: usize = 1024;
+// How many short pages a long one is as long as.
+const UNITS: usize = 8;
 
 // How many more pages there are before a place in a long one than if all were long.
-const MORE_PAGES: usize = SHORT_PAGES - IN_SHORT_PAGES / LONG;
+const MORE_PAGES: usize = SHORT_PAGES - SHORT_PAGES / UNITS;
 
-// How many pages a list has at most, so that a place is a word.
-const MOST_PAGES: usize = 281_474_976_710_656;
-
-// By half of its own records a page grows by so many words at most, so that a few long records have no room for many to spare.
+// By half of its own records a page grows by so many words at most, so that a few long records have no room for many to
+// spare.
 const MOST_OF_OWN: usize = 512;
 
-// How many records a page has.
-fn size_of(page: usize) -> usize
-    ensures { result ≡ size_of page }
+// How many places a short page has, as a power of two, where each text takes so many words: as many as 4 KiB have room
+// for, and one at least.
+pub fn shift_for(size: usize) -> u32
+    ensures { result ≡ shift_of size }
 {
-    if page < SHORT_PAGES { SHORT } else { LONG }
+    match size {
+        0 => 9,
+        1 => 8,
+        2..=3 => 7,
+        4..=7 => 6,
+        8..=15 => 5,
+        16..=31 => 4,
+        32..=63 => 3,
+        64..=127 => 2,
+        128..=255 => 1,
+        _ => 0,
+    }
 }
 
-// The page of a place, and which of its records stands there. Each is chosen by itself, since the compiler makes that without a branch: among records of
-// both kinds of page it would be foreseen wrongly.
+// How many places a short page has. As a shift of one the compiler makes shifts of what is multiplied or divided by it.
 #[inline(always)]
-pub fn locate(place: usize) -> (usize, usize)
-    ensures { IsAt place result.0 result.1 }
+fn short_page(shift: u32) -> usize
+    requires { shift ≤ 9 }
+    ensures value { result ≡ 2 ^ shift }
+    ensures some { 0 < result }
+    ensures most { result ≤ 512 }
 {
-    let is_short = place < IN_SHORT_PAGES;
+    1 << shift
+}
+
+// How many places a page has.
+pub fn size_of(shift: u32, page: usize) -> usize
+    requires { shift ≤ 9 }
+    ensures size { result ≡ size_of (2 ^ shift) page }
+    ensures most { result ≤ 4096 }
+{
+    let units = if page < SHORT_PAGES { 1 } else { UNITS };
+    units * short_page(shift)
+}
+
+// The first place of a page.
+pub fn start_of(shift: u32, page: usize) -> usize
+    requires shift { shift ≤ 9 }
+    requires fits { start_of (2 ^ shift) page < 18446744073709551616 }
+    ensures { result ≡ start_of (2 ^ shift) page }
+{
+    let units = if page < SHORT_PAGES {
+        page
+    } else {
+        (page - MORE_PAGES) * UNITS
+    };
+    units * short_page(shift)
+}
+
+// The page of a place, and which of its places it is. Each is chosen by itself, since the compiler makes that without a
+// branch: among places of both kinds of page it would be foreseen wrongly.
+#[inline(always)]
+pub fn locate(shift: u32, place: usize) -> (usize, usize)
+    requires { shift ≤ 9 }
+    ensures { IsAt (2 ^ shift) place result.0 result.1 }
+{
+    let per = short_page(shift);
+    let unit = place / per;
+    let is_short = unit < SHORT_PAGES;
     let page = if is_short {
-        place / SHORT
+        unit
     } else {
-        place / LONG + MORE_PAGES
+        unit / UNITS + MORE_PAGES
     };
-    let rest = if is_short {
-        place % SHORT
-    } else {
-        place % LONG
-    };
-    (page, rest)
+    let before = if is_short { 0 } else { unit % UNITS };
+    (page, before * per + place % per)
 }
 
-// Sees to it that there is a page of a number, the next one at most. The error is want of memory, or too many pages.
-pub fn reach(pages: &mut Vec<Vec<u64>>, at: usize) -> Result<(), AllocError>
-    requires { at ≤ length pages.old.items }
-    ensures there { at < length pages.old.items → IsOk result }
-    ensures same { OnErr result (pages.new.items ≡ pages.old.items) }
-    ensures reached { OnOk result (IsReached pages.old.items pages.new.items at) }
+// How many of a page's places a list has that ends there.
+pub fn places_of(shift: u32, end: usize, page: usize) -> usize
+    requires shift { shift ≤ 9 }
+    requires within { start_of (2 ^ shift) page ≤ end }
+    ensures { result ≡ places_of (2 ^ shift) end page }
 {
-    if at < pages.len() {
-        return Ok(());
-    }
-    if at >= MOST_PAGES {
-        return Err(AllocError);
-    }
-    pages.reserve_exact(at / 8 + 1)?;
-    let alloc = *pages.allocator();
-    pages.push_reserved(Vec::new(alloc));
-    Ok(())
+    let left = end - start_of(shift, page);
+    let most = size_of(shift, page);
+    if left < most { left } else { most }
 }
 
-// Sees to it that the last page of a list of so many records, which isn't full, has memory for one more. It grows by a half of its own records, so that it
-// isn't moved at every few; or a short page by a sixteenth of all, which is the whole page from 2,048 on, and a long one by a 32nd, which is the whole page
-// from 32,768 on. The error is want of memory.
-pub fn widen(page: &mut Vec<u64>, count: usize, size: usize) -> Result<(), AllocError>
+// By how many words the last page of a list grows that ends at this place of it. That is a half of its own records, so
+// that it isn't moved at every few; or a short page's part is a sixteenth of all, and a long one's a 32nd; and as much
+// as the page has place for at most.
+pub fn words_more(shift: u32, end: usize, size: usize) -> usize
+    requires shift { shift ≤ 9 }
     requires size { size ≤ 2305843009213693952 }
-    requires part { vec_len page.old + (size + 1) ≤ size_of (page_of count) * (size + 1) }
-    requires within { vec_capacity page.old ≤ size_of (page_of count) * (size + 1) }
-    ensures items { page.new.items ≡ page.old.items }
-    ensures within { vec_capacity page.new ≤ size_of (page_of count) * (size + 1) }
-    ensures room { OnOk result (vec_len page.new + (size + 1) ≤ vec_capacity page.new) }
-    ensures unasked { vec_len page.old + (size + 1) ≤ vec_capacity page.old
-        → (page.new ≡ page.old) × IsOk result }
+    ensures one { size + 1 ≤ result }
+    ensures most { rest_of (2 ^ shift) end * (size + 1) + result
+        ≤ size_of (2 ^ shift) (page_of (2 ^ shift) end) * (size + 1) }
 {
     let record = size + 1;
-    if page.capacity() - page.len() >= record {
-        return Ok(());
-    }
-    let (at, rest) = locate(count);
-    let left = record.saturating_mul(size_of(at)) - page.len();
+    let (page, rest) = locate(shift, end);
+    let left = record.saturating_mul(size_of(shift, page) - rest);
     let own = (rest / 2).saturating_mul(record).min(MOST_OF_OWN);
-    let part = if at < SHORT_PAGES {
-        count / 16
+    let part = if page < SHORT_PAGES {
+        end / 16
     } else {
-        count / 32
+        end / 32
     };
     let all = part.saturating_mul(record);
-    page.reserve_exact(record.saturating_add(own.max(all)).min(left))
+    record.saturating_add(own.max(all)).min(left)
 }

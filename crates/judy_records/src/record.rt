@@ -9,7 +9,8 @@ use crate::text;
 use std::cmp::Ordering;
 use std::marker::Model;
 
-/// A record where it stands: its page is looked up once for all that is read of it. To contracts it is what stands there.
+/// A record where it stands: its page is looked up once for all that is read of it. To contracts it is what stands
+/// there.
 #[derive(Drop)]
 pub struct Record<'a> {
     words: &'a [u64],

@@ -1,25 +1,29 @@
 //! Records of one length, in pages.
 
-ghost use Rattle.std.specs.Prelude.{◌≡◌, ◌≤◌, ◌+◌, ◌*◌, ℕ, IsOk, IfOk, OnOk, length};
+ghost use Rattle.std.specs.Prelude.{◌≡◌, ◌<◌, ◌≤◌, ◌+◌, ◌*◌, ◌^◌, ℕ, IsOk, IfOk, OnOk, OnErr, length, get_or, slice_set};
 ghost use Rattle.std.specs.Borrow.{sem};
 ghost use Rattle.judy_model.specs.Keys.{IsWord};
-ghost use Rattle.judy_places.specs.Places.{NoneLost};
 ghost use Rattle.judy_records.specs.Texts.{words_of, words_for, bytes_in};
-ghost use Rattle.judy_records.specs.Spots.{held, spot_at, IsHeld, value_of, text_of, links_of, empty_list, HasRoom, next_place, with_capacity, with_spot, put_in, taken_out, removed};
+ghost use Rattle.judy_records.specs.Spots.{free, held, spot_at, IsHeld, IsNext, value_of, text_of, empty_list, with_spot, put_at};
+ghost use Rattle.judy_records.specs.Memory.{IsTight, HasFree, IsRemoved};
 
+use crate::page::Page;
+use crate::page_steps::{begin, put_in, reopen, take_out_of};
+use crate::pages::{locate, places_of, shift_for, size_of, start_of, words_more};
 use crate::record::Record;
-use crate::{pages, text, words};
+use crate::turns::Turns;
+use crate::words;
 use std::alloc::{AllocError, Global};
 use std::marker::Model;
 
 /// Records of one length, each a value and a text of so many words. To contracts it is a `RecordList`.
 #[derive(Drop)]
 pub struct Records {
-    pages: Vec<Vec<u64>>,
+    pages: Vec<Page>,
+    turns: Turns,
     size: usize,
-    count: usize,
-    free: usize,
-    spare: usize,
+    shift: u32,
+    end: usize,
 }
 
 impl Model for Records {
@@ -34,21 +38,24 @@ impl Model for Records {
     ghost invariant = { AreRecords };
 }
 
+// The most places that a list has, so that each is a word.
+const MOST: usize = 288_230_376_151_711_744;
+
 impl Records {
     ghost use Rattle.judy_records.specs.Lends.{LendsValue};
 
-    /// The list without a record, for texts of so many words: at most 2^61, which is more than any slice of bytes takes. It asks for no
-    /// memory.
+    /// The list without a record, for texts of so many words: at most 2^61, which is more than any slice of bytes
+    /// takes. It asks for no memory.
     pub fn new(alloc: Global, size: usize) -> Records
         requires { size ≤ 2305843009213693952 }
         ensures { result ≡ empty_list size }
     {
         Records {
             pages: Vec::new(alloc),
+            turns: Turns::new(alloc),
             size,
-            count: 0,
-            free: 0,
-            spare: 0,
+            shift: shift_for(size),
+            end: 0,
         }
     }
 
@@ -59,11 +66,11 @@ impl Records {
         self.size
     }
 
-    /// Does nothing: it tells a caller's proof that no free place is lost, and that there is memory for what the list holds.
+    /// Does nothing: it tells a caller's proof that no free place is lost, and that no page stands without a record.
     pub fn law(&self)
-        ensures none_lost { NoneLost (links_of self.now) self.now.first }
+        ensures next { IsNext self.now.spots self.now.next }
         ensures size { self.now.size ≤ 2305843009213693952 }
-        ensures within { length self.now.spots * (self.now.size + 1) ≤ self.now.capacity }
+        ensures memory { IsTight self.now }
     {
         let _size = self.size;
     }
@@ -74,7 +81,7 @@ impl Records {
             → IsWord (value_of (spot_at self.now place)) }
     {
         for page in &self.pages {
-            words::law(page);
+            page.values_law();
         }
     }
 
@@ -83,9 +90,8 @@ impl Records {
         requires { IsHeld (spot_at self.now place) }
         ensures { result ≡ value_of (spot_at self.now place) }
     {
-        let (at, rest) = pages::locate(place);
-        let page = &self.pages[at];
-        page[rest * (self.size + 1)]
+        let (at, rest) = locate(self.shift, place);
+        self.pages[at].value(rest)
     }
 
     /// Lends the value of the record at a place; all else stays.
@@ -94,9 +100,8 @@ impl Records {
         ensures* writes_back { sem 𝓛 (LendsValue self.entry place result) }
         ensures value { result.now ≡ value_of (spot_at self.old place) }
     {
-        let (at, rest) = pages::locate(place);
-        let page = &mut self.pages[at];
-        &mut page[rest * (self.size + 1)]
+        let (at, rest) = locate(self.shift, place);
+        self.pages[at].slot(rest)
     }
 
     /// The record at a place.
@@ -104,14 +109,12 @@ impl Records {
         requires { IsHeld (spot_at self.now place) }
         ensures { result ≡ spot_at self.now place }
     {
-        let (at, rest) = pages::locate(place);
-        let page = &self.pages[at];
-        let start = rest * (self.size + 1);
-        Record::new(&page[start..start + (self.size + 1)])
+        let (at, rest) = locate(self.shift, place);
+        self.pages[at].at(rest)
     }
 
-    /// A copy of the first so many bytes of the text at a place: where a byte string of that length was put in, it is that. A loop over
-    /// words. The error is want of memory.
+    /// A copy of the first so many bytes of the text at a place: where a byte string of that length was put in, it is
+    /// that. A loop over words. The error is want of memory.
     pub fn bytes(&self, alloc: Global, place: usize, count: usize) -> Result<Vec<u8>, AllocError>
         requires { IsHeld (spot_at self.now place) }
         ensures { IfOk result
@@ -120,96 +123,110 @@ impl Records {
         words::bytes_in(alloc, self.at(place).text(), count)
     }
 
-    /// Makes room for one more record. Where a place is free it needs none, so nothing is asked for. Else the last page grows by a part of its records
-    /// or of all, or a page is begun. The error is want of memory, or some 2^58 records, and leaves the list as it was.
-    pub fn reserve(&mut self) -> Result<(), AllocError>
-        ensures same { self.new ≡ with_capacity self.old self.new.capacity }
-        ensures room { OnOk result (HasRoom self.new 1) }
-        ensures unasked { HasRoom self.old 1 → (self.new ≡ self.old) × IsOk result }
-    {
-        if self.spare != 0 {
-            return Ok(());
-        }
-        let (at, _) = pages::locate(self.count);
-        pages::reach(&mut self.pages, at)?;
-        pages::widen(&mut self.pages[at], self.count, self.size)
-    }
-
-    /// The place that the next record takes: the first free one, or the end of the list.
+    /// The place that the next record takes: one in a page with a record and a free place; or else the first of a page
+    /// that has gone; or else the end of the list.
     pub fn next_place(&self) -> usize
-        ensures { result ≡ next_place self.now }
+        ensures { result ≡ self.now.next }
     {
-        if self.spare > 0 {
-            self.free
-        } else {
-            self.count
+        match self.turns.next() {
+            Some(number) => start_of(self.shift, number) + self.pages[number].next_place(),
+            None => self.end,
         }
     }
 
-    /// Puts a record in at the next place, and answers that place. There is room for it (`reserve`), and its text takes as many words as
-    /// each does here.
-    pub fn put(&mut self, value: u64, bytes: &[u8]) -> usize
-        requires room { HasRoom self.old 1 }
-        requires fits { words_for (length bytes.now) ≡ self.old.size }
-        ensures place { result ≡ next_place self.old }
-        ensures put { self.new ≡ put_in self.old (held value (words_of bytes.now)) }
-        ensures room { (more : ℕ) → HasRoom self.old (more + 1) → HasRoom self.new more }
+    /// Puts a record in at the next place, and answers that place. Its text takes as many words as each does here.
+    /// Where a place is free in a page with a record it asks for nothing. Else a page is begun, anew or where one has
+    /// gone; or the last page grows by a part of its records or of all. The error is want of memory, or 2^58 places,
+    /// and no record changes its place then.
+    pub fn put(&mut self, value: u64, bytes: &[u8]) -> Result<usize, AllocError>
+        requires { words_for (length bytes.now) ≡ self.old.size }
+        ensures place { IfOk result (λ place. place ≡ self.old.next) }
+        ensures size { self.new.size ≡ self.old.size }
+        ensures put { OnOk result (self.new.spots
+            ≡ put_at self.old.spots self.old.next (held value (words_of bytes.now))) }
+        ensures same { OnErr result (self.new.spots ≡ self.old.spots) }
+        ensures next { OnErr result (self.new.next ≡ self.old.next) }
+        ensures unasked { HasFree self.old → IsOk result }
     {
-        if self.spare == 0 {
-            let place = self.count;
-            let (at, _) = pages::locate(place);
-            text::push_record(&mut self.pages[at], value, self.size, bytes);
-            self.count += 1;
-            return place;
+        match self.turns.next_roomy() {
+            Some(number) => {
+                let places = places_of(self.shift, self.end, number);
+                let rest = put_in(
+                    &mut self.pages,
+                    &mut self.turns,
+                    number,
+                    places,
+                    value,
+                    bytes,
+                );
+                Ok(start_of(self.shift, number) + rest)
+            }
+            None => match self.turns.next_gone() {
+                Some(number) => {
+                    let words = (self.size + 1).saturating_mul(size_of(self.shift, number));
+                    reopen(&mut self.pages, &mut self.turns, number, words)?;
+                    let places = places_of(self.shift, self.end, number);
+                    let rest = put_in(
+                        &mut self.pages,
+                        &mut self.turns,
+                        number,
+                        places,
+                        value,
+                        bytes,
+                    );
+                    Ok(start_of(self.shift, number) + rest)
+                }
+                None => {
+                    let place = self.end;
+                    if place >= MOST {
+                        return Err(AllocError);
+                    }
+                    let (number, _) = locate(self.shift, place);
+                    begin(&mut self.pages, &mut self.turns, number, self.size)?;
+                    let page = &mut self.pages[number];
+                    page.widen(words_more(self.shift, place, self.size))?;
+                    page.put(value, bytes);
+                    self.end = place + 1;
+                    Ok(place)
+                }
+            },
         }
-        let place = self.free;
-        let (at, rest) = pages::locate(place);
-        let page = &mut self.pages[at];
-        let start = rest * (self.size + 1);
-        self.free = page[start] as usize;
-        self.spare -= 1;
-        text::write_record(page, start, self.size, value, bytes);
-        place
     }
 
-    /// Puts a record in the place of the one that stands there. Its text takes as many words as each does here. It asks for no memory.
+    /// Puts a record in the place of the one that stands there. Its text takes as many words as each does here. It asks
+    /// for no memory.
     pub fn set(&mut self, place: usize, value: u64, bytes: &[u8])
         requires is_held { IsHeld (spot_at self.old place) }
         requires fits { words_for (length bytes.now) ≡ self.old.size }
         ensures { self.new ≡ with_spot self.old place (held value (words_of bytes.now)) }
     {
-        let (at, rest) = pages::locate(place);
-        let page = &mut self.pages[at];
-        let start = rest * (self.size + 1);
-        text::write_record(page, start, self.size, value, bytes);
+        let (at, rest) = locate(self.shift, place);
+        self.pages[at].set(rest, value, bytes);
     }
 
-    /// Takes the record at a place out. The place is the next to be taken; where no other record is left the list is given back. It asks
-    /// for no memory.
+    /// Takes the record at a place out. Where its page has no other, the page's memory goes back; and where the list
+    /// has no other, all goes. It asks for no memory.
     pub fn remove(&mut self, place: usize)
         requires { IsHeld (spot_at self.old place) }
-        ensures { self.new ≡ removed self.old place }
+        ensures { IsRemoved self.old self.new place }
     {
-        if self.spare + 1 == self.count {
+        self.take_out(place);
+        if self.turns.all_gone() {
             let alloc = *self.pages.allocator();
             self.pages = Vec::new(alloc);
-            self.count = 0;
-            self.free = 0;
-            self.spare = 0;
-        } else {
-            self.take_out(place);
+            self.turns = Turns::new(alloc);
+            self.end = 0;
         }
     }
 
     /// The same where the list is kept, also with no record left, for a caller that drops it then.
     pub fn take_out(&mut self, place: usize)
         requires { IsHeld (spot_at self.old place) }
-        ensures { self.new ≡ taken_out self.old place }
+        ensures size { self.new.size ≡ self.old.size }
+        ensures spots { self.new.spots ≡ slice_set self.old.spots place (free 0) }
     {
-        let (at, rest) = pages::locate(place);
-        let page = &mut self.pages[at];
-        page[rest * (self.size + 1)] = self.free as u64;
-        self.free = place;
-        self.spare += 1;
+        let (number, rest) = locate(self.shift, place);
+        let places = places_of(self.shift, self.end, number);
+        take_out_of(&mut self.pages, &mut self.turns, number, rest, places);
     }
 }

@@ -1,5 +1,6 @@
-//! Texts as words: how they are written, and how they compare with bytes. The whole words of bytes are read by a loop that tests nothing else, which the
-//! compiler turns into code for several words a step; a shorter word behind them is read by itself.
+//! Texts as words: how they are written, and how they compare with bytes. The whole words of bytes are read by a loop
+//! that tests nothing else, which the compiler turns into code for several words a step; a shorter word behind them is
+//! read by itself.
 
 ghost use Rattle.std.specs.Prelude.{◌≡◌, ◌↔◌, ◌≤◌, ◌+◌, ◌-◌, ◌∷◌, ◌++◌, take, drop, IsTrue, length, vec_len, vec_capacity};
 ghost use Rattle.judy_model.specs.Keys.{byte_order};
@@ -36,8 +37,8 @@ pub fn write_record(words: &mut Vec<u64>, start: usize, size: usize, value: u64,
     write(&mut words[start + 1..start + 1 + size], bytes);
 }
 
-// Puts a record behind the words, its value and then the words of the bytes, as many as that. There is memory for it. The list is taken out
-// meanwhile, so that its length needn't be written word by word.
+// Puts a record behind the words, its value and then the words of the bytes, as many as that. There is memory for it.
+// The list is taken out meanwhile, so that its length needn't be written word by word.
 pub fn push_record(words: &mut Vec<u64>, value: u64, size: usize, bytes: &[u8])
     requires room { vec_len words.old + (size + 1) ≤ vec_capacity words.old }
     requires fits { words_for (length bytes.now) ≡ size }

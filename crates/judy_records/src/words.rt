@@ -21,8 +21,8 @@ pub fn first_word(bytes: &[u8]) -> u64
     }
 }
 
-// The first word of bytes that are fewer than two such numbers take: the first and the last of them are read at once, and what both have is shifted
-// out of the latter. Bytes that are fewer than one takes are read by `$fewer`.
+// The first word of bytes that are fewer than two such numbers take: the first and the last of them are read at once,
+// and what both have is shifted out of the latter. Bytes that are fewer than one takes are read by `$fewer`.
 macro_rules! word_by_two {
     ($bytes:ident, $number:ty, $count:literal, $above:ident, $fewer:ident) => {{
         let Some(last) = $bytes.last_chunk::<$count>() else {
@@ -60,9 +60,10 @@ fn byte_word(bytes: &[u8]) -> u64
     u64::from(byte_or_zero(bytes, 0)) << 56
 }
 
-/// The same, of bytes that may just have been written: it reads them one by one. A load of eight that no single store covers, as none
-/// does where `memcpy` wrote them by two that overlap, waits until the stores have left the processor. It is a call of its
-/// own, since within a caller that knows of eight bytes these reads are joined into such a load again.
+/// The same, of bytes that may just have been written: it reads them one by one. A load of eight that no single store
+/// covers, as none does where `memcpy` wrote them by two that overlap, waits until the stores have left the processor.
+/// It is a call of its own, since within a caller that knows of eight bytes these reads are joined into such a load
+/// again.
 #[inline(never)]
 pub fn fresh_word(bytes: &[u8]) -> u64
     ensures { result ≡ first_word bytes.now }
@@ -84,8 +85,8 @@ fn byte_or_zero(bytes: &[u8], place: usize) -> u8
     }
 }
 
-// The word that stands behind the whole ones: the last bytes, fewer than eight, and then zeros. Where there are eight in all, these are read at once, and
-// the bytes before them are shifted out.
+// The word that stands behind the whole ones: the last bytes, fewer than eight, and then zeros. Where there are eight
+// in all, these are read at once, and the bytes before them are shifted out.
 pub fn last_word(bytes: &[u8]) -> u64
     requires { 0 < length bytes.now % 8 }
     ensures { result ≡ first_word (drop (8 * (length bytes.now / 8)) bytes.now) }

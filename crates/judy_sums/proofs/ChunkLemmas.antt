@@ -1,5 +1,6 @@
 -- The chunks of a list: what stands before and behind one, and what a change of one makes of the list.
-use Rattle.std.proofs.Common.{◌≡◌, ℕ, zero, suc, ◌+◌, ◌<◌, ◌≤◌, ◌^◌, ◌/◌, ◌⊎◌, inl, inr, cond, true, false, not, List, [], ◌∷◌, ◌++◌, length, take, drop, get_or, set, insert, remove, unwrap_or, Some, None, IsSome, Less, Equal, Greater, refl, sym, ap, ◌∙◌, subst, arith, append_assoc, add-zero, add-one, is_some, T}
+use Rattle.std.proofs.Common.{◌≡◌, ℕ, zero, suc, ◌+◌, ◌<◌, ◌≤◌, ◌^◌, ◌/◌, ◌⊎◌, inl, inr, cond, true, false, not, List, [], ◌∷◌, ◌++◌, length, take, drop, get_or, set, insert}
+use Rattle.std.proofs.Common.{remove, unwrap_or, Some, None, IsSome, Less, Equal, Greater, refl, sym, ap, ◌∙◌, subst, arith, append_assoc, add-zero, add-one, is_some, T}
 use Rattle.std.specs.Ordering.{is_eq, is_lt, eq_by_cmp}
 use Rattle.std.specs.Cmp.{ranked, nat_cmp_total}
 use Rattle.std.specs.FinMap.{find, put, is_sorted}
@@ -13,7 +14,8 @@ use Rattle.judy_model.proofs.lemmas.maps.Pairs.{first_below, rest_sorted}
 use Rattle.judy_model.proofs.lemmas.maps.Tests.{left_of, right_of, both}
 use Rattle.judy_sums.specs.Pairs.{Pairs, sum_of, sum_below, part_below, number_in, without}
 use Rattle.judy_sums.specs.Chunks.{AllBelow, AllFrom, Ascends, AllFilled, AreChunks, BelongsTo, BeginsBy, BeginsAbove, joined}
-use Rattle.judy_sums.proofs.PairLemmas.{tail_ascends, below_more, from_less, before_pair, from_first, find_none, find_front, find_behind, put_front, put_behind, without_front, without_behind, sum_front, sum_behind}
+use Rattle.judy_sums.proofs.PairLemmas.{tail_ascends, below_more, from_less, before_pair, from_first, find_none, find_front, find_behind, put_front, put_behind, without_front}
+use Rattle.judy_sums.proofs.PairLemmas.{without_behind, sum_front, sum_behind}
 
 -- ---- one chunk among others
 
@@ -58,7 +60,8 @@ joined_drop [] at within = absurd (omega arith)
 joined_drop (chunk ∷ rest) zero within = refl
 joined_drop (chunk ∷ rest) (suc at) within = joined_drop rest at (omega arith)
 
-behind_begins : (chunks : List Pairs) (at word : ℕ) → AreChunks chunks → BeginsAbove (get_or chunks at []) word → (at < length chunks) ⊎ (length chunks ≤ at) → AllFrom (joined (drop at chunks)) (suc word)
+behind_begins : (chunks : List Pairs) (at word : ℕ) → AreChunks chunks → BeginsAbove (get_or chunks at []) word → (at < length chunks) ⊎ (length chunks ≤ at) →
+    AllFrom (joined (drop at chunks)) (suc word)
 behind_begins chunks at word are begins (inl within) =
     let first = filled_at chunks at are.filled within in
     let is = joined_drop chunks at within ∙ ap (λ chunk. chunk ++ joined (drop (suc at) chunks)) first.2 in
@@ -75,7 +78,8 @@ before_begins chunks (suc at) word are within begins =
     below_more (joined (take (suc at) chunks)) first.0.0 word least (before_pair (joined (take (suc at) chunks)) first.0 (first.1 ++ joined (drop (suc (suc at)) chunks)) (subst Ascends is are.ascend))
 
 -- A word belongs to the last chunk that doesn't begin above it.
-pub belongs : (chunks : List Pairs) (word at : ℕ) → AreChunks chunks → at < length chunks → (0 < at → BeginsBy (get_or chunks at []) word) → BeginsAbove (get_or chunks (suc at) []) word → BelongsTo chunks word at
+pub belongs : (chunks : List Pairs) (word at : ℕ) → AreChunks chunks → at < length chunks → (0 < at → BeginsBy (get_or chunks at []) word) →
+    BeginsAbove (get_or chunks (suc at) []) word → BelongsTo chunks word at
 belongs chunks word at are within by above = record {
   within = within;
   before = before_begins chunks at word are within by;
@@ -132,7 +136,8 @@ module _ (chunks : List Pairs) (word at : ℕ) (are : AreChunks chunks) (here : 
   below_is =
       ap (λ pairs. sum_below pairs word) whole
       ∙ below_append front (chunk ++ back) word
-      ∙ ap (λ n. sum_below front word + n) (below_append chunk back word ∙ ap (λ n. sum_below chunk word + n) (sum_behind back word (from_less back word (suc word) (omega arith) here.behind)) ∙ add-zero (sum_below chunk word))
+      ∙ ap (λ n. sum_below front word + n) (below_append chunk back word ∙ ap (λ n. sum_below chunk word + n)
+      (sum_behind back word (from_less back word (suc word) (omega arith) here.behind)) ∙ add-zero (sum_below chunk word))
       ∙ ap (λ n. n + sum_below chunk word) (sum_front front word here.before)
 
   -- To put a word into its chunk is to put it into the list.
@@ -158,7 +163,8 @@ module _ (chunks : List Pairs) (word at : ℕ) (are : AreChunks chunks) (here : 
 pub put_fills : (pairs : Pairs) (word number : ℕ) → (pair : ℕ × ℕ) × (rest : Pairs) × (put word_order word number pairs ≡ pair ∷ rest)
 put_fills [] word number = ((word, number), [], refl)
 put_fills (pair ∷ rest) word number =
-    elim (word_order word pair.0) as (λ r. (first : ℕ × ℕ) × (others : Pairs) × (by_order r ((word, number) ∷ pair ∷ rest) ((pair.0, number) ∷ rest) (pair ∷ put word_order word number rest) ≡ first ∷ others)) [
+    elim (word_order word pair.0) as (λ r. (first : ℕ × ℕ) × (others : Pairs) × (by_order r ((word, number) ∷ pair ∷ rest) ((pair.0, number) ∷ rest)
+    (pair ∷ put word_order word number rest) ≡ first ∷ others)) [
       | Less ↦ ((word, number), pair ∷ rest, refl)
       | Equal ↦ ((pair.0, number), rest, refl)
       | Greater ↦ (pair, put word_order word number rest, refl)
@@ -180,7 +186,8 @@ sum_put (pair ∷ rest) word number ascend =
     let pairs : Pairs = pair ∷ rest in
     let old = sum_one pair rest in
     elim (word_order word pair.0) as (λ r. word_order word pair.0 ≡ r
-    → sum_of (by_order r ((word, number) ∷ pair ∷ rest) ((pair.0, number) ∷ rest) (pair ∷ put word_order word number rest)) + unwrap_or (cond (is_eq r) (Some pair.1) (find word_order word rest)) 0 ≡ sum_of (pair ∷ rest) + number) [
+    → sum_of (by_order r ((word, number) ∷ pair ∷ rest) ((pair.0, number) ∷ rest) (pair ∷ put word_order word number rest)) + unwrap_or
+    (cond (is_eq r) (Some pair.1) (find word_order word rest)) 0 ≡ sum_of (pair ∷ rest) + number) [
       | Less ↦ λ less.
           let above : suc word ≤ pair.0 = let before = ranked word pair.0 Less (sym less) in omega arith in
           let none = ap (λ found. unwrap_or found 0) (find_none rest word (rest_from (suc word) pair rest (from_first pair rest (suc word) ascend above))) in
@@ -202,7 +209,8 @@ sum_without (pair ∷ rest) word =
     elim (not (eq_by_cmp word_order word pair.0)) as (λ b. sum_of (cond b (pair ∷ without word rest) (without word rest)) ≤ sum_of (pair ∷ rest)) [ true ↦ omega arith | false ↦ omega arith ]
 
 module _ (chunks : List Pairs) (word at : ℕ) (are : AreChunks chunks) (here : BelongsTo chunks word at) where
-  pub are_put : (number : ℕ) → length (put word_order word number (joined chunks)) < 2 ^ 64 → sum_of (put word_order word number (joined chunks)) < 2 ^ 64 → AreChunks (set chunks at (put word_order word number (get_or chunks at [])))
+  pub are_put : (number : ℕ) → length (put word_order word number (joined chunks)) < 2 ^ 64 → sum_of (put word_order word number (joined chunks)) < 2 ^ 64 →
+      AreChunks (set chunks at (put word_order word number (get_or chunks at [])))
   are_put number few fits =
       let is = sym (put_is chunks word at are here number) in
       let first = put_fills (get_or chunks at []) word number in
@@ -227,7 +235,8 @@ pub first_of_some : {X : Type 0} (xs : List X) → 1 ≤ length xs → (x : X) �
 first_of_some [] some = absurd (omega arith)
 first_of_some (x ∷ rest) some = (x, rest, refl)
 
-filled_parted : (chunks : List Pairs) (at : ℕ) (pair other : ℕ × ℕ) (rest more : Pairs) → at < length chunks → AllFilled chunks → AllFilled (take at chunks ++ (pair ∷ rest) ∷ (other ∷ more) ∷ drop (suc at) chunks)
+filled_parted : (chunks : List Pairs) (at : ℕ) (pair other : ℕ × ℕ) (rest more : Pairs) → at < length chunks → AllFilled chunks →
+    AllFilled (take at chunks ++ (pair ∷ rest) ∷ (other ∷ more) ∷ drop (suc at) chunks)
 filled_parted [] at pair other rest more within filled = absurd (omega arith)
 filled_parted ([] ∷ others) at pair other rest more within filled = absurd filled
 filled_parted ((first ∷ chunk) ∷ others) zero pair other rest more within filled = filled
@@ -244,17 +253,21 @@ module _ (chunks : List Pairs) (at half : ℕ) (within : at < length chunks) whe
   unfolding lower upper
   parted_joined =
       joined_append (take at chunks) (lower ∷ upper ∷ drop (suc at) chunks)
-      ∙ ap (λ pairs. joined (take at chunks) ++ pairs) (sym (append_assoc lower upper (joined (drop (suc at) chunks))) ∙ ap (λ chunk. chunk ++ joined (drop (suc at) chunks)) (take-append-drop half (get_or chunks at [])))
+      ∙ ap (λ pairs. joined (take at chunks) ++ pairs) (sym (append_assoc lower upper (joined (drop (suc at) chunks))) ∙
+      ap (λ chunk. chunk ++ joined (drop (suc at) chunks)) (take-append-drop half (get_or chunks at [])))
       ∙ sym (joined_split chunks at within)
 
-  pub parted_are : AreChunks chunks → 1 ≤ half → half < length (get_or chunks at []) → AreChunks (take at chunks ++ take half (get_or chunks at []) ∷ drop half (get_or chunks at []) ∷ drop (suc at) chunks)
+  pub parted_are : AreChunks chunks → 1 ≤ half → half < length (get_or chunks at []) → AreChunks (take at chunks ++
+      take half (get_or chunks at []) ∷ drop half (get_or chunks at []) ∷ drop (suc at) chunks)
   unfolding lower upper
   parted_are are some less =
       let low = first_of_some lower (let long = length-take-le half (get_or chunks at []) (omega arith) in omega arith) in
       let high = first_of_some upper (let long = length-drop half (get_or chunks at []) in omega arith) in
       record {
         ascend = subst Ascends (sym parted_joined) are.ascend;
-        filled = subst (λ chunk. AllFilled (take at chunks ++ chunk ∷ upper ∷ drop (suc at) chunks)) (sym low.2) (subst (λ chunk. AllFilled (take at chunks ++ (low.0 ∷ low.1) ∷ chunk ∷ drop (suc at) chunks)) (sym high.2) (filled_parted chunks at low.0 high.0 low.1 high.1 within are.filled));
+        filled =
+            subst (λ chunk. AllFilled (take at chunks ++ chunk ∷ upper ∷ drop (suc at) chunks)) (sym low.2)
+            (subst (λ chunk. AllFilled (take at chunks ++ (low.0 ∷ low.1) ∷ chunk ∷ drop (suc at) chunks)) (sym high.2) (filled_parted chunks at low.0 high.0 low.1 high.1 within are.filled));
         few = subst (λ pairs. length pairs < 2 ^ 64) (sym parted_joined) are.few;
         fits = subst (λ pairs. sum_of pairs < 2 ^ 64) (sym parted_joined) are.fits;
       }
@@ -265,8 +278,10 @@ parted_cut (chunk ∷ rest) zero lower upper within = refl
 parted_cut (chunk ∷ rest) (suc at) lower upper within = ap (λ all. chunk ∷ all) (parted_cut rest at lower upper (omega arith))
 
 -- As the code has it: the halves of the chunk that was lent.
-parted_seen : (chunks : List Pairs) (at : ℕ) → at < length chunks → (lent lower upper : Pairs) → lent ≡ get_or chunks at lent → lower ≡ take (length lent / 2) lent → upper ≡ drop (length lent / 2) lent
-    → insert (set chunks at lower) (at + 1) upper ≡ take at chunks ++ take (length (get_or chunks at []) / 2) (get_or chunks at []) ∷ drop (length (get_or chunks at []) / 2) (get_or chunks at []) ∷ drop (suc at) chunks
+parted_seen : (chunks : List Pairs) (at : ℕ) → at < length chunks → (lent lower upper : Pairs) → lent ≡ get_or chunks at lent → lower ≡ take (length lent / 2) lent →
+    upper ≡ drop (length lent / 2) lent
+    → insert (set chunks at lower) (at + 1) upper ≡ take at chunks ++ take (length (get_or chunks at []) / 2) (get_or chunks at []) ∷ drop (length (get_or chunks at []) / 2)
+    (get_or chunks at []) ∷ drop (suc at) chunks
 parted_seen chunks at within lent lower upper is_lent is_lower is_upper =
     let chunk : Pairs = get_or chunks at [] in
     let lends : lent ≡ chunk = get_or_read chunks at lent within is_lent [] in
@@ -319,7 +334,8 @@ module _ (chunks seen : List Pairs) (word at : ℕ) (lent : Pairs) (are : AreChu
   pub lent_put : (new : Pairs) (number : ℕ) → new ≡ put word_order word number lent → joined (set chunks at new) ≡ put word_order word number (joined chunks)
   lent_put new number e = ap (λ chunk. joined (set chunks at chunk)) (e ∙ ap (put word_order word number) is_chunk) ∙ put_is chunks word at are here number
 
-  pub lent_are : (new : Pairs) (number : ℕ) → new ≡ put word_order word number lent → length (put word_order word number (joined chunks)) < 2 ^ 64 → sum_of (put word_order word number (joined chunks)) < 2 ^ 64 → AreChunks (set chunks at new)
+  pub lent_are : (new : Pairs) (number : ℕ) → new ≡ put word_order word number lent → length (put word_order word number (joined chunks)) < 2 ^ 64 →
+      sum_of (put word_order word number (joined chunks)) < 2 ^ 64 → AreChunks (set chunks at new)
   lent_are new number e few fits = subst (λ chunk. AreChunks (set chunks at chunk)) (sym (e ∙ ap (put word_order word number) is_chunk)) (are_put chunks word at are here number few fits)
 
   pub lent_without : (new : Pairs) → new ≡ without word lent → joined (set chunks at new) ≡ without word (joined chunks)

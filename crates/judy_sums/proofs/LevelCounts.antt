@@ -33,7 +33,8 @@ module _ (leads : ℕ × ℕ → Bool) (behind : ℕ × ℕ → ℕ) where
   one_below entry rest word weighed =
       let some = weighed.0.0 in
       let alone = weighed.0.1 in
-      elim (leads entry) as (λ b. (b ≡ false → behind entry ≡ 1) → sum_below (cond b ((entry.0, behind entry - 1) ∷ extras leads behind rest) (extras leads behind rest)) word + cond (nat_lt entry.0 word) 1 0
+      elim (leads entry) as (λ b. (b ≡ false → behind entry ≡ 1) → sum_below (cond b ((entry.0, behind entry - 1) ∷ extras leads behind rest) (extras leads behind rest)) word + cond
+      (nat_lt entry.0 word) 1 0
       ≡ cond (nat_lt entry.0 word) (behind entry) 0 + sum_below (extras leads behind rest) word) [
         | true ↦ λ _. let first = sum_by-cons (part_below word) (entry.0, behind entry - 1) (extras leads behind rest) in
             elim (nat_lt entry.0 word) as (λ b. sum_below ((entry.0, behind entry - 1) ∷ extras leads behind rest) word ≡ cond b (behind entry - 1) 0 + sum_below (extras leads behind rest) word
@@ -41,10 +42,11 @@ module _ (leads : ℕ × ℕ → Bool) (behind : ℕ × ℕ → ℕ) where
               | true ↦ λ e. omega arith
               | false ↦ λ e. omega arith
             ] first
-        | false ↦ λ one. let is = one refl in elim (nat_lt entry.0 word) as (λ b. sum_below (extras leads behind rest) word + cond b 1 0 ≡ cond b (behind entry) 0 + sum_below (extras leads behind rest) word) [
-          | true ↦ omega arith
-          | false ↦ omega arith
-        ]
+        | false ↦ λ one. let is = one refl in elim (nat_lt entry.0 word) as (λ b. sum_below (extras leads behind rest) word + cond b 1 0 ≡
+            cond b (behind entry) 0 + sum_below (extras leads behind rest) word) [
+              | true ↦ omega arith
+              | false ↦ omega arith
+            ]
       ] alone
 
   -- The keys below a word are the entries below it and the sum below it.
@@ -60,7 +62,8 @@ module _ (leads : ℕ × ℕ → Bool) (behind : ℕ × ℕ → ℕ) where
   one_of : (entry : ℕ × ℕ) (rest : Pairs) → AreWeighed leads behind (entry ∷ rest) → sum_of (extras leads behind (entry ∷ rest)) + 1 ≡ behind entry + sum_of (extras leads behind rest)
   one_of entry rest weighed =
       let some = weighed.0.0 in
-      elim (leads entry) as (λ b. (b ≡ false → behind entry ≡ 1) → sum_of (cond b ((entry.0, behind entry - 1) ∷ extras leads behind rest) (extras leads behind rest)) + 1 ≡ behind entry + sum_of (extras leads behind rest)) [
+      elim (leads entry) as (λ b. (b ≡ false → behind entry ≡ 1) → sum_of (cond b ((entry.0, behind entry - 1) ∷ extras leads behind rest) (extras leads behind rest)) + 1 ≡
+      behind entry + sum_of (extras leads behind rest)) [
         | true ↦ λ _. let first = sum_by-cons (λ (pair : ℕ × ℕ). pair.1) (entry.0, behind entry - 1) (extras leads behind rest) in omega arith
         | false ↦ λ one. let is = one refl in omega arith
       ] weighed.0.1

@@ -1,5 +1,7 @@
 -- Pairs in ascending order: what stands before and behind a word, and what a put or a removal there leaves.
-use Rattle.std.proofs.Common.{◌≡◌, ℕ, zero, suc, ◌<◌, ◌≤◌, Bool, true, false, cond, not, ◌&&◌, ◌⊎◌, inl, inr, T, [], ◌∷◌, ◌++◌, length, take, drop, get_or, set, insert, remove, nat_lt, Option, Some, None, Less, Equal, Greater, refl, sym, ap, ◌∙◌, subst, arith, ◌+◌, ◌-◌, zero-add, sub-one, add-one, unwrap_or, IsSome, true≢false}
+use Rattle.std.proofs.Common.{◌≡◌, ℕ, zero, suc, ◌<◌, ◌≤◌, Bool, true, false, cond, not, ◌&&◌, ◌⊎◌, inl, inr, T, [], ◌∷◌, ◌++◌, length, take, drop, get_or, set, insert, remove}
+use Rattle.std.proofs.Common.{nat_lt, Option, Some, None, Less, Equal, Greater, refl, sym, ap, ◌∙◌, subst, arith, ◌+◌, ◌-◌, zero-add, sub-one, add-one, unwrap_or, IsSome}
+use Rattle.std.proofs.Common.{true≢false}
 use Rattle.std.specs.Ordering.{nat_cmp, is_lt, is_eq, eq_by_cmp}
 use Rattle.std.specs.Cmp.{nat_cmp_is, ranked}
 use Rattle.std.specs.FinMap.{find, put}
@@ -123,7 +125,8 @@ without_none (pair ∷ rest) word all =
 pub without_behind : (pairs back : Pairs) (word : ℕ) → AllFrom back (suc word) → without word (pairs ++ back) ≡ without word pairs ++ back
 without_behind [] back word all = without_none back word all
 without_behind (pair ∷ rest) back word all =
-    elim (word_order word pair.0) as (λ r. cond (not (is_eq r)) (pair ∷ without word (rest ++ back)) (without word (rest ++ back)) ≡ cond (not (is_eq r)) (pair ∷ without word rest) (without word rest) ++ back) [
+    elim (word_order word pair.0) as (λ r. cond (not (is_eq r)) (pair ∷ without word (rest ++ back)) (without word (rest ++ back)) ≡
+    cond (not (is_eq r)) (pair ∷ without word rest) (without word rest) ++ back) [
       | Less ↦ ap (λ pairs. pair ∷ pairs) (without_behind rest back word all)
       | Equal ↦ without_behind rest back word all
       | Greater ↦ ap (λ pairs. pair ∷ pairs) (without_behind rest back word all)
@@ -185,11 +188,13 @@ behind_ends : (pairs : Pairs) (word at : ℕ) → Ascends pairs → (at < length
 behind_ends pairs word at ascend behind (inl inside) =
     let whole = take-append-drop at pairs in
     let first = drop_more pairs at (0, 0) inside in
-    subst (λ back. AllFrom back word) (sym first) (from_first (get_or pairs at (0, 0)) (drop (at + 1) pairs) word (subst Ascends first (tail_ascends (take at pairs) (drop at pairs) (subst Ascends (sym whole) ascend))) (behind inside))
+    subst (λ back. AllFrom back word) (sym first) (from_first (get_or pairs at (0, 0)) (drop (at + 1) pairs) word
+    (subst Ascends first (tail_ascends (take at pairs) (drop at pairs) (subst Ascends (sym whole) ascend))) (behind inside))
 behind_ends pairs word at ascend behind (inr past) = subst (λ back. AllFrom back word) (sym (drop_all at pairs past)) tt
 
 -- A place at whose ends the words are as they should is the place of the word.
-pub place_from_ends : (pairs : Pairs) (word at : ℕ) → Ascends pairs → at ≤ length pairs → (0 < at → (get_or pairs (at - 1) (0, 0)).0 < word) → (at < length pairs → word ≤ (get_or pairs at (0, 0)).0) → IsPlace pairs word at
+pub place_from_ends : (pairs : Pairs) (word at : ℕ) → Ascends pairs → at ≤ length pairs → (0 < at → (get_or pairs (at - 1) (0, 0)).0 < word) →
+    (at < length pairs → word ≤ (get_or pairs at (0, 0)).0) → IsPlace pairs word at
 place_from_ends pairs word at ascend within before behind = record {
   within = within;
   before = before_ends pairs word at ascend within before;

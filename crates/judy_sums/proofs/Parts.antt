@@ -1,5 +1,6 @@
 -- Keys in parts, one after the other: each entry of a level has a part, and each key of a part tells the entry's word.
-use Rattle.std.proofs.Common.{◌≡◌, ◌≢◌, ℕ, zero, suc, ◌+◌, ◌<◌, ◌≤◌, Bool, true, false, cond, nat_lt, T, List, [], ◌∷◌, ◌++◌, length, filter, slice_get, Option, Some, None, Less, refl, sym, ap, ◌∙◌, subst, arith, ⊎_elim}
+use Rattle.std.proofs.Common.{◌≡◌, ◌≢◌, ℕ, zero, suc, ◌+◌, ◌<◌, ◌≤◌, Bool, true, false, cond, nat_lt, T, List, [], ◌∷◌, ◌++◌, length, filter, slice_get, Option, Some, None, Less}
+use Rattle.std.proofs.Common.{refl, sym, ap, ◌∙◌, subst, arith, ⊎_elim}
 use Rattle.std.specs.declared.cmp.Ordering.{Ordering}
 use Rattle.std.specs.Ordering.{is_lt, is_eq, eq_by_cmp}
 use Rattle.std.specs.List.{flat_map, AllByRecursion}
@@ -59,7 +60,8 @@ module _ {K X : Type 0} (order : K → K → Ordering) where
       both (is_lt (order key pair.0)) (below_all order key (rest ++ back)) (left_of (is_lt (order key pair.0)) (below_all order key rest) one)
       (below-append key rest back (right_of (is_lt (order key pair.0)) (below_all order key rest) one) other)
 
-  sorted-append : (front back : List (K × X)) → T (is_sorted order front) → T (is_sorted order back) → AllByRecursion (λ pair. T (below_all order pair.0 back)) front → T (is_sorted order (front ++ back))
+  sorted-append : (front back : List (K × X)) → T (is_sorted order front) → T (is_sorted order back) → AllByRecursion (λ pair. T (below_all order pair.0 back)) front →
+      T (is_sorted order (front ++ back))
   sorted-append [] back one other each = other
   sorted-append (pair ∷ rest) back one other each =
       both (below_all order pair.0 (rest ++ back)) (is_sorted order (rest ++ back)) (below-append pair.0 rest back (first_below order pair rest one) each.0)
@@ -100,7 +102,8 @@ module _ {K X : Type 0} (order : K → K → Ordering) (part : ℕ × ℕ → Li
       ∙ none_behind key word rest above.1 miss.1
 
   -- So what is found in all parts is what is found in that one.
-  pub find_parts : (key : K) (word : ℕ) (entries : Pairs) → Ascends entries → OthersMiss key word entries → find order key (flat_map part entries) ≡ find order key (part_of part word (find word_order word entries))
+  pub find_parts : (key : K) (word : ℕ) (entries : Pairs) → Ascends entries → OthersMiss key word entries →
+      find order key (flat_map part entries) ≡ find order key (part_of part word (find word_order word entries))
   find_parts key word [] ascend miss = refl
   find_parts key word (entry ∷ rest) ascend miss = find-append order (part entry) (flat_map part rest) key ∙ ⊎_elim
       (λ (same : word ≡ entry.0).
@@ -131,7 +134,8 @@ module _ {K X : Type 0} (order : K → K → Ordering) (part : ℕ × ℕ → Li
     below_parts low key tells (entry ∷ rest) above are =
         below-append order key (part entry) (flat_map part rest) (below_part low entry.0 key above.0 tells (part entry) are.0.1) (below_parts low key tells rest above.1 are.1)
 
-    each_below : (low : ℕ) (rest : Pairs) → AllFrom rest (suc low) → AreParts rest → (pairs : List (K × X)) → AllByRecursion (λ (pair : K × X). Tells low pair.0) pairs → AllByRecursion (λ (pair : K × X). T (below_all order pair.0 (flat_map part rest))) pairs
+    each_below : (low : ℕ) (rest : Pairs) → AllFrom rest (suc low) → AreParts rest → (pairs : List (K × X)) → AllByRecursion (λ (pair : K × X). Tells low pair.0) pairs →
+        AllByRecursion (λ (pair : K × X). T (below_all order pair.0 (flat_map part rest))) pairs
     each_below low rest above are [] each = tt
     each_below low rest above are (pair ∷ pairs) each = (below_parts low pair.0 each.0 rest above are, each_below low rest above are pairs each.1)
 
@@ -211,7 +215,8 @@ module _ {K : Type 0} (part : ℕ × ℕ → List K) where
         let above = behind_first word entry rest ascend (omega arith) in
         let none = ap length (none_pass word rest above parted.1) in
         let less = none_below (part_len part) word rest (from_less rest word (suc word) (omega arith) above) in
-        let own = ap (λ (found : Option ℕ). length (filter passes (part_of part word found))) (find_same word entry rest (sym same)) ∙ ap (λ w. length (filter passes (part (w, entry.1)))) (sym same) in
+        let own = ap (λ (found : Option ℕ). length (filter passes (part_of part word found))) (find_same word entry rest (sym same)) ∙
+        ap (λ w. length (filter passes (part (w, entry.1)))) (sym same) in
         omega arith)
         (λ apart. ⊎_elim
         (λ (less : entry.0 < word).
@@ -251,7 +256,8 @@ module _ {K : Type 0} (part : ℕ × ℕ → List K) where
       (λ (less : entry.0 < word).
       let here = counted_less entry word (part_len part entry) less in
       let own = ap (part_of part word) (find_later word entry rest (λ same. let never : ⊥ = omega arith in never)) in
-      ap (slice_get (part entry ++ flat_map part rest)) (let e : keys_below (part_len part) (entry ∷ rest) word + at ≡ length (part entry) + (keys_below (part_len part) rest word + at) = omega arith in e)
+      ap (slice_get (part entry ++ flat_map part rest)) (let e : keys_below (part_len part) (entry ∷ rest) word + at ≡
+      length (part entry) + (keys_below (part_len part) rest word + at) = omega arith in e)
       ∙ slice_get-back (part entry) (flat_map part rest) (keys_below (part_len part) rest word + at)
       ∙ nth_parts word at rest (rest_sorted word_order entry rest ascend) (subst (λ keys. at < length keys) own within)
       ∙ ap (λ keys. slice_get keys at) (sym own))
@@ -268,4 +274,5 @@ module _ {K : Type 0} (part : ℕ × ℕ → List K) where
 
       slice_get-back : (front back : List K) (place : ℕ) → slice_get (front ++ back) (length front + place) ≡ slice_get back place
       slice_get-back [] back place = ap (slice_get back) (let e : 0 + place ≡ place = omega arith in e)
-      slice_get-back (key ∷ front) back place = ap (slice_get ((key ∷ front) ++ back)) (let e : suc (length front) + place ≡ suc (length front + place) = omega arith in e) ∙ slice_get-back front back place
+      slice_get-back (key ∷ front) back place =
+          ap (slice_get ((key ∷ front) ++ back)) (let e : suc (length front) + place ≡ suc (length front + place) = omega arith in e) ∙ slice_get-back front back place

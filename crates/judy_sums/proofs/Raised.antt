@@ -63,9 +63,11 @@ module _ (map : FinMap word_order ℕ) (word number : ℕ) (there : get map word
   pub raised_lowered : 1 ≤ number → raised (lowered map word) word ≡ map
   raised_lowered some =
       elim (number_at map word == 1) as (λ b. number_at map word == 1 ≡ b → raised (cond b (remove map word) (insert map word (number_at map word - 1))) word ≡ map) [
-        | true ↦ λ one. written_back (remove map word) removed_else (let is = eqb-true (number_at map word) 1 one in let last = number_there in let none = ap (λ (found : Option ℕ). unwrap_or found 0) removed_at in omega arith)
+        | true ↦ λ one. written_back (remove map word) removed_else (let is = eqb-true (number_at map word) 1 one in let last = number_there in
+            let none = ap (λ (found : Option ℕ). unwrap_or found 0) removed_at in omega arith)
         | false ↦ λ more. written_back (insert map word (number_at map word - 1)) (get_else map word (number_at map word - 1)) (let last = number_there in
-            let now : number_at (insert map word (number_at map word - 1)) word ≡ number_at map word - 1 = ap (λ (found : Option ℕ). unwrap_or found 0) (get-insert nat_cmp_total map word (number_at map word - 1) word ∙ ap (λ b. cond b (Some (number_at map word - 1)) (get map word)) (itself map word)) in
+            let now : number_at (insert map word (number_at map word - 1)) word ≡ number_at map word - 1 = ap (λ (found : Option ℕ). unwrap_or found 0)
+            (get-insert nat_cmp_total map word (number_at map word - 1) word ∙ ap (λ b. cond b (Some (number_at map word - 1)) (get map word)) (itself map word)) in
             omega arith)
       ] refl
 
@@ -99,7 +101,8 @@ lowered_raised map word each = by (get map word) refl
         get-remove nat_cmp_total (raised map word) word other
         ∙ elim (eq_by_cmp word_order other word) as (λ b. eq_by_cmp word_order other word ≡ b → cond b None (get (raised map word) other) ≡ get map other) [
           | true ↦ λ tied. sym none ∙ ap (get map) (sym (same_from_tie nat_cmp-IsAntisymmetric other word tied))
-          | false ↦ λ apart. get_else map word (number_at map word + 1) other (λ same. true≢false (sym (ap (eq_by_cmp word_order other) (sym same) ∙ ap is_eq (tied_itself nat_cmp_total other)) ∙ apart))
+          | false ↦ λ apart. get_else map word (number_at map word + 1) other (λ same. true≢false (sym
+              (ap (eq_by_cmp word_order other) (sym same) ∙ ap is_eq (tied_itself nat_cmp_total other)) ∙ apart))
         ] refl)
     by (Some number) there =
         let some = each word number there in
@@ -112,7 +115,8 @@ lowered_raised map word each = by (get map word) refl
         get-insert nat_cmp_total (raised map word) word (number_at (raised map word) word - 1) other
         ∙ elim (eq_by_cmp word_order other word) as (λ b. eq_by_cmp word_order other word ≡ b → cond b (Some (number_at (raised map word) word - 1)) (get (raised map word) other) ≡ get map other) [
           | true ↦ λ tied. ap Some left ∙ sym there ∙ ap (get map) (sym (same_from_tie nat_cmp-IsAntisymmetric other word tied))
-          | false ↦ λ apart. get_else map word (number_at map word + 1) other (λ same. true≢false (sym (ap (eq_by_cmp word_order other) (sym same) ∙ ap is_eq (tied_itself nat_cmp_total other)) ∙ apart))
+          | false ↦ λ apart. get_else map word (number_at map word + 1) other (λ same. true≢false (sym
+              (ap (eq_by_cmp word_order other) (sym same) ∙ ap is_eq (tied_itself nat_cmp_total other)) ∙ apart))
         ] refl)
 
 -- There are no more texts than their numbers sum up to, where each is one or more.
@@ -123,5 +127,6 @@ some_sum (pair ∷ rest) each = let one = sum_by-cons (λ (other : ℕ × ℕ). 
 pub len_within : (map : FinMap word_order ℕ) → ((text number : ℕ) → get map text ≡ Some number → 1 ≤ number) → len map ≤ sum_of (entries map)
 len_within map each =
     let long = len-entries map in
-    let most = some_sum (entries map) (each_found word_order nat_cmp_total nat_cmp-IsAntisymmetric (λ (pair : ℕ × ℕ). 1 ≤ pair.1) (entries map) (entries_sorted map) (λ text number found. each text number (get-entries map text ∙ found))) in
+    let most = some_sum (entries map) (each_found word_order nat_cmp_total nat_cmp-IsAntisymmetric (λ (pair : ℕ × ℕ). 1 ≤ pair.1) (entries map) (entries_sorted map)
+    (λ text number found. each text number (get-entries map text ∙ found))) in
     omega arith

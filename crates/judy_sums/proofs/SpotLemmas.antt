@@ -1,5 +1,6 @@
 -- Places in a list: what stands there is found there, and a change there changes the list.
-use Rattle.std.proofs.Common.{◌≡◌, ◌≢◌, ◌==◌, ℕ, zero, suc, ◌+◌, ◌-◌, ◌<◌, ◌≤◌, ◌^◌, cond, List, [], ◌∷◌, ◌++◌, length, take, drop, get_or, set, insert, remove, unwrap_or, Option, Some, None, IsSome, refl, sym, ap, ◌∙◌, subst, arith, append_assoc, is_some}
+use Rattle.std.proofs.Common.{◌≡◌, ◌≢◌, ◌==◌, ℕ, zero, suc, ◌+◌, ◌-◌, ◌<◌, ◌≤◌, ◌^◌, cond, List, [], ◌∷◌, ◌++◌, length, take, drop, get_or, set, insert, remove, unwrap_or, Option}
+use Rattle.std.proofs.Common.{Some, None, IsSome, refl, sym, ap, ◌∙◌, subst, arith, append_assoc, is_some}
 use Rattle.std.specs.FinMap.{find, put}
 use Rattle.std.proofs.lemmas.Bool.{ne_eqb}
 use Rattle.std.proofs.lemmas.List.{take-append-drop, drop_more, get_or_read}
@@ -7,7 +8,8 @@ use Rattle.judy_model.specs.Keys.{word_order}
 use Rattle.judy_sums.specs.Pairs.{Pairs, sum_of, number_in, without, put_less}
 use Rattle.judy_sums.specs.Chunks.{AllBelow, AllFrom, Ascends, AreChunks, BelongsTo, IsPlace, StandsAt, IsSpot, pair_at, joined}
 use Rattle.judy_sums.proofs.PairLemmas.{head_from, tail_ascends, from_first, before_pair, found_at, put_new, there_within, there_is, there_put, there_without}
-use Rattle.judy_sums.proofs.ChunkLemmas.{joined_split, chunk_ascends, find_chunk, sum_put, length_there, length_new, lent_ascends, lent_found, lent_sum, lent_put, lent_are, lent_without, lent_are_left, lent_gone, lent_are_gone}
+use Rattle.judy_sums.proofs.ChunkLemmas.{joined_split, chunk_ascends, find_chunk, sum_put, length_there, length_new, lent_ascends, lent_found, lent_sum, lent_put, lent_are}
+use Rattle.judy_sums.proofs.ChunkLemmas.{lent_without, lent_are_left, lent_gone, lent_are_gone}
 
 below_left : (front back : Pairs) (word : ℕ) → AllBelow (front ++ back) word → AllBelow front word
 below_left [] back word all = tt
@@ -28,7 +30,9 @@ place_here pairs at ascend within =
     record {
       within = omega arith;
       before = before_pair (take at pairs) pair (drop (at + 1) pairs) all;
-      behind = subst (λ back. AllFrom back pair.0) (sym (drop_more pairs at (0, 0) within)) (from_first pair (drop (at + 1) pairs) pair.0 (tail_ascends (take at pairs) (pair ∷ drop (at + 1) pairs) all) (omega arith));
+      behind =
+          subst (λ back. AllFrom back pair.0) (sym (drop_more pairs at (0, 0) within)) (from_first pair (drop (at + 1) pairs) pair.0
+          (tail_ascends (take at pairs) (pair ∷ drop (at + 1) pairs) all) (omega arith));
     }
 
 module _ (chunks : List Pairs) (at place : ℕ) (are : AreChunks chunks) (within : at < length chunks) (inside : place < length (get_or chunks at [])) where
@@ -52,7 +56,8 @@ module _ (chunks : List Pairs) (at place : ℕ) (are : AreChunks chunks) (within
   whole =
       joined_split chunks at within
       ∙ ap (λ (one : Pairs). joined (take at chunks) ++ (one ++ joined (drop (suc at) chunks))) (cut_at (get_or chunks at []) place inside)
-      ∙ ap (λ (ps : Pairs). joined (take at chunks) ++ ps) (append_assoc (take place (get_or chunks at [])) (pair_at chunks at place ∷ drop (place + 1) (get_or chunks at [])) (joined (drop (suc at) chunks)))
+      ∙ ap (λ (ps : Pairs). joined (take at chunks) ++ ps) (append_assoc (take place (get_or chunks at [])) (pair_at chunks at place ∷ drop (place + 1) (get_or chunks at []))
+      (joined (drop (suc at) chunks)))
       ∙ sym (append_assoc (joined (take at chunks)) (take place (get_or chunks at [])) (pair_at chunks at place ∷ drop (place + 1) (get_or chunks at []) ++ joined (drop (suc at) chunks)))
 
   belongs_here : BelongsTo chunks (pair_at chunks at place).0 at
@@ -144,7 +149,8 @@ module _ (chunks : List Pairs) (word at place : ℕ) (are : AreChunks chunks) (s
   its_number = ap (number_in (joined chunks)) (sym stands.stands.text) ∙ number_is chunks at place are stands.within stands.stands.within
 
   -- What is put there is put at the word.
-  pub put_there : (step : ℕ → ℕ) → put word_order (pair_at chunks at place).0 (step (pair_at chunks at place).1) (joined chunks) ≡ put word_order word (step (number_in (joined chunks) word)) (joined chunks)
+  pub put_there : (step : ℕ → ℕ) → put word_order (pair_at chunks at place).0 (step (pair_at chunks at place).1) (joined chunks) ≡
+      put word_order word (step (number_in (joined chunks) word)) (joined chunks)
   put_there step =
       ap (λ w. put word_order w (step (pair_at chunks at place).1) (joined chunks)) stands.stands.text
       ∙ ap (λ n. put word_order word (step n) (joined chunks)) (sym its_number)

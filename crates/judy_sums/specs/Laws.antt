@@ -11,7 +11,8 @@ use Rattle.judy_sums.specs.Levels.{entries_below, keys_below, extras, AreWeighed
 -- The keys below a word are the entries below it, and the sum below it in the list.
 abbrev pub KeysBelowAreEntriesAndExtras : Type 0
 KeysBelowAreEntriesAndExtras =
-    (leads : ℕ × ℕ → Bool) (behind : ℕ × ℕ → ℕ) (level : Pairs) (word : ℕ) → AreWeighed leads behind level → keys_below behind level word ≡ entries_below level word + sum_below (extras leads behind level) word
+    (leads : ℕ × ℕ → Bool) (behind : ℕ × ℕ → ℕ) (level : Pairs) (word : ℕ) → AreWeighed leads behind level →
+    keys_below behind level word ≡ entries_below level word + sum_below (extras leads behind level) word
 
 -- All keys are all entries, and the sum of the list.
 abbrev pub KeysAreEntriesAndExtras : Type 0

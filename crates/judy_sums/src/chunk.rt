@@ -49,8 +49,8 @@ fn place(entries: &[Entry], word: u64) -> usize
     low
 }
 
-// The entries, with the sum of the numbers and the first word beside, so that a search over chunks and a sum of them take no
-// look at entries.
+// The entries, with the sum of the numbers and the first word beside, so that a search over chunks and a sum of them
+// take no look at entries.
 #[derive(Drop)]
 pub struct Chunk {
     total: u64,

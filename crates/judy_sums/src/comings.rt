@@ -15,8 +15,8 @@ use std::alloc::AllocError;
 // So many entries a chunk holds at least before it is parted.
 const LONG: usize = 64;
 
-// Parts a chunk into its two halves where it is long, so that a chunk has no more than an eighth as many entries as there
-// are chunks, or than so many. The list stays; where memory is refused the chunk stays long.
+// Parts a chunk into its two halves where it is long, so that a chunk has no more than an eighth as many entries as
+// there are chunks, or than so many. The list stays; where memory is refused the chunk stays long.
 fn part_long(chunks: &mut Vec<Chunk>, at: usize)
     requires are { AreChunks chunks.old.items }
     requires within { at < length chunks.old.items }

@@ -1,5 +1,5 @@
-//! Laws of counts over a level of an array of strings, each the contract of a function without a body, so that the check
-//! proves it; no program calls these.
+//! Laws of counts over a level of an array of strings, each the contract of a function without a body, so that the
+//! check proves it; no program calls these.
 
 ghost use Rattle.std.specs.Prelude.{◌≡◌, ℕ, List, [], ◌∷◌};
 ghost use Rattle.judy_sums.specs.Pairs.{sum_of, sum_below};

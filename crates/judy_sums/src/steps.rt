@@ -1,6 +1,6 @@
 //! One more and one less at a word of a list.
 
-ghost use Rattle.std.specs.Prelude.{◌≡◌, ◌<◌, ◌≤◌, ◌+◌, ◌^◌, length, OnOk, OnErr, IsSome};
+ghost use Rattle.std.specs.Prelude.{◌≡◌, ◌<◌, ◌≤◌, ◌+◌, ◌^◌, length, OnOk, OnErr, IsOk, IsSome};
 ghost use Rattle.std.specs.FinMap.{find, put};
 ghost use Rattle.judy_model.specs.Keys.{word_order};
 ghost use Rattle.judy_sums.specs.Pairs.{sum_of, number_in, put_less};
@@ -12,7 +12,7 @@ use crate::chunks::{Spot, number, spot_of, stands};
 use crate::comings::{begin, bring_in};
 use std::alloc::AllocError;
 
-// Adds one to the number of a word.
+// Adds one to the number of a word. The error is want of memory, for a word that isn't there.
 pub fn raise(chunks: &mut Vec<Chunk>, word: u64) -> Result<(), AllocError>
     requires are { AreChunks chunks.old.items }
     requires few { length (joined chunks.old.items) + 1 < 2 ^ 64 }
@@ -21,6 +21,7 @@ pub fn raise(chunks: &mut Vec<Chunk>, word: u64) -> Result<(), AllocError>
     ensures raised { let old = joined chunks.old.items in
         OnOk result (joined chunks.new.items ≡ put word_order word (number_in old word + 1) old) }
     ensures unchanged { OnErr result (joined chunks.new.items ≡ joined chunks.old.items) }
+    ensures there { IsSome (find word_order word (joined chunks.old.items)) → IsOk result }
 {
     if chunks.is_empty() {
         return begin(chunks, word);

@@ -1,6 +1,6 @@
 //! The list and its calls.
 
-ghost use Rattle.std.specs.Prelude.{◌≡◌, ◌<◌, ◌≤◌, ◌+◌, ◌-◌, ◌^◌, ◌==◌, OnOk, OnErr, IsSome, None};
+ghost use Rattle.std.specs.Prelude.{◌≡◌, ◌<◌, ◌≤◌, ◌+◌, ◌-◌, ◌^◌, ◌==◌, OnOk, OnErr, IsOk, IsSome, None};
 ghost use Rattle.std.specs.FinMap as map;
 ghost use Rattle.judy_sums.specs.Pairs.{sum_of, sum_below, number_at, raised, lowered};
 
@@ -48,19 +48,20 @@ impl Sums {
         chunks::below(&self.chunks, word)
     }
 
-    /// Adds one to the number of a word, which comes in with the number 1 where it isn't there. Only then is memory asked for; the
-    /// error is want of it, and leaves the list as it was.
+    /// Adds one to the number of a word, which comes in with the number 1 where it isn't there. Only then is memory
+    /// asked for; the error is want of it, and leaves the list as it was.
     pub fn raise(&mut self, word: u64) -> Result<(), AllocError>
         requires few { map.len self.old + 1 < 2 ^ 64 }
         requires fits { sum_of (map.entries self.old) + 1 < 2 ^ 64 }
         ensures raised { OnOk result (self.new ≡ raised self.old word) }
         ensures unchanged { OnErr result (self.new ≡ self.old) }
+        ensures there { IsSome (map.get self.old word) → IsOk result }
     {
         steps::raise(&mut self.chunks, word)
     }
 
-    /// Takes one from the number of a word that is there, which is 1 or more; with its last one the word goes. It asks for no
-    /// memory.
+    /// Takes one from the number of a word that is there, which is 1 or more; with its last one the word goes. It asks
+    /// for no memory.
     pub fn lower(&mut self, word: u64)
         requires there { IsSome (map.get self.old word) }
         requires some { 1 ≤ number_at self.old word }

@@ -88,7 +88,8 @@ byte-none : (width at word : ℕ) → at < width → word % 256 ^ (width - at) �
 byte-none zero at word within none = absurd (omega (arith, within))
 byte-none (suc width) zero word within none =
     let unit = unit_pos width in
-    no-product (word / 256 ^ width % 256) (256 ^ width) (word % 256 ^ width) unit (sym (mod-mul word {m = 256} {c = 256 ^ width} (omega arith) unit) ∙ ap (λ m. word % m) (sym (pow-succ' 256 width)) ∙ ap (λ n. word % 256 ^ n) (let all : suc width ≡ suc width - 0 = omega arith in all) ∙ none)
+    no-product (word / 256 ^ width % 256) (256 ^ width) (word % 256 ^ width) unit (sym (mod-mul word {m = 256} {c = 256 ^ width} (omega arith) unit) ∙
+    ap (λ m. word % m) (sym (pow-succ' 256 width)) ∙ ap (λ n. word % 256 ^ n) (let all : suc width ≡ suc width - 0 = omega arith in all) ∙ none)
 byte-none (suc width) (suc at) word within none =
     byte-none width at word (omega (arith, within)) (ap (λ n. word % 256 ^ n) (let one_less : width - at ≡ suc width - suc at = omega arith in one_less) ∙ none)
 

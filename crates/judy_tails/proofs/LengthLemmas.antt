@@ -1,5 +1,6 @@
 -- Which list is for texts of so many words, and that there is one at most.
-use Rattle.std.proofs.Common.{◌≡◌, ◌≢◌, ◌+◌, ◌-◌, ◌<◌, ◌≤◌, ◌*◌, ◌^◌, ℕ, zero, suc, List, [], ◌∷◌, ◌++◌, length, map, nat_lt, slice_get, get_or, Some, ◌⊎◌, inl, inr, ⊎_elim, true, false, not, ◌||◌, eqb, cond, sym, refl, ap, ◌∙◌, subst, arith}
+use Rattle.std.proofs.Common.{◌≡◌, ◌≢◌, ◌+◌, ◌-◌, ◌<◌, ◌≤◌, ◌*◌, ◌^◌, ℕ, zero, suc, List, [], ◌∷◌, ◌++◌, length, map, nat_lt, slice_get, get_or, Some, ◌⊎◌, inl, inr, ⊎_elim, true}
+use Rattle.std.proofs.Common.{false, not, ◌||◌, eqb, cond, sym, refl, ap, ◌∙◌, subst, arith}
 use Rattle.std.proofs.Math.ListN.{get_or-map}
 use Rattle.std.specs.Prelude.{◌==◌}
 use Rattle.std.specs.List.{IsDistinct, list_any, position_or_len}
@@ -12,10 +13,11 @@ use Rattle.std.proofs.lemmas.List.Sums.{passes_at_first, position_or_len_is, pre
 use Rattle.std.proofs.lemmas.Map.Keys.{IsDistinct-push}
 use Rattle.std.proofs.lemmas.Map.Steps.{length-le_from_distinct_below}
 use Rattle.std.proofs.lemmas.Option.{slice_get-get_or, slice_get_within, get_or_from_slice_get}
-use Rattle.judy_records.specs.Spots.{RecordList, empty_list, next_place}
+use Rattle.judy_records.specs.Spots.{RecordList, empty_list}
+use Rattle.judy_records.proofs.PagesChange.{empty-next}
 use Rattle.judy_tails.specs.Tails.{TailLists}
-use Rattle.judy_tails.specs.Inside.{size_of, lists_of, IsTailList, AreTails}
-use Rattle.judy_tails.proofs.ListLemmas.{list_at, pushed-other, next-within}
+use Rattle.judy_tails.specs.Inside.{size_of, next_of, tails_in, lists_of, IsTailList, AreTails, AreSame}
+use Rattle.judy_tails.proofs.ListLemmas.{list_at, pushed-other}
 
 -- ---- how many there are
 
@@ -30,7 +32,7 @@ words-short (list ∷ rest) short words is =
 
 pub none-are : AreTails []
 unfolding IsDistinct
-none-are = record { each = λ number. record { short = omega arith; whole = λ place. tt; long = omega arith }; apart = tt }
+none-are = record { each = λ number. record { short = omega arith; whole = λ place. tt; long = omega arith; next = empty-next }; apart = tt }
 
 pub are-few : (lists : List RecordList) → AreTails lists → length lists ≤ 129
 are-few lists are =
@@ -39,12 +41,14 @@ are-few lists are =
     omega (arith, few, long)
 
 -- The place behind a list that was read is a number that fits.
-pub next-read : (lists : List RecordList) → AreTails lists → (number : ℕ) {shown : List RecordList} → shown ≡ lists → (found : RecordList) → nat_lt number (length shown) ≡ true → found ≡ get_or shown number found
-    → (place : ℕ) → place ≡ next_place found → (place ≡ next_place (list_at lists number)) × (place * 256 + number < 2 ^ 64)
+pub next-read : (lists : List RecordList) → AreTails lists → (number : ℕ) {shown : List RecordList} → shown ≡ lists → (found : RecordList) → nat_lt number (length shown) ≡ true →
+    found ≡ get_or shown number found
+    → (place : ℕ) → place ≡ found.next → (place ≡ (list_at lists number).next) × (place * 256 + number < 2 ^ 64)
 next-read lists are number same found inside read place next =
     let within : number < length lists = subst (λ (shown : List RecordList). number < length shown) same (ltb-true number _ inside) in
-    let is = next ∙ ap (λ (list : RecordList). next_place list) (get_or_read lists number found within (subst (λ (shown : List RecordList). found ≡ get_or shown number found) same read) (empty_list 0)) in
-    (is, (let most = next-within (list_at lists number) in let long = (are.each number).long in let few = are-few lists are in omega (arith, is, most, long, few, within)))
+    let is = next ∙ ap (λ (list : RecordList). list.next) (get_or_read lists number found within (subst (λ (shown : List RecordList). found ≡ get_or shown number found) same read)
+    (empty_list 0)) in
+    (is, (let most = (are.each number).next.within in let long = (are.each number).long in let few = are-few lists are in omega (arith, is, most, long, few, within)))
 
 -- ---- the list for texts of so many words
 
@@ -57,7 +61,8 @@ first-within lists words = (let within = prefix_len-le-length (λ other. not (wo
 differ : (one other : ℕ) → one ≢ other → eqb one other ≡ false
 differ one other apart = ⊎_elim (λ same. absurd (apart same.1)) (λ off. off.0) (eqb_tells one other)
 
-pub first-is : (lists : List RecordList) (words number : ℕ) → number ≤ length lists → ((before : ℕ) → before < number → (list_at lists before).size ≢ words) → (number < length lists → (list_at lists number).size ≡ words) → first_for words lists ≡ number
+pub first-is : (lists : List RecordList) (words number : ℕ) → number ≤ length lists → ((before : ℕ) → before < number → (list_at lists before).size ≢ words) →
+    (number < length lists → (list_at lists number).size ≡ words) → first_for words lists ≡ number
 first-is lists words number within before here =
     let sizes = map size_of lists in
     let long = length-map lists size_of in
@@ -86,16 +91,30 @@ module _ (lists : List RecordList) (words : ℕ) where
   longer-at : (number : ℕ) → ((list_at longer number ≡ empty_list words) × (list_at lists number ≡ empty_list 0)) ⊎ (list_at longer number ≡ list_at lists number)
   longer-at number = ⊎_elim
       (λ same. inl (
-        get_or-append_right lists (empty_list words ∷ []) (length lists) number (empty_list 0) refl (omega (arith, same)) ∙ get_or_head (empty_list words) [] (number - length lists) (empty_list 0) (omega (arith, same)),
+        get_or-append_right lists (empty_list words ∷ []) (length lists) number (empty_list 0) refl (omega (arith, same)) ∙
+            get_or_head (empty_list words) [] (number - length lists) (empty_list 0) (omega (arith, same)),
         get_or_past lists number (empty_list 0) (omega (arith, same)),
       ))
       (λ apart. inr (pushed-other lists (empty_list words) (empty_list 0) number (λ e. ⊎_elim (λ less. omega (arith, less, e)) (λ more. omega (arith, more, e)) apart)))
       (cases_order number (length lists))
 
+  -- What stands is the same.
+  pub longer-same : AreSame (lists_of lists) (lists_of longer)
+  longer-same = record {
+    lists = λ number.
+        get_or-map tails_in longer number (empty_list 0)
+        ∙ ⊎_elim (λ new. ap tails_in new.0 ∙ sym (ap tails_in new.1)) (λ old. ap tails_in old) (longer-at number)
+        ∙ sym (get_or-map tails_in lists number (empty_list 0));
+    next = λ number.
+        get_or-map next_of longer number (empty_list 0)
+        ∙ ⊎_elim (λ new. ap next_of new.0 ∙ sym (ap next_of new.1)) (λ old. ap next_of old) (longer-at number)
+        ∙ sym (get_or-map next_of lists number (empty_list 0));
+  }
+
   pub longer-are : words ≤ 128 → first_for words lists ≡ length lists → AreTails lists → AreTails longer
   longer-are short none are = record {
     each = λ number. ⊎_elim
-        (λ new. subst IsTailList (sym new.0) (record { short = short; whole = λ place. tt; long = omega arith }))
+        (λ new. subst IsTailList (sym new.0) (record { short = short; whole = λ place. tt; long = omega arith; next = empty-next }))
         (λ old. subst IsTailList (sym old) (are.each number))
         (longer-at number);
     apart = subst (IsDistinct eqb) (sym (map-append size_of lists (empty_list words ∷ [])))
@@ -104,10 +123,13 @@ module _ (lists : List RecordList) (words : ℕ) where
 
   -- It is the one for texts of so many words.
   pub longer-for : slice_get (lists_of longer).words (length lists) ≡ Some words
-  longer-for = ap (λ all. slice_get all (length lists)) (map-append size_of lists (empty_list words ∷ [])) ∙ ap (slice_get (map size_of lists ++ words ∷ [])) (sym (length-map lists size_of)) ∙ pushed-last (map size_of lists) words
+  longer-for =
+      ap (λ all. slice_get all (length lists)) (map-append size_of lists (empty_list words ∷ [])) ∙ ap (slice_get (map size_of lists ++ words ∷ [])) (sym (length-map lists size_of)) ∙
+      pushed-last (map size_of lists) words
 
 -- What is one of the lists by its number of words.
-pub is-one : (lists : List RecordList) (all : TailLists) (number words : ℕ) → lists_of lists ≡ all → slice_get all.words number ≡ Some words → (number < length lists) × ((list_at lists number).size ≡ words)
+pub is-one : (lists : List RecordList) (all : TailLists) (number words : ℕ) → lists_of lists ≡ all → slice_get all.words number ≡ Some words →
+    (number < length lists) × ((list_at lists number).size ≡ words)
 is-one lists all number words same is =
     let sizes = map size_of lists in
     let here : slice_get sizes number ≡ Some words = ap (λ (all : TailLists). slice_get all.words number) same ∙ is in
@@ -121,4 +143,5 @@ is-one lists all number words same is =
 pub found-for : (lists : List RecordList) (words : ℕ) → first_for words lists < length lists → slice_get (lists_of lists).words (first_for words lists) ≡ Some words
 found-for lists words inside =
     let at : first_for words lists < length (map size_of lists) = (let long = length-map lists size_of in omega (arith, inside, long)) in
-    slice_get-get_or (map size_of lists) (first_for words lists) 0 at ∙ ap Some (sym (eqb-true words (get_or (map size_of lists) (first_for words lists) 0) (passes_at_first (λ other. words == other) (map size_of lists) 0 at)))
+    slice_get-get_or (map size_of lists) (first_for words lists) 0 at ∙ ap Some (sym (eqb-true words (get_or (map size_of lists) (first_for words lists) 0)
+    (passes_at_first (λ other. words == other) (map size_of lists) 0 at)))

@@ -1,5 +1,6 @@
 -- One record as a tail.
-use Rattle.std.proofs.Common.{◌≡◌, ◌≢◌, ◌+◌, ◌*◌, ◌<◌, ◌%◌, ◌/◌, ◌^◌, ◌≤◌, ◌-◌, ℕ, zero, suc, List, [], ◌∷◌, ◌++◌, length, take, drop, get_or, true, false, nat_lt, cond, sym, refl, ap, ◌∙◌, subst, arith}
+use Rattle.std.proofs.Common.{◌≡◌, ◌≢◌, ◌+◌, ◌*◌, ◌<◌, ◌%◌, ◌/◌, ◌^◌, ◌≤◌, ◌-◌, ℕ, zero, suc, List, [], ◌∷◌, ◌++◌, length, take, drop, get_or, true, false, nat_lt, cond, sym, refl}
+use Rattle.std.proofs.Common.{ap, ◌∙◌, subst, arith}
 use Rattle.std.specs.List.{flat_map, filter}
 use Rattle.std.specs.Int.{to_be_bytes, w64}
 use Rattle.std.proofs.lemmas.Bool.{ltb-true, lt-ltb}
@@ -35,7 +36,10 @@ left-are [] are = All-nil (λ byte. (byte < 256) × (byte ≢ 0))
 left-are (byte ∷ bytes) are =
     let rest = left-are bytes (All-tail (λ byte. byte < 256) byte bytes are) in
     elim (nat_lt 0 byte) as (λ b. nat_lt 0 byte ≡ b → IsText (cond b (byte ∷ filter (λ byte. nat_lt 0 byte) bytes) (filter (λ byte. nat_lt 0 byte) bytes))) [
-      | true ↦ λ some. All-cons (λ byte. (byte < 256) × (byte ≢ 0)) byte _ (All-head (λ byte. byte < 256) byte bytes are, λ none. absurd (let more = ltb-true 0 byte some in omega (arith, more, none))) rest
+      | true ↦ λ some. All-cons (λ byte. (byte < 256) × (byte ≢ 0)) byte _ (
+        All-head (λ byte. byte < 256) byte bytes are,
+        λ none. absurd (let more = ltb-true 0 byte some in omega (arith, more, none)),
+      ) rest
       | false ↦ λ none. rest
     ] refl
 
@@ -149,7 +153,8 @@ kept-before (suc width) at [] is inside none = zero-kept (suc width) at ∙ sym 
 kept-before (suc width) zero (byte ∷ text) is inside none =
     let here = All-head (λ b. (b < 256) × (b ≢ 0)) byte text is in
     let later = All-tail (λ b. (b < 256) × (b ≢ 0)) byte text is in
-    let first : (byte * 256 ^ width + spelled width text) / 256 ^ width % 256 ≡ byte = ap (λ n. n % 256) (div-mul-add byte (256 ^ width) (spelled width text) (spelled-lt width text (text-bytes text later))) ∙ mod-eq_of_lt here.0 in
+    let first : (byte * 256 ^ width + spelled width text) / 256 ^ width % 256 ≡ byte = ap (λ n. n % 256)
+    (div-mul-add byte (256 ^ width) (spelled width text) (spelled-lt width text (text-bytes text later))) ∙ mod-eq_of_lt here.0 in
     absurd (here.1 (sym first ∙ none))
 kept-before (suc width) (suc at) (byte ∷ text) is inside none =
     let later = All-tail (λ b. (b < 256) × (b ≢ 0)) byte text is in
@@ -172,7 +177,8 @@ none-behind (suc width) at [] is inside none = mod-eq_of_lt (unit_pos (suc width
 none-behind (suc width) zero (byte ∷ text) is inside none =
     let here = All-head (λ b. (b < 256) × (b ≢ 0)) byte text is in
     let later = All-tail (λ b. (b < 256) × (b ≢ 0)) byte text is in
-    let first : (byte * 256 ^ width + spelled width text) / 256 ^ width % 256 ≡ byte = ap (λ n. n % 256) (div-mul-add byte (256 ^ width) (spelled width text) (spelled-lt width text (text-bytes text later))) ∙ mod-eq_of_lt here.0 in
+    let first : (byte * 256 ^ width + spelled width text) / 256 ^ width % 256 ≡ byte = ap (λ n. n % 256)
+    (div-mul-add byte (256 ^ width) (spelled width text) (spelled-lt width text (text-bytes text later))) ∙ mod-eq_of_lt here.0 in
     absurd (here.1 (sym first ∙ none))
 none-behind (suc width) (suc at) (byte ∷ text) is inside none =
     let later = All-tail (λ b. (b < 256) × (b ≢ 0)) byte text is in
@@ -197,7 +203,8 @@ word-text word bytes is = ap (filter (λ byte. nat_lt 0 byte)) (append-nil (low_
 all-kept : (bytes : List ℕ) → length (filter (λ byte. nat_lt 0 byte) bytes) ≡ length bytes → filter (λ byte. nat_lt 0 byte) bytes ≡ bytes
 all-kept [] same = refl
 all-kept (byte ∷ bytes) same =
-    elim (nat_lt 0 byte) as (λ b. length (cond b (byte ∷ filter (λ byte. nat_lt 0 byte) bytes) (filter (λ byte. nat_lt 0 byte) bytes)) ≡ suc (length bytes) → cond b (byte ∷ filter (λ byte. nat_lt 0 byte) bytes) (filter (λ byte. nat_lt 0 byte) bytes) ≡ byte ∷ bytes) [
+    elim (nat_lt 0 byte) as (λ b. length (cond b (byte ∷ filter (λ byte. nat_lt 0 byte) bytes) (filter (λ byte. nat_lt 0 byte) bytes)) ≡ suc (length bytes) →
+    cond b (byte ∷ filter (λ byte. nat_lt 0 byte) bytes) (filter (λ byte. nat_lt 0 byte) bytes) ≡ byte ∷ bytes) [
       | true ↦ λ all. ap (λ rest. byte ∷ rest) (all-kept bytes (omega (arith, all)))
       | false ↦ λ fewer. absurd (let most = length-filter-le (λ byte. nat_lt 0 byte) bytes in omega (arith, fewer, most))
     ] same

@@ -2,7 +2,7 @@
 use Rattle.std.specs.Prelude.{◌≡◌, ◌≤◌, ◌^◌, eqb, ℕ, List, [], length, get_or, map, Option, None, Some}
 use Rattle.std.specs.List.{IsDistinct}
 use Rattle.judy_records.specs.Texts.{first_word, words_of, text_in, IsText}
-use Rattle.judy_records.specs.Spots.{Spot, free, held, RecordList, empty_list, spot_at, next_place}
+use Rattle.judy_records.specs.Spots.{Spot, free, held, RecordList, IsNext, empty_list, spot_at}
 use Rattle.judy_tails.specs.Tails.{TailLists}
 
 -- What stands at a place of a list.
@@ -18,12 +18,16 @@ tails_in list = map tail_of list.spots
 abbrev pub size_of : RecordList → ℕ
 size_of list = list.size
 
+-- The place of it that is taken next.
+abbrev pub next_of : RecordList → ℕ
+next_of list = list.next
+
 -- What the lists hold.
 abbrev pub lists_of : List RecordList → TailLists
 lists_of lists = record {
   words = map size_of lists;
   lists = map tails_in lists;
-  next = map next_place lists;
+  next = map next_of lists;
 }
 
 -- The words of a record are those of the text that they spell: behind its last byte there are zeros alone.
@@ -40,11 +44,12 @@ IsPaddedOrFree (held value words) = words ≡ words_of (text_in words)
 abbrev pub BeginsText : ℕ → Type 0
 BeginsText word = (text : List ℕ) × IsText text × (word ≡ first_word text)
 
--- A list has whole texts of no more words than the longest one takes, and no more than places are words for.
+-- A list has whole texts of no more words than the longest one takes, and no more than places are words for; and no free place of it is lost.
 pub record IsTailList (list : RecordList) : Type 0 where
   pub short : list.size ≤ 128
   pub whole : (place : ℕ) → IsPaddedOrFree (spot_at list place)
   pub long : length list.spots ≤ 2 ^ 55
+  pub next : IsNext list.spots list.next
 
 -- What always holds of the lists: no two are for texts of one length.
 pub record AreTails (lists : List RecordList) : Type 0 where

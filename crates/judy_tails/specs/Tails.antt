@@ -1,7 +1,8 @@
 -- Tails, place by place: a tail is a text, with the value that it has.
-use Rattle.std.specs.Prelude.{◌≡◌, ◌≢◌, ℕ, ◌*◌, ◌+◌, ◌/◌, ◌%◌, ◌==◌, List, [], get_or, set, Contains, Option, None, Some}
+use Rattle.std.specs.Prelude.{◌≡◌, ◌≢◌, ◌<◌, ℕ, ◌*◌, ◌+◌, ◌/◌, ◌%◌, ◌==◌, List, [], length, get_or, set, Option, None, Some, IsSome}
 use Rattle.std.specs.List.{position_or_len}
 use Rattle.judy_records.specs.Texts.{words_for}
+use Rattle.judy_records.specs.Pages.{per_of, page_of}
 
 -- Of each list, by its number: how many words each text in it takes, what stands at each place, and which place is taken next.
 pub record TailLists : Type 0 where
@@ -21,9 +22,14 @@ list_for all bytes = position_or_len (λ words. words_for bytes == words) all.wo
 abbrev pub next_place : TailLists → ℕ → ℕ
 next_place all bytes = get_or all.next (list_for all bytes) 0 * 256 + list_for all bytes
 
--- Some place of the list for texts of so many bytes is free.
-abbrev pub HasFree : TailLists → ℕ → Type 0
-HasFree all bytes = Contains (get_or all.lists (list_for all bytes) []) None
+-- A place of the list for texts of so many bytes is free, beside a text in its page.
+pub record HasFree (all : TailLists) (bytes : ℕ) : Type 0 where
+  pub place : ℕ
+  pub within : place < length (get_or all.lists (list_for all bytes) [])
+  pub is_free : get_or (get_or all.lists (list_for all bytes) []) place None ≡ None
+  pub other : ℕ
+  pub stands : IsSome (get_or (get_or all.lists (list_for all bytes) []) other None)
+  pub beside : page_of (per_of (words_for bytes)) other ≡ page_of (per_of (words_for bytes)) place
 
 -- No tail stands anywhere.
 abbrev pub no_tails : TailLists

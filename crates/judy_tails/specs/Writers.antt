@@ -1,6 +1,12 @@
--- What a writer of keys leaves alone.
-use Rattle.std.specs.Prelude.{◌≡◌, ◌≤◌, ℕ, List, length}
+-- What a writer of keys was given, and what it leaves alone.
+use Rattle.std.specs.Prelude.{◌≡◌, ◌≤◌, ℕ, List}
 
--- From the end of what is written on, all is what it was.
-abbrev pub StaysBeyond : {W : Type 0} → (W → List ℕ) → (W → ℕ → List ℕ × ℕ) → W → W → Type 0
-StaysBeyond written beyond before after = (place : ℕ) → length (written after) ≤ place → beyond after place ≡ beyond before place
+-- From the end of the key on, all is what it was.
+abbrev pub StaysBeyond : {W : Type 0} → (W → ℕ) → (W → ℕ → List ℕ × ℕ × ℕ) → W → W → Type 0
+StaysBeyond len beyond before after = (place : ℕ) → len after ≤ place → beyond after place ≡ beyond before place
+
+-- It was given bytes of which this is true.
+pub record WasGiven {W : Type 0} (has : W → List ℕ → Type 0) (writer : W) (IsSo : List ℕ → Type 0) : Type 0 where
+  pub bytes : List ℕ
+  pub given : has writer bytes
+  pub are : IsSo bytes

@@ -1,8 +1,10 @@
-//! Tails: texts without a zero byte, each with a value, kept by how many words they take. A text stands in a record of just these words, so none has a
-//! tag, a length or a pointer, and a text of no byte takes the word of its value alone.
+//! Tails: texts without a zero byte, each with a value, kept by how many words they take. A text stands in a record of
+//! just these words, so none has a tag, a length or a pointer, and a text of no byte takes the word of its value alone.
 //!
-//! A [`Tails`] gives each text a place, a number that stays its own until it is removed. Its lowest byte tells a list, which has the texts of one length
-//! in words. To contracts a `Tails` is a `TailLists`: what stands at each place.
+//! A [`Tails`] gives each text a place, a number that stays its own until it is removed. Its lowest byte tells a list,
+//! which has the texts of one length in words. To contracts a `Tails` is a `TailLists`: what stands at each place.
+//!
+//! tails.rt has the lists, tail.rt one tail as it is read, and writer.rt where a key is written byte behind byte.
 #![tactic(auto)]
 
 mod tail;
@@ -11,4 +13,4 @@ mod writer;
 
 pub use tail::Tail;
 pub use tails::Tails;
-pub use writer::{KeyFront, KeyRoom, KeyWriter};
+pub use writer::{KeyEnd, KeyFront, KeyRoom, KeyWriter};

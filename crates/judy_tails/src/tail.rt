@@ -1,10 +1,10 @@
 //! One tail, as it is read.
 
-ghost use Rattle.std.specs.Prelude.{◌≡◌, ◌≢◌, ◌↔◌, ◌+◌, ◌++◌, ◌-◌, ◌%◌, ◌≤◌, [], ◌∷◌, IsTrue, length, slice_get, Some};
+ghost use Rattle.std.specs.Prelude.{ℕ, List, ◌≡◌, ◌≢◌, ◌↔◌, ◌+◌, ◌++◌, ◌-◌, ◌%◌, ◌≤◌, [], ◌∷◌, IsTrue, length, slice_get, Some};
 ghost use Rattle.judy_model.specs.Keys.{byte_order};
 ghost use Rattle.judy_records.specs.Spots.{value_of, text_of};
 ghost use Rattle.judy_records.specs.Texts.{IsText, text_in};
-ghost use Rattle.judy_model.specs.declared.keys.TheConstants.{LONGEST_KEY};
+ghost use Rattle.judy_model.specs.declared.keys.TheConstants.{LONGEST_STRING};
 ghost use Rattle.judy_tails.specs.Inside.{IsPadded, BeginsText};
 ghost use Rattle.judy_tails.specs.Writers.{StaysBeyond};
 
@@ -68,9 +68,10 @@ impl<'a> Tail<'a> {
 
     /// Puts the text behind what is written of a key. A loop over words.
     pub fn push_to<K: KeyWriter>(&self, key: &mut K)
-        requires { length (K.written key.old) + length self.now.0 ≤ LONGEST_KEY }
-        ensures written { K.written key.new ≡ K.written key.old ++ self.now.0 }
-        ensures beyond { StaysBeyond K.written K.beyond key.old key.new }
+        requires { K.len key.old + length self.now.0 ≤ LONGEST_STRING }
+        ensures len { K.len key.new ≡ K.len key.old + length self.now.0 }
+        ensures has { (front : List ℕ) → K.has key.old front → K.has key.new (front ++ self.now.0) }
+        ensures beyond { StaysBeyond K.len K.beyond key.old key.new }
     {
         for word in self.stored.text() {
             push_bytes(key, *word);
@@ -78,14 +79,16 @@ impl<'a> Tail<'a> {
     }
 }
 
-// Puts the bytes of a text's word behind those of the key, up to its first zero: all eight where the last one isn't, since a text's zeros stand at its
-// end, and else as many as stand before the lowest bit that is set.
+// Puts the bytes of a text's word behind those of the key, up to its first zero: all eight where the last one isn't,
+// since a text's zeros stand at its end, and else as many as stand before the lowest bit that is set.
 fn push_bytes<K: KeyWriter>(key: &mut K, word: u64)
-    requires room { length (K.written key.old) + length (text_in (word ∷ [])) ≤ LONGEST_KEY }
+    requires room { K.len key.old + length (text_in (word ∷ [])) ≤ LONGEST_STRING }
     requires full { word % 256 ≢ 0 → length (text_in (word ∷ [])) ≡ 8 }
     requires begins { BeginsText word }
-    ensures written { K.written key.new ≡ K.written key.old ++ text_in (word ∷ []) }
-    ensures beyond { StaysBeyond K.written K.beyond key.old key.new }
+    ensures len { K.len key.new ≡ K.len key.old + length (text_in (word ∷ [])) }
+    ensures has { (front : List ℕ)
+        → K.has key.old front → K.has key.new (front ++ text_in (word ∷ [])) }
+    ensures beyond { StaysBeyond K.len K.beyond key.old key.new }
 {
     let bytes = word.to_be_bytes();
     if word % 256 != 0 {

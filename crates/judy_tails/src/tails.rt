@@ -12,7 +12,8 @@ use judy_records::{Records, words_for};
 use std::alloc::{AllocError, Global};
 use std::marker::Model;
 
-/// Texts without a zero byte, of at most 1,024 bytes, each with a value and a place of its own. To contracts it is a `TailLists`.
+/// Texts without a zero byte, of at most 1,024 bytes, each with a value and a place of its own. To contracts it is a
+/// `TailLists`.
 #[derive(Drop)]
 pub struct Tails {
     lists: Vec<Records>,
@@ -81,9 +82,9 @@ impl Tails {
         }
     }
 
-    /// Puts a text with its value in at the next place for its length, and answers that place. Where a place of that length is free it takes one,
-    /// which asks for no memory and can't be refused. The error is want of memory, or 2^55 texts of that length, and all places have then what they
-    /// had.
+    /// Puts a text with its value in at the next place for its length, and answers that place. Where a place of that
+    /// length is free in a page with another text it takes one, which asks for no memory and can't be refused. The
+    /// error is want of memory, or 2^55 texts of that length, and all places have then what they had.
     pub fn put(&mut self, text: &[u8], value: u64) -> Result<u64, AllocError>
         requires text { IsText text.now }
         requires short { length text.now ≤ LONGEST_KEY }
@@ -132,22 +133,23 @@ impl Tails {
     {
         self.reach(number, text.len())?;
         let list = &mut self.lists[number];
-        list.law();
-        list.reserve()?;
-        let place = list.next_place();
-        if place as u64 >= MOST {
+        if list.next_place() as u64 >= MOST {
             return Err(AllocError);
         }
-        list.put(value, text);
+        let place = list.put(value, text)?;
+        list.law();
         Ok(place as u64 * 256 + number as u64)
     }
 
-    /// Takes the tail at a place out. It asks for no memory; with the last text of its length goes the memory of its list.
+    /// Takes the tail at a place out. It asks for no memory; with the last text of its page goes the memory of that,
+    /// and with the last one of its length that of its list.
     pub fn remove(&mut self, place: u64)
         requires { IsSome (tail_at self.old place) }
         ensures { Updates self.old self.new place None }
     {
-        self.lists[(place % 256) as usize].remove((place / 256) as usize);
+        let list = &mut self.lists[(place % 256) as usize];
+        list.remove((place / 256) as usize);
+        list.law();
     }
 
     /// Does nothing: it tells a caller's proof that values are words.
@@ -160,8 +162,8 @@ impl Tails {
         }
     }
 
-    // The number of the list for texts of so many bytes; where there is none, that of the next one. Lists are as few as lengths in words: fourteen at most
-    // where no text has more than a hundred bytes.
+    // The number of the list for texts of so many bytes; where there is none, that of the next one. Lists are as few as
+    // lengths in words: fourteen at most where no text has more than a hundred bytes.
     fn list_for(&self, bytes: usize) -> usize
         ensures { result ≡ list_for self.now bytes }
     {

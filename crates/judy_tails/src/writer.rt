@@ -1,100 +1,117 @@
-//! Where a key is written byte behind byte: a buffer of its own, or the front of another's.
+//! Where a key is written byte behind byte: a buffer of its own, or the front of another's. A writer that has no room
+//! left goes on to count.
 
 ghost use Rattle.std.specs.Prelude.{◌≡◌, ◌+◌, ◌<◌, ◌≤◌, ◌++◌, ℕ, List, [], ◌∷◌, MatchOption, length, take, drop};
-ghost use Rattle.judy_model.specs.declared.keys.TheConstants.{LONGEST_KEY};
+ghost use Rattle.judy_model.specs.declared.keys.TheConstants.{LONGEST_KEY, LONGEST_STRING};
 ghost use Rattle.judy_tails.specs.Writers.{StaysBeyond};
 
 use arrayvec::ArrayVec;
 use judy_model::keys::LONGEST_KEY;
-use std::marker::Model;
 
-/// What a key is written into. It has room for the longest key. Each call takes a few instructions, however long the key is, and asks for no
-/// memory.
+/// What a key is given to, byte behind byte: it is written where there is room, and counted whole. Each call takes a
+/// few instructions, however long the key is, and asks for no memory.
 ///
-///     let mut key = KeyFront::new(&mut buffer, 5);
-///     key.cut(3);
+///     let mut key = KeyFront::new(&mut buffer, 3);
 ///     key.put_eight(b"le trees");
-///     // key.len() == 11
+///     // key.len() == 11, and the key stands in the buffer where that has as many bytes
 pub trait KeyWriter {
-    /// The bytes of the key so far.
-    ghost written: { Self → List ℕ };
+    /// How many bytes the key has that it was given.
+    ghost len: { Self → ℕ };
 
-    /// What isn't the key's from a place on, and whose it is. No call changes that behind the key.
-    ghost beyond: { Self → ℕ → List ℕ × ℕ };
+    /// It was given a key of these bytes.
+    ghost has: { Self → List ℕ → Type 0 };
 
-    /// Cuts the key off behind so many bytes.
-    fn cut(&mut self, len: usize)
-        ensures written { written self.new ≡ take len (written self.old) }
-        ensures beyond { (place : ℕ) → beyond self.new place ≡ beyond self.old place };
+    /// What isn't the key's from a place on, how much room there is, and whose it is. No call changes that behind the
+    /// key.
+    ghost beyond: { Self → ℕ → List ℕ × ℕ × ℕ };
 
     /// Puts a byte behind the key.
     fn put(&mut self, byte: u8)
-        requires { length (written self.old) < LONGEST_KEY }
-        ensures written { written self.new ≡ written self.old ++ byte ∷ [] }
-        ensures beyond { StaysBeyond written beyond self.old self.new };
+        requires { len self.old < LONGEST_STRING }
+        ensures len { len self.new ≡ len self.old + 1 }
+        ensures has { (key : List ℕ) → has self.old key → has self.new (key ++ byte ∷ []) }
+        ensures beyond { StaysBeyond len beyond self.old self.new };
 
     /// Puts eight bytes behind the key.
     fn put_eight(&mut self, bytes: &[u8; 8])
-        requires { length (written self.old) + 8 ≤ LONGEST_KEY }
-        ensures written { written self.new ≡ written self.old ++ bytes.now }
-        ensures beyond { StaysBeyond written beyond self.old self.new };
+        requires { len self.old + 8 ≤ LONGEST_STRING }
+        ensures len { len self.new ≡ len self.old + 8 }
+        ensures has { (key : List ℕ) → has self.old key → has self.new (key ++ bytes.now) }
+        ensures beyond { StaysBeyond len beyond self.old self.new };
 
     /// Puts the first so many of eight bytes behind the key.
     fn put_first(&mut self, bytes: &[u8; 8], count: usize)
         requires count { count ≤ 8 }
-        requires room { length (written self.old) + count ≤ LONGEST_KEY }
-        ensures written { written self.new ≡ written self.old ++ take count bytes.now }
-        ensures beyond { StaysBeyond written beyond self.old self.new };
+        requires room { len self.old + count ≤ LONGEST_STRING }
+        ensures len { len self.new ≡ len self.old + count }
+        ensures has { (key : List ℕ)
+            → has self.old key → has self.new (key ++ take count bytes.now) }
+        ensures beyond { StaysBeyond len beyond self.old self.new };
+
+    /// The length is that of the bytes.
+    ghost has_len: { (k : Self) (bytes : List ℕ) → has k bytes → len k ≡ length bytes };
 }
 
-/// A buffer of its own, which ends with the key.
-impl KeyWriter for ArrayVec<u8, LONGEST_KEY> {
-    ghost written = { λ key. key.items };
+/// The end of a buffer of its own, which ends with the key.
+#[derive(Drop)]
+pub struct KeyEnd<'a> {
+    buffer: &'a mut ArrayVec<u8, LONGEST_KEY>,
+    len: usize,
+}
 
-    ghost beyond = { λ key place. ([], 0) };
-
+impl<'a> KeyEnd<'a> {
+    /// Behind what the buffer has.
     #[inline(always)]
-    fn cut(&mut self, len: usize) {
-        self.truncate(len);
+    pub fn new(buffer: &'a mut ArrayVec<u8, LONGEST_KEY>) -> KeyEnd<'a>
+        ensures bytes { result.buffer.now ≡ buffer.old }
+        ensures len { result.len ≡ length buffer.old.items }
+        ensures same { result.buffer.ghost_name ≡ buffer.entry.ghost_name }
+    {
+        let len = buffer.len();
+        KeyEnd { buffer, len }
     }
+}
+
+impl<'a> KeyWriter for KeyEnd<'a> {
+    ghost len = { λ key. key.len };
+
+    ghost has = { λ key bytes. (key.len ≡ length bytes)
+        × (length bytes ≤ LONGEST_KEY → key.buffer.now.items ≡ bytes) };
+
+    ghost beyond = { λ key place. ([], 0, key.buffer.ghost_name) };
+
+    ghost has_len = { λ k bytes is. is.0 };
 
     #[inline(always)]
     fn put(&mut self, byte: u8) {
-        self.push(byte);
+        let _ = self.buffer.try_push(byte);
+        self.len += 1;
     }
 
     #[inline(always)]
     fn put_eight(&mut self, bytes: &[u8; 8]) {
-        match self.try_extend_from_slice(bytes) {
-            Ok(_) => {}
-            Err(_) => unreachable!(),
-        }
+        let _ = self.buffer.try_extend_from_slice(bytes);
+        self.len += 8;
     }
 
     #[inline(always)]
     fn put_first(&mut self, bytes: &[u8; 8], count: usize) {
-        match self.try_extend_from_slice(&bytes[..count]) {
-            Ok(_) => {}
-            Err(_) => unreachable!(),
-        }
+        let _ = self.buffer.try_extend_from_slice(&bytes[..count]);
+        self.len += count;
     }
 }
 
-/// The front of a buffer that has room for the longest key: the bytes behind the key stay as they are.
+/// The front of a buffer: the bytes behind the key stay as they are.
 #[derive(Drop)]
 pub struct KeyFront<'a> {
     buffer: &'a mut [u8],
     len: usize,
-    ghost inside: { len ≤ length buffer.now },
-    ghost room: { LONGEST_KEY ≤ length buffer.now },
 }
 
 impl<'a> KeyFront<'a> {
     /// The key of so many bytes at the front of a buffer.
     #[inline(always)]
     pub fn new(buffer: &'a mut [u8], len: usize) -> KeyFront<'a>
-        requires inside { len ≤ length buffer.old }
-        requires room { LONGEST_KEY ≤ length buffer.old }
         ensures bytes { result.buffer.now ≡ buffer.old }
         ensures len { result.len ≡ len }
         ensures same { result.buffer.ghost_name ≡ buffer.entry.ghost_name }
@@ -117,32 +134,36 @@ impl<'a> KeyFront<'a> {
             (λ eight. (eight ≡ take 8 (drop self.now.len self.now.buffer.now))
             × (self.now.len + 8 ≤ length self.now.buffer.now)) }
     {
-        self.buffer[self.len..].first_chunk::<8>().copied()
+        self.buffer.get(self.len..)?.first_chunk::<8>().copied()
     }
 }
 
 impl<'a> KeyWriter for KeyFront<'a> {
-    ghost written = { λ key. take key.len key.buffer.now };
+    ghost len = { λ key. key.len };
 
-    ghost beyond = { λ key place. (drop place key.buffer.now, key.buffer.ghost_name) };
+    ghost has = { λ key bytes. (key.len ≡ length bytes)
+        × (length bytes ≤ length key.buffer.now → take key.len key.buffer.now ≡ bytes) };
 
-    #[inline(always)]
-    fn cut(&mut self, len: usize) {
-        if len < self.len {
-            self.len = len;
-        }
-    }
+    ghost beyond = { λ key place.
+        (drop place key.buffer.now, length key.buffer.now, key.buffer.ghost_name) };
+
+    ghost has_len = { λ k bytes is. is.0 };
 
     #[inline(always)]
     fn put(&mut self, byte: u8) {
-        self.buffer[self.len] = byte;
+        if self.len < self.buffer.len() {
+            self.buffer[self.len] = byte;
+        }
         self.len += 1;
     }
 
     #[inline(always)]
     fn put_eight(&mut self, bytes: &[u8; 8]) {
-        self.buffer[self.len..self.len + 8].copy_from_slice(bytes);
-        self.len += 8;
+        let end = self.len + 8;
+        if end <= self.buffer.len() {
+            self.buffer[self.len..end].copy_from_slice(bytes);
+        }
+        self.len = end;
     }
 
     #[inline(always)]
@@ -162,7 +183,8 @@ impl<'a> KeyWriter for KeyFront<'a> {
     }
 }
 
-// The first so many of eight bytes, and the others of eight that stand. There is no branch, since how many they are can't be foreseen.
+// The first so many of eight bytes, and the others of eight that stand. There is no branch, since how many they are
+// can't be foreseen.
 #[inline(always)]
 fn joined(first: &[u8; 8], stand: &[u8; 8], count: usize) -> [u8; 8]
     requires some { 0 < count }
@@ -175,29 +197,21 @@ fn joined(first: &[u8; 8], stand: &[u8; 8], count: usize) -> [u8; 8]
     (word - (word & mask) + (other & mask)).to_be_bytes()
 }
 
-/// A key in an array of its own, to contracts its bytes. A cut costs nothing, since nothing behind the key is ever read.
+/// A key in an array of its own. What was written before where a key ended is never read.
 #[derive(Drop)]
 pub struct KeyRoom {
     bytes: [u8; LONGEST_KEY],
     len: usize,
 }
 
-impl Model for KeyRoom {
-    ghost use Rattle.std.specs.Prelude.{ℕ, List, ◌≤◌, take};
-    ghost use Rattle.judy_model.specs.declared.keys.TheConstants.{LONGEST_KEY};
-
-    ghost Value = { List ℕ };
-
-    ghost view = { λ k. take k.len k.bytes };
-
-    ghost invariant = { λ k. k.len ≤ LONGEST_KEY };
-}
-
 impl KeyRoom {
+    ghost use Rattle.judy_tails.specs.Rooms.{bytes_in, IsWhole};
+
     /// The key of some bytes, at most 1,024.
     pub fn of(key: &[u8]) -> KeyRoom
         requires { length key.now ≤ LONGEST_KEY }
-        ensures { result ≡ key.now }
+        ensures bytes { bytes_in result ≡ key.now }
+        ensures whole { IsWhole result }
     {
         let mut bytes = [0; LONGEST_KEY];
         bytes[..key.len()].copy_from_slice(key);
@@ -207,50 +221,66 @@ impl KeyRoom {
         }
     }
 
-    /// The bytes of the key.
+    /// The bytes of the key, where they found room.
     #[inline(always)]
     pub fn as_slice(&self) -> &[u8]
-        ensures bytes { result.now ≡ self.now }
+        requires { IsWhole self.now }
+        ensures bytes { result.now ≡ bytes_in self.now }
         ensures short { length result.now ≤ LONGEST_KEY }
     {
         &self.bytes[..self.len]
     }
+
+    /// Cuts the key off behind so many bytes. It takes one instruction.
+    #[inline(always)]
+    pub fn cut(&mut self, len: usize)
+        requires whole { IsWhole self.old }
+        requires within { len ≤ length (bytes_in self.old) }
+        ensures bytes { bytes_in self.new ≡ take len (bytes_in self.old) }
+        ensures len { self.new.len ≡ len }
+    {
+        self.len = len;
+    }
 }
 
 impl KeyWriter for KeyRoom {
-    ghost written = { λ key. key };
+    ghost len = { λ key. key.len };
 
-    ghost beyond = { λ key place. ([], 0) };
+    ghost has = { λ key bytes. (key.len ≡ length bytes)
+        × (length bytes ≤ LONGEST_KEY → take key.len key.bytes ≡ bytes) };
 
-    #[inline(always)]
-    fn cut(&mut self, len: usize) {
-        self.len = self.len.min(len);
-    }
+    ghost beyond = { λ key place. ([], 0, 0) };
+
+    ghost has_len = { λ k bytes is. is.0 };
 
     #[inline(always)]
     fn put(&mut self, byte: u8) {
-        let mut front = KeyFront::new(&mut self.bytes, self.len);
-        front.put(byte);
-        self.len = front.len();
+        if self.len < LONGEST_KEY {
+            self.bytes[self.len] = byte;
+        }
+        self.len += 1;
     }
 
     #[inline(always)]
     fn put_eight(&mut self, bytes: &[u8; 8]) {
-        let mut front = KeyFront::new(&mut self.bytes, self.len);
-        front.put_eight(bytes);
-        self.len = front.len();
+        let end = self.len + 8;
+        if end <= LONGEST_KEY {
+            self.bytes[self.len..end].copy_from_slice(bytes);
+        }
+        self.len = end;
     }
 
-    // All eight are written where there is room for them: what stands behind the key is nobody's, so no branch hangs on how many are its own.
+    // All eight are written where there is room for them: what stands behind the key is nobody's, so no branch hangs on
+    // how many are its own.
     #[inline(always)]
     fn put_first(&mut self, bytes: &[u8; 8], count: usize) {
-        let mut front = KeyFront::new(&mut self.bytes, self.len);
-        if front.len() + 8 <= LONGEST_KEY {
-            front.put_eight(bytes);
+        if self.len + 8 <= LONGEST_KEY {
+            self.bytes[self.len..self.len + 8].copy_from_slice(bytes);
             self.len += count;
         } else {
-            front.put_first(bytes, count);
-            self.len = front.len();
+            for byte in &bytes[..count] {
+                self.put(*byte);
+            }
         }
     }
 }

@@ -23,4 +23,5 @@ pub returns : goal.returns
 returns c =
     let all = came_all (entries c.args.words.now.map) c.words.yielded c.words.word-iterator c.words.invariant.0 c.in-None.ensures.steps.0 in
     c.words.invariant.1
-    ∙ ap (λ (more : Pairs). entries_in c.args.list.now.items ++ more) (ap (flat_map (spelled c.args.key_length)) all ∙ flat_map_single (λ (entry : ℕ × ℕ). (low_bytes c.args.key_length entry.0, entry.1)) (entries c.args.words.now.map))
+    ∙ ap (λ (more : Pairs). entries_in c.args.list.now.items ++ more) (ap (flat_map (spelled c.args.key_length)) all ∙
+    flat_map_single (λ (entry : ℕ × ℕ). (low_bytes c.args.key_length entry.0, entry.1)) (entries c.args.words.now.map))

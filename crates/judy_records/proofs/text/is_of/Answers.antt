@@ -22,5 +22,6 @@ loop-i-preserved c =
 
 pub returns-then-not-is_empty : goal.returns-then-not-is_empty
 returns-then-not-is_empty c =
-    last-same c.args.bytes.now c.loop-i.i (length c.as_chunks.result.0.now) c.last_word.result (omega (arith, c.loop-i-test.false)) (omega (arith, c.loop-i-test.false)) (grind (arith, c.if-not-is_empty.ensures)) c.last_word.ensures
+    last-same c.args.bytes.now c.loop-i.i (length c.as_chunks.result.0.now) c.last_word.result (omega (arith, c.loop-i-test.false)) (omega (arith, c.loop-i-test.false))
+    (grind (arith, c.if-not-is_empty.ensures)) c.last_word.ensures
     c.args.text.now c.loop-i.same (c.if-text-words_for.false ∙ c.words_for.ensures) c.loop-i.invariant

@@ -11,7 +11,8 @@ returns-then-is_empty c =
 pub returns-then-word-other : goal.returns-then-word-other
 returns-then-word-other c =
     c.cmp.ensures ∙ ap (nat_cmp _) c.first_word-other.ensures
-    ∙ sym (order-apart c.args.text.now c.loop-word.rest.now c.loop-word.word-index c.loop-word-test.true (grind (arith, c.if-is_empty.ensures)) (λ e. c.if-word-other.true (e ∙ sym c.first_word-other.ensures)))
+    ∙ sym (order-apart c.args.text.now c.loop-word.rest.now c.loop-word.word-index c.loop-word-test.true (grind (arith, c.if-is_empty.ensures))
+    (λ e. c.if-word-other.true (e ∙ sym c.first_word-other.ensures)))
     ∙ c.loop-word.invariant
 
 pub loop-word-preserved : goal.loop-word-preserved

@@ -32,5 +32,6 @@ push_reserved-requires-then-not-is_empty c =
 pub returns-then-not-is_empty-clause-words : goal.returns-then-not-is_empty-clause-words
 returns-then-not-is_empty-clause-words c =
     c.push_reserved-then-not-is_empty.ensures.items
-    ∙ last-pushed c.args.bytes.now c.loop-i.i (length c.as_chunks.result.0.now) c.last_word.result (omega (arith, c.loop-i-test.false)) (omega (arith, c.loop-i-test.false)) (grind (arith, c.if-not-is_empty.ensures)) c.last_word.ensures
+    ∙ last-pushed c.args.bytes.now c.loop-i.i (length c.as_chunks.result.0.now) c.last_word.result (omega (arith, c.loop-i-test.false)) (omega (arith, c.loop-i-test.false))
+    (grind (arith, c.if-not-is_empty.ensures)) c.last_word.ensures
     c.args.words.items c.loop-i.words.items c.args.value c.loop-i.invariant.pushed

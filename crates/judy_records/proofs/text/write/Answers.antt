@@ -13,5 +13,6 @@ loop-i-preserved c =
 
 pub returns-then-not-is_empty : goal.returns-then-not-is_empty
 returns-then-not-is_empty c =
-    last-written c.args.bytes.now c.loop-i.i (length c.as_chunks.result.0.now) c.last_word.result (omega (arith, c.loop-i-test.false)) (omega (arith, c.loop-i-test.false)) (grind (arith, c.if-not-is_empty.ensures)) c.last_word.ensures
+    last-written c.args.bytes.now c.loop-i.i (length c.as_chunks.result.0.now) c.last_word.result (omega (arith, c.loop-i-test.false)) (omega (arith, c.loop-i-test.false))
+    (grind (arith, c.if-not-is_empty.ensures)) c.last_word.ensures
     c.args.text.now c.loop-i.text c.requires c.loop-i.invariant

@@ -17,12 +17,14 @@ cut_half-requires c =
 pub returns-clause-are : goal.returns-clause-are
 returns-clause-are c =
     let chunks : List Pairs = c.args.chunks.now.items in
-    let all = parted_all chunks c.args.at c.requires.within c.in_ok-reserve.ensures.items c.index_mut.result.now c.cut_half.new.self c.in_ok-upper.upper c.index_mut.ensures.value c.in_ok-upper.ensures.lower c.in_ok-upper.ensures.upper c.in-Ok.ensures.items in
+    let all = parted_all chunks c.args.at c.requires.within c.in_ok-reserve.ensures.items c.index_mut.result.now c.cut_half.new.self c.in_ok-upper.upper
+    c.index_mut.ensures.value c.in_ok-upper.ensures.lower c.in_ok-upper.ensures.upper c.in-Ok.ensures.items in
     let long = c.requires.long in
     subst AreChunks (sym all) (parted_are chunks c.args.at (length (get_or chunks c.args.at []) / 2) c.requires.within c.requires.are (omega arith) (omega arith))
 
 pub returns-clause-same : goal.returns-clause-same
 returns-clause-same c =
     let chunks : List Pairs = c.args.chunks.now.items in
-    let all = parted_all chunks c.args.at c.requires.within c.in_ok-reserve.ensures.items c.index_mut.result.now c.cut_half.new.self c.in_ok-upper.upper c.index_mut.ensures.value c.in_ok-upper.ensures.lower c.in_ok-upper.ensures.upper c.in-Ok.ensures.items in
+    let all = parted_all chunks c.args.at c.requires.within c.in_ok-reserve.ensures.items c.index_mut.result.now c.cut_half.new.self c.in_ok-upper.upper
+    c.index_mut.ensures.value c.in_ok-upper.ensures.lower c.in_ok-upper.ensures.upper c.in-Ok.ensures.items in
     ap joined all ∙ parted_joined chunks c.args.at (length (get_or chunks c.args.at []) / 2) c.requires.within

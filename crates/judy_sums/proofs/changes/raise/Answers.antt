@@ -11,8 +11,10 @@ raise-requires-clause-fits c =
 pub returns-clause-are : goal.returns-clause-are
 returns-clause-are c =
     let fits = c.requires.fits in
-    changed_are c.args.chunks.now.items c.args.spot.chunk c.args.spot.at c.requires.are c.requires.chunk c.requires.place c.index_mut.result.now c.index_mut.ensures.value (λ n. n + 1) c.raise.new.self c.raise.ensures (omega arith)
+    changed_are c.args.chunks.now.items c.args.spot.chunk c.args.spot.at c.requires.are c.requires.chunk c.requires.place c.index_mut.result.now c.index_mut.ensures.value
+    (λ n. n + 1) c.raise.new.self c.raise.ensures (omega arith)
 
 pub returns-clause-changed : goal.returns-clause-changed
 returns-clause-changed c =
-    changed_is c.args.chunks.now.items c.args.spot.chunk c.args.spot.at c.requires.are c.requires.chunk c.requires.place c.index_mut.result.now c.index_mut.ensures.value (λ n. n + 1) c.raise.new.self c.raise.ensures
+    changed_is c.args.chunks.now.items c.args.spot.chunk c.args.spot.at c.requires.are c.requires.chunk c.requires.place c.index_mut.result.now c.index_mut.ensures.value
+    (λ n. n + 1) c.raise.new.self c.raise.ensures

@@ -6,7 +6,11 @@ pub lower-requires-clause-some : goal.lower-requires-clause-some
 lower-requires-clause-some c =
     let chunks = c.args.chunks.now.items in
     let spot = c.spot_there-spot.result in
-    omega (arith, its_number chunks c.args.word spot.chunk spot.at c.requires.are (here chunks c.args.word spot.chunk spot.at c.requires.are c.deref.ensures.value c.spot_there-spot.ensures), c.requires.some)
+    omega (
+      arith,
+      its_number chunks c.args.word spot.chunk spot.at c.requires.are (here chunks c.args.word spot.chunk spot.at c.requires.are c.deref.ensures.value c.spot_there-spot.ensures),
+      c.requires.some,
+    )
 
 pub returns-then-number-eq1-clause-lowered : goal.returns-then-number-eq1-clause-lowered
 returns-then-number-eq1-clause-lowered c =

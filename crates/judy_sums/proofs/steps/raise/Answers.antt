@@ -1,4 +1,4 @@
-use Rattle.std.proofs.Common.{◌+◌, refl, List, Result, Ok, Err, OnOk, subst, sym, ◌∙◌}
+use Rattle.std.proofs.Common.{◌≡◌, ◌+◌, ℕ, true, false, refl, List, Option, IsSome, Result, Ok, Err, OnOk, subst, sym, ◌∙◌}
 use Rattle.std.specs.declared.alloc.AllocError.{AllocError}
 use Rattle.judy_sums.specs.Pairs.{Pairs}
 use Rattle.judy_sums.specs.Chunks.{StandsAt, IsSpot, joined}
@@ -26,3 +26,11 @@ returns-clause-raised c =
     let absent = spot_absent c.args.chunks.now.items c.args.word c.spot_of-spot.result.chunk c.spot_of-spot.result.at c.requires.are spot
     (λ here. c.if-stands.ensures.apart refl (subst (λ (all : List Pairs). StandsAt all c.args.word c.spot_of-spot.result.chunk c.spot_of-spot.result.at) (sym c.deref-2.ensures.value) here)) in
     on_ok c.bring_in.result (λ e. e ∙ first_one (joined c.args.chunks.now.items) c.args.word absent) c.bring_in.ensures.inserted
+
+pub returns-clause-there : goal.returns-clause-there
+returns-clause-there c = λ found.
+    let spot = subst (λ (all : List Pairs). IsSpot all c.args.word c.spot_of-spot.result.chunk c.spot_of-spot.result.at) c.deref.ensures.value c.spot_of-spot.ensures in
+    let absent = spot_absent c.args.chunks.now.items c.args.word c.spot_of-spot.result.chunk c.spot_of-spot.result.at c.requires.are spot
+    (λ here. c.if-stands.ensures.apart refl (subst (λ (all : List Pairs). StandsAt all c.args.word c.spot_of-spot.result.chunk c.spot_of-spot.result.at) (sym c.deref-2.ensures.value) here)) in
+    let never : false ≡ true = subst (λ (known : Option ℕ). IsSome known) absent found in
+    cc

@@ -13,4 +13,5 @@ returns c =
     let count = c.args.count in
     let word = be_bytes_8 c.args.first.now c.from_be_bytes-word.result c.told-first c.fits-first c.from_be_bytes-word.ensures in
     let other = be_bytes_8 c.args.stand.now c.from_be_bytes-other.result c.told-stand c.fits-stand c.from_be_bytes-other.ensures in
-    c.to_be_bytes.ensures ∙ joined-bytes count c.from_be_bytes-word.result c.from_be_bytes-other.result _ c.requires.most (mask-is count c.requires.some) ∙ (λ t. take count (word t) ++ drop count (other t))
+    c.to_be_bytes.ensures ∙ joined-bytes count c.from_be_bytes-word.result c.from_be_bytes-other.result _ c.requires.most (mask-is count c.requires.some) ∙
+    (λ t. take count (word t) ++ drop count (other t))

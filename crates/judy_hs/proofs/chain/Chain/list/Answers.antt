@@ -11,7 +11,8 @@ entries-init c = (sym c.self.view_is ∙ ap pairs_of (sym c.into_iter-key-iterat
 pub entries-preserved : goal.entries-preserved
 entries-preserved c = (
   shown-on c.entries.yielded c.in-Some.key c.in-Some.value c.args.self.now c.entries.key-iterator c.next.new.self c.entries.invariant.0 c.in-Some.ensures.steps,
-  listed-more c.entries.yielded c.in-Some.key c.in-Some.value c.args.list.now.items c.entries.list.items c.push.new.self.items _ c.entries.invariant.1 c.in_ok-push.ensures.items (ap (λ (bytes : List ℕ). (bytes, c.in-Some.value.now)) c.as_slice.ensures.value),
+  listed-more c.entries.yielded c.in-Some.key c.in-Some.value c.args.list.now.items c.entries.list.items c.push.new.self.items _ c.entries.invariant.1 c.in_ok-push.ensures.items
+      (ap (λ (bytes : List ℕ). (bytes, c.in-Some.value.now)) c.as_slice.ensures.value),
 )
 
 pub returns : goal.returns

@@ -16,7 +16,8 @@ lengths-preserved c =
     let part : ℕ × ℕ → Pairs = λ entry. group_list entry.0 (group_at c.args.self.now entry.1) in
     let entry : ℕ × ℕ = (c.in-Some.key_length, c.in-Some.place) in (
       came_on (entries c.args.self.now.lengths.map) c.lengths.yielded c.lengths.key_length-iterator c.next.new.self entry c.lengths.invariant.0 c.in-Some.ensures.steps,
-      listed_on part (entries_in c.args.list.now.items) (entries_in c.lengths.list.items) (entries_in c.list_group.new.list.items) c.lengths.yielded entry c.lengths.invariant.1 c.in_ok-list_group.ensures,
+      listed_on part (entries_in c.args.list.now.items) (entries_in c.lengths.list.items) (entries_in c.list_group.new.list.items) c.lengths.yielded entry
+          c.lengths.invariant.1 c.in_ok-list_group.ensures,
     )
 
 pub returns : goal.returns

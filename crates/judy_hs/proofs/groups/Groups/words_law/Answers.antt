@@ -10,9 +10,11 @@ use Rattle.judy_hs.proofs.groups.Groups.words_law.Goals as goal
 pub loop-group-preserved : goal.loop-group-preserved
 loop-group-preserved c =
     AllWithin-more (λ (group : GroupPlace). (part : ℕ) → AreWords (in_group (group_of group) part)) _ 0 c.loop-group.group-index c.loop-group.invariant
-    (read_holds (λ (group : GroupPlace). (part : ℕ) → AreWords (in_group (group_of group) part)) _ c.loop-group.group-index c.group-item.result c.loop-group-test.true c.group-item.is c.words_law.ensures)
+    (read_holds (λ (group : GroupPlace). (part : ℕ) → AreWords (in_group (group_of group) part)) _ c.loop-group.group-index c.group-item.result c.loop-group-test.true
+    c.group-item.is c.words_law.ensures)
 
 pub returns : goal.returns
 returns c =
     rw (← c.self.view_is, ← c.deref-group-items.ensures.value) (groups_words c.self.inside.lengths _
-    (All-from_all_within (λ (group : GroupPlace). (part : ℕ) → AreWords (in_group (group_of group) part)) _ (AllWithin-upto (λ (group : GroupPlace). (part : ℕ) → AreWords (in_group (group_of group) part)) _ 0 c.loop-group.group-index _ c.loop-group-test.false c.loop-group.invariant)))
+    (All-from_all_within (λ (group : GroupPlace). (part : ℕ) → AreWords (in_group (group_of group) part)) _
+    (AllWithin-upto (λ (group : GroupPlace). (part : ℕ) → AreWords (in_group (group_of group) part)) _ 0 c.loop-group.group-index _ c.loop-group-test.false c.loop-group.invariant)))

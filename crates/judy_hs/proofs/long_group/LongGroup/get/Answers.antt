@@ -6,4 +6,5 @@ use Rattle.judy_hs.proofs.long_group.LongGroup.get.Goals as goal
 pub value_at-requires : goal.value_at-requires
 value_at-requires c =
     let leads = sym c.get.ensures ∙ c.in_ok-place.was in
-    subst (λ (long : Long). chain_at long c.in_ok-place.place ≢ []) c.self.view_is (is-used c.self.inside.key_length c.self.inside.chains c.self.inside.records c.in_ok-place.place (c.self.invariant.led c.args.hash c.in_ok-place.place leads))
+    subst (λ (long : Long). chain_at long c.in_ok-place.place ≢ []) c.self.view_is (is-used c.self.inside.key_length c.self.inside.chains c.self.inside.records c.in_ok-place.place
+    (c.self.invariant.led c.args.hash c.in_ok-place.place leads))

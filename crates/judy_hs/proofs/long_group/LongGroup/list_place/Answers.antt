@@ -14,7 +14,8 @@ on-ok (Ok done) holds follows = follows holds
 on-ok (Err error) holds follows = tt
 
 -- One key is listed, and then others.
-two-listed : (before now after : Pairs) (key : List ℕ) (value : ℕ) (others all : Pairs) → now ≡ before ++ (key, value) ∷ [] → after ≡ now ++ others → all ≡ (key, value) ∷ others → after ≡ before ++ all
+two-listed : (before now after : Pairs) (key : List ℕ) (value : ℕ) (others all : Pairs) → now ≡ before ++ (key, value) ∷ [] → after ≡ now ++ others →
+    all ≡ (key, value) ∷ others → after ≡ before ++ all
 two-listed before now after key value others all one more is =
     more ∙ ap (λ (pairs : Pairs). pairs ++ others) one ∙ append_assoc before ((key, value) ∷ []) others ∙ ap (λ (pairs : Pairs). before ++ pairs) (sym is)
 
@@ -33,7 +34,8 @@ returns-in-Some c =
     let one = listed_more c.args.list.now.items c.push.new.self.items _ (bytes_in c.self.inside.key_length (text_of spot), value_of spot) c.in_ok-push.ensures.items own in
     let all = at-held c.self.inside.key_length c.self.inside.chains c.self.inside.records c.args.place is in
     rw (← c.self.view_is) (on-ok c.list.result c.list.ensures (λ more.
-    two-listed (entries_in c.args.list.now.items) (entries_in c.push.new.self.items) (entries_in c.list.new.list.items) (bytes_in c.self.inside.key_length (text_of spot)) (value_of spot) (others_at c.self.inside.chains c.args.place) _
+    two-listed (entries_in c.args.list.now.items) (entries_in c.push.new.self.items) (entries_in c.list.new.list.items) (bytes_in c.self.inside.key_length (text_of spot))
+    (value_of spot) (others_at c.self.inside.chains c.args.place) _
     one (more ∙ ap (λ (pairs : Pairs). entries_in c.push.new.self.items ++ pairs) others) all))
 
 pub returns-in-None : goal.returns-in-None
@@ -44,4 +46,5 @@ returns-in-None c =
     let own : ◌≡◌ {A = List ℕ × ℕ} (c.in_ok-key.key.items, c.value.result) (bytes_in c.self.inside.key_length (text_of spot), value_of spot) = (λ t. (c.in_ok-key.ensures t, c.value.ensures t)) in
     let one = listed_more c.args.list.now.items c.push.new.self.items _ (bytes_in c.self.inside.key_length (text_of spot), value_of spot) c.in_ok-push.ensures.items own in
     let all = at-held c.self.inside.key_length c.self.inside.chains c.self.inside.records c.args.place is in
-    rw (← c.self.view_is) (one ∙ ap (λ (pairs : Pairs). entries_in c.args.list.now.items ++ (bytes_in c.self.inside.key_length (text_of spot), value_of spot) ∷ pairs) others ∙ ap (λ (pairs : Pairs). entries_in c.args.list.now.items ++ pairs) (sym all))
+    rw (← c.self.view_is) (one ∙ ap (λ (pairs : Pairs). entries_in c.args.list.now.items ++ (bytes_in c.self.inside.key_length (text_of spot), value_of spot) ∷ pairs) others ∙
+    ap (λ (pairs : Pairs). entries_in c.args.list.now.items ++ pairs) (sym all))

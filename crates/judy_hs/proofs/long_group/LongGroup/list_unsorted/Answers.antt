@@ -14,11 +14,13 @@ listed : {E : Type 0} (group : Long) (places : List ℕ) (before after : Pairs) 
     → OnOk result (after ≡ before ++ flat_map (chain_at group) places) → OnOk result (AreListed group before after)
 listed group places before after (Ok done) moved is = (
   flat_map (chain_at group) places,
-  subst (λ (pairs : Pairs). IsPermutation pairs (flat_map (chain_at group) places)) (flat_map-map (chain_at group) (λ (entry : ℕ × ℕ). entry.1) (entries group.hashes.map)) (parts_moved (chain_at group) (places_of group) places moved),
+  subst (λ (pairs : Pairs). IsPermutation pairs (flat_map (chain_at group) places)) (flat_map-map (chain_at group) (λ (entry : ℕ × ℕ). entry.1) (entries group.hashes.map))
+      (parts_moved (chain_at group) (places_of group) places moved),
   is,
 )
 listed group places before after (Err error) moved is = tt
 
 pub returns : goal.returns
 returns c =
-    listed c.args.self.now c.deref.result.now _ _ c.list_places.result (subst (IsPermutation (places_of c.args.self.now)) (sym c.deref.ensures.value) c.in_ok-places.ensures.places) c.list_places.ensures
+    listed c.args.self.now c.deref.result.now _ _ c.list_places.result (subst (IsPermutation (places_of c.args.self.now)) (sym c.deref.ensures.value) c.in_ok-places.ensures.places)
+    c.list_places.ensures

@@ -15,11 +15,15 @@ hashes-preserved c =
     ap (λ (long : Long). entries long.hashes.map) c.self.view_is ∙ c.hashes.invariant.came ∙ ap (λ (left : List (ℕ × ℕ)). c.hashes.yielded ++ left) c.in-Some.ensures.steps in
     let leads = entry_held c.self.inside.hashes.map c.hashes.yielded c.next.new.self c.in-Some.field-0-0 c.in-Some.place all in
     let stands : chain_at c.args.self.now c.in-Some.place ≢ [] =
-    subst (λ (long : Long). chain_at long c.in-Some.place ≢ []) c.self.view_is (is-used c.self.inside.key_length c.self.inside.chains c.self.inside.records c.in-Some.place (c.self.invariant.led c.in-Some.field-0-0 c.in-Some.place leads)) in
+    subst (λ (long : Long). chain_at long c.in-Some.place ≢ []) c.self.view_is (is-used c.self.inside.key_length c.self.inside.chains c.self.inside.records c.in-Some.place
+    (c.self.invariant.led c.in-Some.field-0-0 c.in-Some.place leads)) in
     record {
       came = came_on (entries c.args.self.now.hashes.map) c.hashes.yielded c.hashes.place-iterator c.next.new.self entry c.hashes.invariant.came c.in-Some.ensures.steps;
-      listed = c.in_ok-push.ensures.items ∙ ap (λ (places : List ℕ). places ++ c.in-Some.place ∷ []) c.hashes.invariant.listed ∙ sym (map-append (λ (entry : ℕ × ℕ). entry.1) c.hashes.yielded (entry ∷ []));
-      used = subst (All (λ (place : ℕ). chain_at c.args.self.now place ≢ [])) (sym c.in_ok-push.ensures.items) (All-push (λ (place : ℕ). chain_at c.args.self.now place ≢ []) c.hashes.places.items c.in-Some.place c.hashes.invariant.used stands);
+      listed =
+          c.in_ok-push.ensures.items ∙ ap (λ (places : List ℕ). places ++ c.in-Some.place ∷ []) c.hashes.invariant.listed ∙ sym (map-append (λ (entry : ℕ × ℕ). entry.1) c.hashes.yielded (entry ∷ []));
+      used =
+          subst (All (λ (place : ℕ). chain_at c.args.self.now place ≢ [])) (sym c.in_ok-push.ensures.items)
+          (All-push (λ (place : ℕ). chain_at c.args.self.now place ≢ []) c.hashes.places.items c.in-Some.place c.hashes.invariant.used stands);
     }
 
 pub returns-clause-used : goal.returns-clause-used

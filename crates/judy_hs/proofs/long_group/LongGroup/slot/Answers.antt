@@ -33,10 +33,15 @@ returns-then-is_own c =
     let is = seen-held c.self.inside.key_length c.self.inside.chains c.self.inside.records c.args.place c.self.view_is (some_used _ c.args.key.now c.requires.is_there) in
     let own = c.if-is_own.ensures.0 refl in
     rw (← c.self.view_is) (
-      λ t. inl (c.slot.result.ghost_name, λ w. value-written c.self.inside.hashes c.self.inside.key_length c.self.inside.chains c.self.inside.records c.self.invariant c.args.place is c.args.key.now own w t),
+      λ t. inl (
+        c.slot.result.ghost_name,
+        λ w. value-written c.self.inside.hashes c.self.inside.key_length c.self.inside.chains c.self.inside.records c.self.invariant c.args.place is c.args.key.now own w t,
+      ),
       record {
         writes_back = tt;
-        value = ap (λ (v : ℕ). Some v) c.slot.ensures.value ∙ sym (own-value c.self.inside.hashes c.self.inside.key_length c.self.inside.chains c.self.inside.records c.self.invariant c.args.place is c.args.key.now own);
+        value =
+            ap (λ (v : ℕ). Some v) c.slot.ensures.value ∙ sym (own-value c.self.inside.hashes c.self.inside.key_length c.self.inside.chains c.self.inside.records
+            c.self.invariant c.args.place is c.args.key.now own);
       },
     )
 
@@ -47,12 +52,18 @@ invariant_of-self-lent-in-Some c _ =
     let led = c.in-Some.ensures.value in
     let others = ap (λ (found : Option Pairs). unwrap_or found []) led in (
       λ w.
-          let there = through-there c.self.inside.chains (c.get_mut.follows.lender (with_value c.in-Some.chain.now c.args.key.now w)) c.args.place c.in-Some.chain.now (with_value c.in-Some.chain.now c.args.key.now w) led (c.get_mut.follows.holds (with_value c.in-Some.chain.now c.args.key.now w)) in
-          let here = through-here c.self.inside.chains (c.get_mut.follows.lender (with_value c.in-Some.chain.now c.args.key.now w)) c.args.place c.in-Some.chain.now (with_value c.in-Some.chain.now c.args.key.now w) led (c.get_mut.follows.holds (with_value c.in-Some.chain.now c.args.key.now w)) in
-          other-kept c.self.inside.hashes c.self.inside.key_length c.self.inside.chains c.self.inside.records c.self.invariant c.args.place is c.args.key.now apart (c.get_mut.follows.lender (with_value c.in-Some.chain.now c.args.key.now w)) there w (here ∙ ap (λ (pairs : Pairs). with_value pairs c.args.key.now w) others),
-      (let there = through-there c.self.inside.chains (c.get_mut.follows.lender c.in-Some.chain.now) c.args.place c.in-Some.chain.now c.in-Some.chain.now led (c.get_mut.follows.holds c.in-Some.chain.now) in
-          let here = through-here c.self.inside.chains (c.get_mut.follows.lender c.in-Some.chain.now) c.args.place c.in-Some.chain.now c.in-Some.chain.now led (c.get_mut.follows.holds c.in-Some.chain.now) in
-          (beside-same c.self.inside.hashes c.self.inside.key_length c.self.inside.chains c.self.inside.records c.self.invariant c.args.place is (c.get_mut.follows.lender c.in-Some.chain.now) (same-each c.self.inside.chains (c.get_mut.follows.lender c.in-Some.chain.now) c.args.place (here ∙ others) there)).1),
+          let there = through-there c.self.inside.chains (c.get_mut.follows.lender (with_value c.in-Some.chain.now c.args.key.now w)) c.args.place c.in-Some.chain.now
+          (with_value c.in-Some.chain.now c.args.key.now w) led (c.get_mut.follows.holds (with_value c.in-Some.chain.now c.args.key.now w)) in
+          let here = through-here c.self.inside.chains (c.get_mut.follows.lender (with_value c.in-Some.chain.now c.args.key.now w)) c.args.place c.in-Some.chain.now
+          (with_value c.in-Some.chain.now c.args.key.now w) led (c.get_mut.follows.holds (with_value c.in-Some.chain.now c.args.key.now w)) in
+          other-kept c.self.inside.hashes c.self.inside.key_length c.self.inside.chains c.self.inside.records c.self.invariant c.args.place is c.args.key.now apart
+          (c.get_mut.follows.lender (with_value c.in-Some.chain.now c.args.key.now w)) there w (here ∙ ap (λ (pairs : Pairs). with_value pairs c.args.key.now w) others),
+      (let there = through-there c.self.inside.chains (c.get_mut.follows.lender c.in-Some.chain.now) c.args.place c.in-Some.chain.now c.in-Some.chain.now led
+          (c.get_mut.follows.holds c.in-Some.chain.now) in
+          let here = through-here c.self.inside.chains (c.get_mut.follows.lender c.in-Some.chain.now) c.args.place c.in-Some.chain.now c.in-Some.chain.now led
+          (c.get_mut.follows.holds c.in-Some.chain.now) in
+          (beside-same c.self.inside.hashes c.self.inside.key_length c.self.inside.chains c.self.inside.records c.self.invariant c.args.place is
+          (c.get_mut.follows.lender c.in-Some.chain.now) (same-each c.self.inside.chains (c.get_mut.follows.lender c.in-Some.chain.now) c.args.place (here ∙ others) there)).1),
     )
 
 pub returns-in-Some : goal.returns-in-Some
@@ -61,17 +72,26 @@ returns-in-Some c =
     let apart : bytes_in c.self.inside.key_length (text_of (spot_at c.self.inside.records c.args.place)) ≢ c.args.key.now = (λ same. false≢true (c.if-is_own.ensures.1 same)) in
     let led = c.in-Some.ensures.value in
     let others = ap (λ (found : Option Pairs). unwrap_or found []) led in
-    let there = through-there c.self.inside.chains (c.get_mut.follows.lender c.in-Some.chain.now) c.args.place c.in-Some.chain.now c.in-Some.chain.now led (c.get_mut.follows.holds c.in-Some.chain.now) in
-    let here = through-here c.self.inside.chains (c.get_mut.follows.lender c.in-Some.chain.now) c.args.place c.in-Some.chain.now c.in-Some.chain.now led (c.get_mut.follows.holds c.in-Some.chain.now) in
-    let back = (beside-same c.self.inside.hashes c.self.inside.key_length c.self.inside.chains c.self.inside.records c.self.invariant c.args.place is (c.get_mut.follows.lender c.in-Some.chain.now) (same-each c.self.inside.chains (c.get_mut.follows.lender c.in-Some.chain.now) c.args.place (here ∙ others) there)).0 in
+    let there = through-there c.self.inside.chains (c.get_mut.follows.lender c.in-Some.chain.now) c.args.place c.in-Some.chain.now c.in-Some.chain.now led
+    (c.get_mut.follows.holds c.in-Some.chain.now) in
+    let here = through-here c.self.inside.chains (c.get_mut.follows.lender c.in-Some.chain.now) c.args.place c.in-Some.chain.now c.in-Some.chain.now led
+    (c.get_mut.follows.holds c.in-Some.chain.now) in
+    let back = (beside-same c.self.inside.hashes c.self.inside.key_length c.self.inside.chains c.self.inside.records c.self.invariant c.args.place is
+    (c.get_mut.follows.lender c.in-Some.chain.now) (same-each c.self.inside.chains (c.get_mut.follows.lender c.in-Some.chain.now) c.args.place (here ∙ others) there)).0 in
     rw (← c.self.view_is) (
       λ t. read_of (ghost_name_of c.slot-in-Some.result) (λ w.
-          other-written c.self.inside.hashes c.self.inside.key_length c.self.inside.chains c.self.inside.records c.self.invariant c.args.place is c.args.key.now apart (c.get_mut.follows.lender (with_value c.in-Some.chain.now c.args.key.now w))
-          (through-there c.self.inside.chains (c.get_mut.follows.lender (with_value c.in-Some.chain.now c.args.key.now w)) c.args.place c.in-Some.chain.now (with_value c.in-Some.chain.now c.args.key.now w) led (c.get_mut.follows.holds (with_value c.in-Some.chain.now c.args.key.now w))) w
-          (through-here c.self.inside.chains (c.get_mut.follows.lender (with_value c.in-Some.chain.now c.args.key.now w)) c.args.place c.in-Some.chain.now (with_value c.in-Some.chain.now c.args.key.now w) led (c.get_mut.follows.holds (with_value c.in-Some.chain.now c.args.key.now w)) ∙ ap (λ (pairs : Pairs). with_value pairs c.args.key.now w) others) t) (back t),
+          other-written c.self.inside.hashes c.self.inside.key_length c.self.inside.chains c.self.inside.records c.self.invariant c.args.place is c.args.key.now apart
+          (c.get_mut.follows.lender (with_value c.in-Some.chain.now c.args.key.now w))
+          (through-there c.self.inside.chains (c.get_mut.follows.lender (with_value c.in-Some.chain.now c.args.key.now w)) c.args.place c.in-Some.chain.now
+          (with_value c.in-Some.chain.now c.args.key.now w) led (c.get_mut.follows.holds (with_value c.in-Some.chain.now c.args.key.now w))) w
+          (through-here c.self.inside.chains (c.get_mut.follows.lender (with_value c.in-Some.chain.now c.args.key.now w)) c.args.place c.in-Some.chain.now
+          (with_value c.in-Some.chain.now c.args.key.now w) led (c.get_mut.follows.holds (with_value c.in-Some.chain.now c.args.key.now w)) ∙
+          ap (λ (pairs : Pairs). with_value pairs c.args.key.now w) others) t) (back t),
       record {
         writes_back = tt;
-        value = c.slot-in-Some.ensures.value ∙ ap (λ (pairs : Pairs). value_in pairs c.args.key.now) others ∙ sym (other-value c.self.inside.hashes c.self.inside.key_length c.self.inside.chains c.self.inside.records c.self.invariant c.args.place is c.args.key.now apart);
+        value =
+            c.slot-in-Some.ensures.value ∙ ap (λ (pairs : Pairs). value_in pairs c.args.key.now) others ∙
+            sym (other-value c.self.inside.hashes c.self.inside.key_length c.self.inside.chains c.self.inside.records c.self.invariant c.args.place is c.args.key.now apart);
       },
     )
 
@@ -84,6 +104,8 @@ returns-in-None c =
       λ t. inr (long_of c.self.inside.hashes c.self.inside.key_length (c.get_mut.follows.holds-at-none t) c.self.inside.records),
       record {
         writes_back = tt;
-        value = ap (λ (pairs : Pairs). value_in pairs c.args.key.now) others ∙ sym (other-value c.self.inside.hashes c.self.inside.key_length c.self.inside.chains c.self.inside.records c.self.invariant c.args.place is c.args.key.now apart);
+        value =
+            ap (λ (pairs : Pairs). value_in pairs c.args.key.now) others ∙ sym (other-value c.self.inside.hashes c.self.inside.key_length c.self.inside.chains
+            c.self.inside.records c.self.invariant c.args.place is c.args.key.now apart);
       },
     )

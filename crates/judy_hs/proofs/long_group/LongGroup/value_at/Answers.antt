@@ -12,7 +12,8 @@ pub at-record-requires : goal.at-record-requires
 at-record-requires c = seen-held c.self.inside.key_length c.self.inside.chains c.self.inside.records c.args.place c.self.view_is c.requires
 
 pub is_key-requires-clause-held : goal.is_key-requires-clause-held
-is_key-requires-clause-held c = subst (λ (spot : Spot). IsHeld spot) (sym c.at-record.ensures) (seen-held c.self.inside.key_length c.self.inside.chains c.self.inside.records c.args.place c.self.view_is c.requires)
+is_key-requires-clause-held c =
+    subst (λ (spot : Spot). IsHeld spot) (sym c.at-record.ensures) (seen-held c.self.inside.key_length c.self.inside.chains c.self.inside.records c.args.place c.self.view_is c.requires)
 
 pub is_key-requires-clause-spelled : goal.is_key-requires-clause-spelled
 is_key-requires-clause-spelled c = subst (λ (spot : Spot). IsSpelled c.self.inside.key_length spot) (sym c.at-record.ensures) (c.self.invariant.spelled c.args.place)
@@ -33,7 +34,8 @@ returns-in-Some c =
     let others = ap (λ (found : Option Pairs). unwrap_or found []) c.in-Some.ensures.value in
     rw (← c.self.view_is) (
     c.get-in-Some.ensures ∙ ap (λ (pairs : Pairs). value_in pairs c.args.key.now) others
-    ∙ sym (other-value c.self.inside.hashes c.self.inside.key_length c.self.inside.chains c.self.inside.records c.self.invariant c.args.place is c.args.key.now (λ same. false≢true (c.if-is_key.ensures.1 (spells ∙ same))))
+    ∙ sym (other-value c.self.inside.hashes c.self.inside.key_length c.self.inside.chains c.self.inside.records c.self.invariant c.args.place is c.args.key.now
+    (λ same. false≢true (c.if-is_key.ensures.1 (spells ∙ same))))
     )
 
 pub returns-in-None : goal.returns-in-None
@@ -43,5 +45,6 @@ returns-in-None c =
     let others = ap (λ (found : Option Pairs). unwrap_or found []) c.in-None.ensures.value in
     rw (← c.self.view_is) (
     ap (λ (pairs : Pairs). value_in pairs c.args.key.now) others
-    ∙ sym (other-value c.self.inside.hashes c.self.inside.key_length c.self.inside.chains c.self.inside.records c.self.invariant c.args.place is c.args.key.now (λ same. false≢true (c.if-is_key.ensures.1 (spells ∙ same))))
+    ∙ sym (other-value c.self.inside.hashes c.self.inside.key_length c.self.inside.chains c.self.inside.records c.self.invariant c.args.place is c.args.key.now
+    (λ same. false≢true (c.if-is_key.ensures.1 (spells ∙ same))))
     )

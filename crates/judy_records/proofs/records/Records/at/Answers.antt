@@ -1,29 +1,15 @@
-use Rattle.std.proofs.Common.{◌≡◌, ◌+◌, ◌-◌, ◌*◌, take, drop, get_or, ap, ◌∙◌, arith}
-use Rattle.judy_records.specs.Spots.{held}
-use Rattle.judy_records.proofs.RecordLemmas.{seen-there, seen-long, seen-spot}
-use Rattle.judy_records.proofs.SpotLemmas.{first-taken}
+use Rattle.std.proofs.Common.{ap, ◌∙◌, arith}
+use Rattle.judy_records.proofs.ListHolds.{shift-fits, seen-there, seen-held, seen-spot}
 use Rattle.judy_records.proofs.records.Records.at.Goals as goal
 
-pub index-page-requires : goal.index-page-requires
-index-page-requires c = omega (arith, seen-there c.self.inside c.self.invariant c.self.view_is c.args.place c.requires c.locate-at.ensures, c.self.inside.pages.ok)
+pub locate-at-requires : goal.locate-at-requires
+locate-at-requires c = shift-fits c.self.inside c.self.invariant
 
-pub overflow_mul-start : goal.overflow_mul-start
-overflow_mul-start c = omega (arith, seen-long c.self.inside c.self.invariant c.self.view_is c.args.place c.requires c.locate-at.ensures c.index-page.result.now c.index-page.ensures, c.index-page.result.now.ok, c.index-page.result.now.small)
+pub index-requires : goal.index-requires
+index-requires c = omega (arith, seen-there c.self.inside c.self.invariant c.self.view_is c.args.place c.requires c.locate-at.ensures, c.self.inside.pages.ok)
 
-pub overflow_add-start-2 : goal.overflow_add-start-2
-overflow_add-start-2 c = omega (arith, seen-long c.self.inside c.self.invariant c.self.view_is c.args.place c.requires c.locate-at.ensures c.index-page.result.now c.index-page.ensures, c.index-page.result.now.ok, c.index-page.result.now.small)
-
-pub offset_bounds-deref-start : goal.offset_bounds-deref-start
-offset_bounds-deref-start c = omega (arith, seen-long c.self.inside c.self.invariant c.self.view_is c.args.place c.requires c.locate-at.ensures c.index-page.result.now c.index-page.ensures, c.index-page.result.now.ok, c.index-page.result.now.small)
-
-pub slice_bounds-new-end : goal.slice_bounds-new-end
-slice_bounds-new-end c = omega (arith, seen-long c.self.inside c.self.invariant c.self.view_is c.args.place c.requires c.locate-at.ensures c.index-page.result.now c.index-page.ensures, c.index-page.result.now.ok, c.index-page.result.now.small, c.deref.ensures.len)
+pub at-requires : goal.at-requires
+at-requires c = seen-held c.self.inside c.self.invariant c.self.view_is c.args.place c.requires c.locate-at.ensures c.index.result.now c.index.ensures
 
 pub returns : goal.returns
-returns c =
-    let start = c.locate-at.result.1 * (c.self.inside.size + 1) in
-    let e : start + (c.self.inside.size + 1) - start ≡ c.self.inside.size + 1 = omega arith in
-    c.new.ensures
-    ∙ ap (λ words. held (get_or words 0 0) (drop 1 words)) (ap (λ n. take n (drop start c.deref.result.now)) e ∙ ap (λ words. take (c.self.inside.size + 1) (drop start words)) c.deref.ensures.value)
-    ∙ first-taken c.self.inside.size (drop start c.index-page.result.now.items)
-    ∙ seen-spot c.self.inside c.self.invariant c.self.view_is c.args.place c.requires c.locate-at.ensures c.index-page.result.now c.index-page.ensures
+returns c = c.at.ensures ∙ seen-spot c.self.inside c.self.invariant c.self.view_is c.args.place c.requires c.locate-at.ensures c.index.result.now c.index.ensures

@@ -1,10 +1,18 @@
-use Rattle.std.proofs.Common.{sym, ap, ◌∙◌, arith}
-use Rattle.judy_records.specs.Spots.{next_place}
-use Rattle.judy_records.proofs.RecordLemmas.{next-free, next-end}
+use Rattle.std.proofs.Common.{◌≡◌, ap, subst, sym, ◌∙◌, arith}
+use Rattle.judy_records.proofs.PagesHold.{first-in}
+use Rattle.judy_records.proofs.ListHolds.{per, some, shift-fits, start-fits}
 use Rattle.judy_records.proofs.records.Records.next_place.Goals as goal
 
-pub returns-then-self-gt0 : goal.returns-then-self-gt0
-returns-then-self-gt0 c = sym (next-free c.self.inside c.self.invariant c.if-self-gt0.true) ∙ ap (λ list. next_place list) c.self.view_is
+pub start_of-requires-clause-shift : goal.start_of-requires-clause-shift
+start_of-requires-clause-shift c = shift-fits c.self.inside c.self.invariant
 
-pub returns-else-self-gt0 : goal.returns-else-self-gt0
-returns-else-self-gt0 c = sym (next-end c.self.inside c.self.invariant (omega (arith, c.if-self-gt0.false))) ∙ ap (λ list. next_place list) c.self.view_is
+pub start_of-requires-clause-fits : goal.start_of-requires-clause-fits
+start_of-requires-clause-fits c =
+    start-fits c.self.inside c.self.invariant c.in-Some.number
+    (first-in c.self.inside.size (per c.self.inside c.self.invariant) c.self.inside.end c.self.inside.pages.items c.self.inside.turns c.self.invariant.pages c.in-Some.number (sym c.in-Some.ensures))
+
+pub index-requires : goal.index-requires
+index-requires c =
+    let inside = first-in c.self.inside.size (per c.self.inside c.self.invariant) c.self.inside.end c.self.inside.pages.items c.self.inside.turns c.self.invariant.pages c.in-Some.number
+    (sym c.in-Some.ensures) in
+    omega (arith, inside, c.self.inside.pages.ok)

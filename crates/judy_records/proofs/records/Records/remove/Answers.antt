@@ -1,24 +1,21 @@
-use Rattle.std.proofs.Common.{ap, refl, sym, ◌∙◌, arith, []}
-use Rattle.judy_records.specs.Spots.{removed, taken_out}
-use Rattle.judy_records.proofs.RecordLemmas.{removed-last, removed-other, spare-fits, seen-held}
-use Rattle.judy_records.proofs.RecordGrowth.{empty-are, empty-capacity}
+use Rattle.std.proofs.Common.{◌≡◌, length, ap, refl, sym, ◌∙◌, arith, get_or, set}
+use Rattle.std.proofs.lemmas.List.{get_or-set_other}
+use Rattle.judy_records.specs.Spots.{RecordList, spot_at, free}
+use Rattle.judy_records.proofs.PagesHold.{all-free}
+use Rattle.judy_records.proofs.ListHolds.{per, some}
 use Rattle.judy_records.proofs.records.Records.remove.Goals as goal
 
-pub returns-then-self : goal.returns-then-self
-returns-then-self c =
-    (λ i. record { size = c.self.inside.size; spots = []; first = 0; capacity = empty-capacity (record c.self.inside { pages = c.new.result; count = 0; free = 0; spare = 0 }) c.new.ensures.items refl refl i })
-    ∙ sym (removed-last c.self.inside c.self.invariant c.args.place (seen-held c.self.inside c.self.invariant c.self.view_is c.args.place c.requires) c.if-self.true)
-    ∙ ap (λ list. removed list c.args.place) c.self.view_is
-
-pub invariant_of-self : goal.invariant_of-self
-invariant_of-self c = empty-are _ c.new.ensures.items refl refl c.self.invariant.size_within
-
-pub returns-else-self : goal.returns-else-self
-returns-else-self c =
-    c.take_out.ensures
-    ∙ ap (λ list. taken_out list c.args.place) (sym c.self.view_is)
-    ∙ sym (removed-other c.self.inside c.self.invariant c.args.place (seen-held c.self.inside c.self.invariant c.self.view_is c.args.place c.requires) c.if-self.false)
-    ∙ ap (λ list. removed list c.args.place) c.self.view_is
-
-pub overflow_add-self-inside : goal.overflow_add-self-inside
-overflow_add-self-inside c = (let fits = spare-fits c.self.inside c.self.invariant in omega (arith, fits))
+pub returns-then-all_gone : goal.returns-then-all_gone
+returns-then-all_gone c =
+    let list = c.self.inside in
+    let are = c.self.invariant in
+    record {
+      size = ap (λ (seen : RecordList). seen.size) c.self.view_is ∙ c.take_out.ensures.size;
+      here = λ is. is;
+      elsewhere = λ other apart.
+          sym (all-free list.size (per list are) list.end (some list are) list.pages.items list.turns are.pages (c.if-all_gone.ensures.0 refl) other)
+          ∙ ap (λ (seen : RecordList). spot_at seen other) c.self.view_is
+          ∙ ap (λ spots. get_or spots other (free 0)) c.take_out.ensures.spots
+          ∙ get_or-set_other c.args.self.now.spots c.args.place other (free 0) (free 0) apart;
+      long = omega arith;
+    }

@@ -1,15 +1,18 @@
-use Rattle.std.proofs.Common.{arith}
-use Rattle.judy_records.proofs.RecordLemmas.{seen-there, seen-long, seen-read}
+use Rattle.std.proofs.Common.{ap, ◌∙◌, arith}
+use Rattle.judy_records.specs.Spots.{value_of}
+use Rattle.judy_records.proofs.ListHolds.{shift-fits, seen-there, seen-held, seen-spot}
 use Rattle.judy_records.proofs.records.Records.value.Goals as goal
 
-pub index-page-requires : goal.index-page-requires
-index-page-requires c = omega (arith, seen-there c.self.inside c.self.invariant c.self.view_is c.args.place c.requires c.locate-at.ensures, c.self.inside.pages.ok)
-
-pub overflow_mul-rest : goal.overflow_mul-rest
-overflow_mul-rest c = omega (arith, seen-long c.self.inside c.self.invariant c.self.view_is c.args.place c.requires c.locate-at.ensures c.index-page.result.now c.index-page.ensures, c.index-page.result.now.ok, c.index-page.result.now.small)
+pub locate-at-requires : goal.locate-at-requires
+locate-at-requires c = shift-fits c.self.inside c.self.invariant
 
 pub index-requires : goal.index-requires
-index-requires c = omega (arith, seen-long c.self.inside c.self.invariant c.self.view_is c.args.place c.requires c.locate-at.ensures c.index-page.result.now c.index-page.ensures, c.index-page.result.now.ok)
+index-requires c = omega (arith, seen-there c.self.inside c.self.invariant c.self.view_is c.args.place c.requires c.locate-at.ensures, c.self.inside.pages.ok)
+
+pub value-requires : goal.value-requires
+value-requires c = seen-held c.self.inside c.self.invariant c.self.view_is c.args.place c.requires c.locate-at.ensures c.index.result.now c.index.ensures
 
 pub returns : goal.returns
-returns c = seen-read c.self.inside c.self.invariant c.self.view_is c.args.place c.requires c.locate-at.ensures c.index-page.result.now c.index-page.ensures c.index.ensures
+returns c =
+    c.value.ensures
+    ∙ ap value_of (seen-spot c.self.inside c.self.invariant c.self.view_is c.args.place c.requires c.locate-at.ensures c.index.result.now c.index.ensures)

@@ -36,5 +36,6 @@ invariant_of-self-2 c =
     let is = c.sum-total.ensures in
     record {
       sums = omega arith;
-      begins = subst (λ (pairs : Pairs). IsFirst pairs c.self.inside.first) (sym c.in_ok-entries.ensures.items) (first_taken c.self.inside.entries.items half c.self.inside.first c.self.invariant.begins);
+      begins =
+          subst (λ (pairs : Pairs). IsFirst pairs c.self.inside.first) (sym c.in_ok-entries.ensures.items) (first_taken c.self.inside.entries.items half c.self.inside.first c.self.invariant.begins);
     }

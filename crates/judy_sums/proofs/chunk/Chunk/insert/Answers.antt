@@ -21,5 +21,7 @@ invariant_of-self-else-at-eq0 c =
     let total = c.self.invariant.sums in
     record {
       sums = omega arith;
-      begins = subst (λ (pairs : Pairs). IsFirst pairs c.self.inside.first) (sym c.in_ok-insert.ensures.items) (first_kept pairs c.args.at c.self.inside.first c.args.entry (omega arith) within c.self.invariant.begins);
+      begins =
+          subst (λ (pairs : Pairs). IsFirst pairs c.self.inside.first) (sym c.in_ok-insert.ensures.items)
+          (first_kept pairs c.args.at c.self.inside.first c.args.entry (omega arith) within c.self.invariant.begins);
     }

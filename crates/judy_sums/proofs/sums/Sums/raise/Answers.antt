@@ -1,8 +1,8 @@
-use Rattle.std.proofs.Common.{Result, Ok, Err, OnOk, OnErr, ap, arith, ◌∙◌}
+use Rattle.std.proofs.Common.{ℕ, Option, IsSome, Result, Ok, Err, OnOk, OnErr, ap, subst, arith, ◌∙◌}
 use Rattle.std.specs.declared.alloc.AllocError.{AllocError}
 use Rattle.std.specs.FinMap.{from_sorted}
 use Rattle.judy_sums.specs.Pairs.{sum_of}
-use Rattle.judy_sums.proofs.SumsLemmas.{len_is, entries_is, raised_is}
+use Rattle.judy_sums.proofs.SumsLemmas.{len_is, get_is, entries_is, raised_is}
 use Rattle.judy_sums.proofs.sums.Sums.raise.Goals as goal
 
 pub raise-requires-clause-few : goal.raise-requires-clause-few
@@ -30,3 +30,7 @@ returns-clause-raised c = on_ok c.raise.result (raised_is c.self.inside.chunks.i
 
 pub returns-clause-unchanged : goal.returns-clause-unchanged
 returns-clause-unchanged c = on_err c.raise.result (λ e. ap from_sorted e ∙ c.self.view_is) c.raise.ensures.unchanged
+
+pub returns-clause-there : goal.returns-clause-there
+returns-clause-there c = λ found. c.raise.ensures.there
+    (subst (λ (known : Option ℕ). IsSome known) (get_is c.self.inside.chunks.items c.args.self.now c.self.invariant c.self.view_is c.args.word) found)

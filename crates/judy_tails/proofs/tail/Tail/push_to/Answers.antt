@@ -1,4 +1,4 @@
-use Rattle.std.proofs.Common.{◌++◌, ◌%◌, ◌≢◌, subst, [], ◌∷◌, get_or, take, length, ap, sym, ◌∙◌, arith}
+use Rattle.std.proofs.Common.{◌+◌, ◌++◌, ◌%◌, ◌≢◌, subst, [], ◌∷◌, get_or, take, length, ap, sym, ◌∙◌, arith}
 use Rattle.std.proofs.lemmas.List.{length-append, append_assoc, append-nil, take_all}
 use Rattle.judy_records.specs.Texts.{text_in}
 use Rattle.judy_tails.proofs.TailLemmas.{text-none, text-more, text-within, whole-full, whole-begins}
@@ -8,7 +8,8 @@ use Rattle.judy_tails.proofs.tail.Tail.push_to.Goals as goal
 
 pub loop-word-init : goal.loop-word-init
 loop-word-init g c = record {
-  written = sym (ap (λ text. g.K.KeyWriter.written c.args.key.now ++ text) text-none ∙ append-nil (g.K.KeyWriter.written c.args.key.now));
+  len = let none = ap length text-none in omega (arith, none);
+  has = λ front is. subst (g.K.KeyWriter.has c.args.key.now) (sym (ap (λ text. front ++ text) text-none ∙ append-nil front)) is;
   beyond = search;
 }
 
@@ -30,7 +31,7 @@ pub push_bytes-requires-clause-room : goal.push_bytes-requires-clause-room
 push_bytes-requires-clause-room g c =
     let words = c.text-word-items.result.now in
     let at = c.loop-word.word-index in
-    let long = ap length c.loop-word.invariant.written ∙ length-append (g.K.KeyWriter.written c.args.key.now) (text_in (take at words)) in
+    let long = c.loop-word.invariant.len in
     let within = text-within words at c.loop-word-test.true in
     let all = ap (λ words. length (text_in words)) c.text-word-items.ensures ∙ ap (λ tail. length tail.0) c.self.view_is in
     omega (arith, long, within, all, c.requires)
@@ -40,18 +41,25 @@ loop-word-preserved g c =
     let words = c.text-word-items.result.now in
     let at = c.loop-word.word-index in
     let more = text_in (get_or words at 0 ∷ []) in
+    let on = sym (text-more words at c.loop-word-test.true) in
     record {
-      written = c.push_bytes.ensures.written
-          ∙ ap (λ bytes. bytes ++ more) c.loop-word.invariant.written
-          ∙ append_assoc (g.K.KeyWriter.written c.args.key.now) (text_in (take at words)) more
-          ∙ ap (λ text. g.K.KeyWriter.written c.args.key.now ++ text) (sym (text-more words at c.loop-word-test.true));
-      beyond = stays-beyond g.K.KeyWriter.written g.K.KeyWriter.beyond c.args.key.now c.loop-word.key c.push_bytes.new.key more c.push_bytes.ensures.written c.loop-word.invariant.beyond c.push_bytes.ensures.beyond;
+      len =
+          let both = ap length on in
+          let two = length-append (text_in (take at words)) more in
+          omega (arith, c.push_bytes.ensures.len, c.loop-word.invariant.len, both, two);
+      has = λ front is.
+          subst (g.K.KeyWriter.has c.push_bytes.new.key) (append_assoc front (text_in (take at words)) more ∙ ap (λ text. front ++ text) on)
+          (c.push_bytes.ensures.has (front ++ text_in (take at words)) (c.loop-word.invariant.has front is));
+      beyond =
+          stays-beyond g.K.KeyWriter.len g.K.KeyWriter.beyond c.args.key.now c.loop-word.key c.push_bytes.new.key (length more) c.push_bytes.ensures.len
+          c.loop-word.invariant.beyond c.push_bytes.ensures.beyond;
     }
 
 pub returns : goal.returns
-returns g c = record {
-  written = c.loop-word.invariant.written
-      ∙ ap (λ words. g.K.KeyWriter.written c.args.key.now ++ text_in words) (take_all c.loop-word.word-index c.text-word-items.result.now c.loop-word-test.false ∙ c.text-word-items.ensures)
-      ∙ ap (λ tail. g.K.KeyWriter.written c.args.key.now ++ tail.0) c.self.view_is;
-  beyond = c.loop-word.invariant.beyond;
-}
+returns g c =
+    let all = ap text_in (take_all c.loop-word.word-index c.text-word-items.result.now c.loop-word-test.false ∙ c.text-word-items.ensures) ∙ ap (λ tail. tail.0) c.self.view_is in
+    record {
+      len = c.loop-word.invariant.len ∙ ap (λ text. g.K.KeyWriter.len c.args.key.now + length text) all;
+      has = λ front is. subst (λ text. g.K.KeyWriter.has c.loop-word.key (front ++ text)) all (c.loop-word.invariant.has front is);
+      beyond = c.loop-word.invariant.beyond;
+    }
