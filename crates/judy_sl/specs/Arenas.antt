@@ -10,7 +10,7 @@ use Rattle.judy_sl.specs.Children.{Child, Free, Tail, Level, is_level, level_chi
 use Rattle.judy_sl.specs.declared.arena.Arena.{Arena}
 use Rattle.judy_sl.specs.Pieces.{pieces, IsText}
 use Rattle.judy_sl.specs.World.{World, Node, gone, tail, level, lookup}
-use Rattle.judy_sl.specs.Worlds.{IsWorld, AllLed}
+use Rattle.judy_sl.specs.WorldInvariants.{IsWorld, AllLed}
 
 -- What stands at a place: its lowest byte tells whether it is one for levels or for tails.
 abbrev pub child_at : Arena → ℕ → Child

@@ -6,7 +6,7 @@ use Rattle.judy_model.specs.Keys.{word_order, byte_order}
 use Rattle.judy_model.specs.Tables.{table, string_keys}
 use Rattle.judy_sl.specs.Pieces.{pieces, piece_bytes}
 use Rattle.judy_sl.specs.World.{World, level, lookup}
-use Rattle.judy_sl.specs.Worlds.{IsWorld}
+use Rattle.judy_sl.specs.WorldInvariants.{IsWorld}
 
 -- The map of the keys behind a seat: the bytes that are left of each there, with its value.
 abbrev pub map_behind : World → ℕ → FinMap byte_order ℕ
@@ -19,4 +19,5 @@ entry_keys world entry = if entry.0 % 256 == 0 then (piece_bytes entry.0, entry.
 -- The keys behind a level stand entry by entry.
 abbrev pub KeysStandEntryByEntry : Type 0
 KeysStandEntryByEntry =
-    (world : World) (behind : ℕ → List ℕ) (seat : ℕ) (words : FinMap word_order ℕ) → IsWorld world behind → world seat ≡ level words → entries (map_behind world seat) ≡ flat_map (entry_keys world) (entries words)
+    (world : World) (behind : ℕ → List ℕ) (seat : ℕ) (words : FinMap word_order ℕ) → IsWorld world behind → world seat ≡ level words →
+    entries (map_behind world seat) ≡ flat_map (entry_keys world) (entries words)

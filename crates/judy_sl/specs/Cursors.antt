@@ -16,7 +16,8 @@ pub record Standing : Type 0 where
 
 -- It is stored as the pair of these.
 abbrev pub standing_code : Coded Standing
-standing_code = code_by (FinMap byte_order ℕ × List ℕ) (coded× (code (coded_list coded_ℕ) coded_ℕ) (coded_list coded_ℕ)) (λ at. (at.map, at.key)) (λ pair. record { map = pair.0; key = pair.1 }) (λ _. refl)
+standing_code =
+    code_by (FinMap byte_order ℕ × List ℕ) (coded× (code (coded_list coded_ℕ) coded_ℕ) (coded_list coded_ℕ)) (λ at. (at.map, at.key)) (λ pair. record { map = pair.0; key = pair.1 }) (λ _. refl)
 
 -- What always holds of a cursor: its bytes hold no zero, and its run leads up from them.
 pub record IsCursor (arena : Arena) (key : List ℕ) (above : Levels) (run : Option Run) : Type 0 where

@@ -5,7 +5,7 @@ use Rattle.judy_sl.specs.declared.arena.Arena.{Arena}
 use Rattle.judy_sl.specs.declared.arena.Place.{Place}
 use Rattle.judy_sl.specs.Pieces.{pieces, IsText, ArePieces}
 use Rattle.judy_sl.specs.World.{World, gone, lookup}
-use Rattle.judy_sl.specs.Worlds.{AllLed}
+use Rattle.judy_sl.specs.WorldInvariants.{AllLed}
 use Rattle.judy_sl.specs.Arenas.{world_of, node_of, child_at, IsArena}
 use Rattle.std.specs.FinMap.{FinMap, contains_key}
 use Rattle.judy_model.specs.Keys.{word_order, IsStringKey}

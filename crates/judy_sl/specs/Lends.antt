@@ -6,7 +6,7 @@ use Rattle.judy_model.specs.Keys.{byte_order, IsStringKey}
 use Rattle.judy_model.specs.Arrays.{ArrayOf, with_map, write, is_full}
 use Rattle.judy_sl.specs.declared.error.SlError.{SlError}
 use Rattle.judy_sl.specs.declared.error.SlError.TheVariants.{BadKey, Full, NoMemory}
-use Rattle.judy_sl.specs.contracts.strings.JudySl.{the_row}
+use Rattle.judy_sl.specs.contracts.judysl.JudySl.{the_row}
 
 -- The array with a value written at a key.
 abbrev pub with_value : ArrayOf byte_order → List ℕ → ℕ → ArrayOf byte_order

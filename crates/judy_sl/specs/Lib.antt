@@ -1,6 +1,6 @@
 pub mod Pieces
 pub mod World
-pub mod Worlds
+pub mod WorldInvariants
 pub mod Children
 pub mod Arenas
 pub mod Places

@@ -8,7 +8,7 @@ use Rattle.judy_model.specs.declared.keys.TheConstants.{LONGEST_KEY}
 use Rattle.judy_sums.specs.Pairs.{sum_below}
 use Rattle.judy_sums.specs.Levels.{part_len}
 use Rattle.judy_sl.specs.declared.nth.Mark.{Mark}
-use Rattle.judy_sl.specs.declared.nth.Spot.{Spot}
+use Rattle.judy_sl.specs.declared.nth.EntryPlace.{EntryPlace}
 use Rattle.judy_sl.specs.World.{World}
 use Rattle.judy_sl.specs.Behind.{map_behind, entry_keys}
 use Rattle.judy_sl.specs.Counted.{keys_behind_all}
@@ -25,7 +25,7 @@ pub record IsChosen (words sums : FinMap word_order ℕ) (most : ℕ) (mark : Ma
   pub high : suc mark.place < len words → most < before_entry words sums (suc mark.place)
 
 -- Behind this one of some entries stands the key at a place, and there it has this place.
-pub record IsSpotIn (world : World) (page : List (ℕ × ℕ)) (place : ℕ) (spot : Spot) : Type 0 where
+pub record IsSpotIn (world : World) (page : List (ℕ × ℕ)) (place : ℕ) (spot : EntryPlace) : Type 0 where
   pub front : List (ℕ × ℕ)
   pub back : List (ℕ × ℕ)
   pub split : page ≡ front ++ (spot.piece, spot.value) ∷ back
@@ -33,11 +33,11 @@ pub record IsSpotIn (world : World) (page : List (ℕ × ℕ)) (place : ℕ) (sp
   pub passed : place ≡ keys_behind_all world front + spot.place
 
 -- Some entries were read for the key at a place: it stands behind one of them, or so much of the place is left behind them all.
-abbrev pub AreReadFor : World → List (ℕ × ℕ) → ℕ → Result Spot ℕ → Type 0
+abbrev pub AreReadFor : World → List (ℕ × ℕ) → ℕ → Result EntryPlace ℕ → Type 0
 AreReadFor world page place result = MatchResult result (IsSpotIn world page place) (λ left. place ≡ keys_behind_all world page + left)
 
 -- Behind this entry of a level stands the key at a place, and there it has this place.
-pub record IsSpotOf (world : World) (words : FinMap word_order ℕ) (place : ℕ) (spot : Spot) : Type 0 where
+pub record IsSpotOf (world : World) (words : FinMap word_order ℕ) (place : ℕ) (spot : EntryPlace) : Type 0 where
   pub held : get words spot.piece ≡ Some spot.value
   pub within : spot.place < part_len (entry_keys world) (spot.piece, spot.value)
   pub same : slice_get (flat_map (entry_keys world) (entries words)) place ≡ slice_get (entry_keys world (spot.piece, spot.value)) spot.place

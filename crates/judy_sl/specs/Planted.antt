@@ -5,7 +5,7 @@ use Rattle.std.specs.FinMap.{empty, from_sorted, is_sorted, len}
 use Rattle.judy_model.specs.Keys.{word_order}
 use Rattle.judy_sl.specs.declared.arena.Arena.{Arena}
 use Rattle.judy_sl.specs.Pieces.{piece_of}
-use Rattle.judy_sl.specs.Worlds.{AllLed}
+use Rattle.judy_sl.specs.WorldInvariants.{AllLed}
 use Rattle.judy_sl.specs.Arenas.{world_of, map_of, IsArena}
 use Rattle.judy_sl.specs.Counted.{AreCounted}
 use Rattle.judy_sl.specs.Firsts.{AreFirsts}

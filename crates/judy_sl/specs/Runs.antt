@@ -1,5 +1,5 @@
 -- The entries of a level that are still to come, the levels above it, and what a walk up through the keys finds by them.
-use Rattle.std.specs.Prelude.{◌≡◌, ℕ, suc, ◌*◌, ◌≤◌, Bool, false, IsFalse, List, [], ◌∷◌, ◌++◌, length, Option, None, Some, if◌then◌else◌}
+use Rattle.std.specs.Prelude.{◌≡◌, ℕ, suc, ◌*◌, ◌≤◌, Bool, false, IsFalse, List, [], ◌∷◌, ◌++◌, length, take, Option, None, Some, if◌then◌else◌}
 use Rattle.std.specs.Borrow.{Bor}
 use Rattle.std.specs.FinMap.{FinMap, get}
 use Rattle.judy_model.specs.Arrays.{ArrayOf}
@@ -41,7 +41,8 @@ LeadAlong world seat (piece ∷ front) (passed ∷ above) end = (at : ℕ) × Pa
 -- What is kept of the level above is its entries beyond the piece that led down: the last of those that lead to the level of a run.
 abbrev pub AreKept : List ℕ → Levels → Option (List (ℕ × ℕ)) → Type 0
 AreKept front above None = Unit {0}
-AreKept front above (Some kept) = (before : List ℕ) (piece : ℕ) (others : Levels) (held : Bor (ArrayOf word_order)) → front ≡ before ++ piece ∷ [] → above ≡ others ++ Some held ∷ [] → AreBeyond held.now.map piece kept
+AreKept front above (Some kept) = (before : List ℕ) (piece : ℕ) (others : Levels) (held : Bor (ArrayOf word_order)) → front ≡ before ++ piece ∷ [] →
+    above ≡ others ++ Some held ∷ [] → AreBeyond held.now.map piece kept
 
 -- A key stands in the level of a run, which is below these others: the run has the entries beyond the key's own piece there, and
 -- no key behind that piece is above it.
@@ -102,3 +103,12 @@ IsLevelBehind world key depth above found = (map : FinMap word_order ℕ) (leads
 -- A walk leaves the least key above the bytes, and answers its value; or there is none, and they stay.
 abbrev pub IsAbove : Bool → World → List ℕ → List ℕ → Option ℕ → Type 0
 IsAbove itself = IsNeighbour (upward itself)
+
+-- And they then stand in the level of the run.
+abbrev pub IsClimbed : Bool → World → List ℕ → Levels → Run → Option ℕ → List ℕ → Type 0
+IsClimbed itself world key above run found after = IsAbove itself world key after found × Stands world after above run
+
+-- A writer has the bytes of a key before an entry at which the turn above that key is.
+pub record IsBegunAbove (itself : Bool) (world : World) (entry : ℕ × ℕ) (above : Levels) (run : Run) {W : Type 0} (has : W → List ℕ → Type 0) (writer : W) (key : List ℕ) : Type 0 where
+  pub leads : EntryLeads itself world key entry above run
+  pub given : has writer (take (8 * length above) key)

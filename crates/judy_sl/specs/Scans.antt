@@ -12,7 +12,7 @@ use Rattle.judy_sl.specs.declared.scans.Side.{Side}
 use Rattle.judy_sl.specs.declared.scans.Side.TheVariants.{Above, Below}
 use Rattle.judy_sl.specs.declared.scans.Look.{Look}
 use Rattle.judy_sl.specs.declared.scans.Turn.{Turn}
-use Rattle.judy_sl.specs.declared.scans.Found.{Found}
+use Rattle.judy_sl.specs.declared.scans.Scanned.{Scanned}
 use Rattle.judy_sl.specs.Pieces.{AreInner, ArePieces, pieces, spelling}
 use Rattle.judy_sl.specs.World.{World, level, lookup, walk}
 use Rattle.judy_sl.specs.Ways.{seat_in, IsFound}
@@ -81,12 +81,12 @@ turn_or child None depth turn = turn
 turn_or child (Some entry) depth turn = Some (record { child = child; piece = entry.0; value = entry.1; depth = depth })
 
 -- The value that was found.
-abbrev pub value_in : Option Found → Option ℕ
-value_in found = option_map (λ (one : Found). one.value) found
+abbrev pub value_in : Option Scanned → Option ℕ
+value_in found = option_map (λ (one : Scanned). one.value) found
 
 -- These bytes are a key, whose value stands at the place that was found.
-abbrev pub StandsAt : World → List ℕ → Option Found → Type 0
-StandsAt world key found = IfSome found (λ (one : Found). IsStringKey key × IsFound world key one.place)
+abbrev pub StandsAt : World → List ℕ → Option Scanned → Type 0
+StandsAt world key found = IfSome found (λ (one : Scanned). IsStringKey key × IsFound world key one.place)
 
 module _ (look : Look) (world : World) where
   -- Whether pieces are met from others.
@@ -140,3 +140,12 @@ module _ (look : Look) (world : World) where
   abbrev pub IsNeighbour : List ℕ → List ℕ → Option ℕ → Type 0
   IsNeighbour key after None = IsNone 0 (pieces key) × (after ≡ key)
   IsNeighbour key after (Some value) = IsNear 0 (pieces key) (pieces after) × IsStringKey after × (lookup world 0 (pieces after) ≡ Some value)
+
+  -- The same with the place at which that key stands.
+  abbrev pub IsScanned : List ℕ → Option Scanned → List ℕ → Type 0
+  IsScanned key found after = IsNeighbour key after (value_in found) × StandsAt world after found
+
+  -- A writer has the bytes of a key before the turn.
+  pub record IsBegun (turn : Turn) {W : Type 0} (has : W → List ℕ → Type 0) (writer : W) (key : List ℕ) : Type 0 where
+    pub at : IsTurnOf key turn
+    pub given : has writer (take turn.depth key)

@@ -10,7 +10,7 @@ use Rattle.judy_sl.specs.declared.arena.Place.TheVariants.{Root, Below}
 use Rattle.judy_sl.specs.declared.shrink.Cut.{Cut}
 use Rattle.judy_sl.specs.Pieces.{pieces, IsInner, IsFinal, IsText, ArePieces}
 use Rattle.judy_sl.specs.World.{World, Node, gone, tail, level, lookup}
-use Rattle.judy_sl.specs.Worlds.{IsLed, AllLed}
+use Rattle.judy_sl.specs.WorldInvariants.{IsLed, AllLed}
 use Rattle.judy_sl.specs.Arenas.{world_of, node_of, child_at, IsArena}
 use Rattle.judy_sl.specs.Places.{with_child}
 use Rattle.judy_sl.specs.Ways.{LeadsTo, seat_of, piece_at, left_of}
@@ -70,7 +70,8 @@ IsWide seat map = (seat ≡ 0) ⊎ (2 ≤ len map)
 -- this key alone where a condition holds.
 abbrev pub IsCutChild : World → List ℕ → FinMap word_order ℕ → ℕ → List ℕ → Option ℕ → ℕ → Type 0 → Type 0
 IsCutChild world key map piece rest None left holds = (rest ≡ []) × IsFinal piece × ((value : ℕ) × (get map piece ≡ Some value))
-IsCutChild world key map piece rest (Some at) left holds = (get map piece ≡ Some at) × IsInner piece × IsText (left_of key left) × (rest ≡ pieces (left_of key left)) × (left ≤ length key) × (holds → IsLone world at rest)
+IsCutChild world key map piece rest (Some at) left holds = (get map piece ≡ Some at) × IsInner piece × IsText (left_of key left) × (rest ≡ pieces (left_of key left)) ×
+    (left ≤ length key) × (holds → IsLone world at rest)
 
 -- The key is cut off where its way leaves that of every other key, where a condition holds.
 pub record IsCutWhere (holds : Type 0) (world : World) (key : List ℕ) (cut : Cut) : Type 0 where
@@ -99,7 +100,8 @@ IsUnled world at = (seat : ℕ) (map : FinMap word_order ℕ) (piece : ℕ) → 
 
 -- To each child the entries of one level lead.
 abbrev pub IsLedOnce : World → Type 0
-IsLedOnce world = (seat other : ℕ) (map more : FinMap word_order ℕ) (piece next at : ℕ) → world seat ≡ level map → get map piece ≡ Some at → IsInner piece → world other ≡ level more → get more next ≡ Some at → IsInner next → seat ≡ other
+IsLedOnce world = (seat other : ℕ) (map more : FinMap word_order ℕ) (piece next at : ℕ) → world seat ≡ level map → get map piece ≡ Some at → IsInner piece →
+    world other ≡ level more → get more next ≡ Some at → IsInner next → seat ≡ other
 
 -- To one child alone no entry leads; there stands one key, with these pieces.
 pub record IsOrphan (world : World) (at : ℕ) (ps : List ℕ) : Type 0 where

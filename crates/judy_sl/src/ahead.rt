@@ -128,14 +128,15 @@ fn next_of(entries: &mut Option<Entries<'_>>) -> Option<(u64, u64)>
     }
 }
 
-// The entries of a level that are still to come, by ascending piece, and those of the level above it where they are kept: to its callers the two
-// lists. A walk that comes back from a level so goes on with what was read ahead above it.
+// The entries of a level that are still to come, by ascending piece, and those of the level above it where they are
+// kept: to its callers the two lists. A walk that comes back from a level so goes on with what was read ahead above it.
 #[derive(Drop)]
 pub struct Ahead<'a> {
     batch: Batch,
     batch_above: Batch,
-    // What is behind the batches: of the level itself the first and of the level above the second, or the other way round where they are turned. They
-    // are made where a walk first wants them, and then in their place, since a move of them takes longer than most steps.
+    // What is behind the batches: of the level itself the first and of the level above the second, or the other way
+    // round where they are turned. They are made where a walk first wants them, and then in their place, since a move
+    // of them takes longer than most steps.
     first: Option<Entries<'a>>,
     second: Option<Entries<'a>>,
     turned: bool,

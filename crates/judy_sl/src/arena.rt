@@ -22,8 +22,8 @@ use judy_tails::Tails;
 use judy_word::WordMap;
 use std::alloc::{AllocError, Global};
 
-// The value of a piece that isn't final is the place of its child. The lowest byte of a place tells whether a level stands
-// there or a tail, and the others where in its list.
+// The value of a piece that isn't final is the place of its child. The lowest byte of a place tells whether a level
+// stands there or a tail, and the others where in its list.
 #[derive(Drop)]
 pub struct Arena {
     pub root: WordMap,
@@ -105,7 +105,8 @@ impl Arena {
     }
 
     // The way of the key. Bytes that are no key have some way too, but never to a value: a whole piece with its lowest
-    // byte zero is found by its test, and others with a zero stand in no level and in no tail. The levels that it passes are told of.
+    // byte zero is found by its test, and others with a zero stand in no level and in no tail. The levels that it
+    // passes are told of.
     pub fn walk<N: Notes>(&self, key: &[u8], notes: &mut N) -> Way
         requires is_arena { IsArena self.now }
         requires ends { EndsWell key.now }

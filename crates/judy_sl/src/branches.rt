@@ -57,8 +57,8 @@ fn sprout<'a>(
     }))
 }
 
-// The branch of a tail, by its bytes and its value, and the rest of another key. When memory is there no contract says; rows try that it
-// succeeds.
+// The branch of a tail, by its bytes and its value, and the rest of another key. When memory is there no contract says;
+// rows try that it succeeds.
 pub fn branch_of<'a>(
     alloc: Global,
     tail: &'a [u8],

@@ -8,7 +8,8 @@ use judy_tails::Tail;
 use judy_word::WordMap;
 use std::alloc::AllocError;
 
-// What stands at a place, as it is read: a tail, which is the rest of one key with the key's value; or the entries of a level.
+// What stands at a place, as it is read: a tail, which is the rest of one key with the key's value; or the entries of a
+// level.
 #[derive(Drop)]
 pub enum ChildRef<'a> {
     Tail(Tail<'a>),

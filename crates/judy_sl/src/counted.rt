@@ -1,10 +1,10 @@
-//! How levels come to tell how many keys stand behind them: the way of an insert or a delete notes the places of those that it passes. Once
-//! a key is in, it is counted there, and before one goes, it is counted no more.
+//! How levels come to tell how many keys stand behind them: the way of an insert or a delete notes the places of those
+//! that it passes. Once a key is in, it is counted there, and before one goes, it is counted no more.
 
 ghost use Rattle.std.specs.Prelude.{◌≡◌, ◌<◌, IfOk, OnErr};
 ghost use Rattle.std.specs.FinMap as map;
 ghost use Rattle.judy_model.specs.Keys.{IsStringKey};
-ghost use Rattle.judy_sl.specs.Worlds.{AllLed};
+ghost use Rattle.judy_sl.specs.WorldInvariants.{AllLed};
 ghost use Rattle.judy_sl.specs.Arenas.{world_of, child_at, map_of, IsArena};
 ghost use Rattle.judy_sl.specs.Children.{IsLevelChild};
 ghost use Rattle.judy_sl.specs.Places.{with_child};

@@ -16,19 +16,20 @@ ghost use Rattle.judy_sl.specs.Scans.{is_beyond};
 
 use crate::arena::Arena;
 use crate::child::{ChildRef, is_level};
+use crate::judysl::JudySl;
 use crate::pieces::first_piece;
-use crate::strings::JudySl;
 use judy_sums::Sums;
 use judy_word::{Entries, WordMap};
 use std::cmp::Ordering;
 
 impl JudySl {
     /// How many keys there are from `from` to `to`, both included; 0 where `from` is above `to` (this project's own).
-    /// Each of the two is a string that may be a key, and needn't be one of the array's. It asks for no memory. It takes
-    /// one way down the array as long as both begin with the same bytes, eight at a time, and then two. In the level where they part, if that
-    /// isn't the first, it reads the entries between the two, or all others where these are fewer; in each level below, the entries on one
-    /// side of the key's own, on the side that has fewer. It reads none where one key stands behind each of a level's entries. (This
-    /// project's own; the manual has counts of words alone.)
+    /// Each of the two is a string that may be a key, and needn't be one of the array's. It asks for no memory. It
+    /// takes one way down the array as long as both begin with the same bytes, eight at a time, and then two. In the
+    /// level where they part, if that isn't the first, it reads the entries between the two, or all others where these
+    /// are fewer; in each level below, the entries on one side of the key's own, on the side that has fewer. It reads
+    /// none where one key stands behind each of a level's entries. (This project's own; the manual has counts of words
+    /// alone.)
     ///
     /// Of the keys `a`, `ab` and `c`, `count(b"a", b"b")` is 2.
     pub fn count(&self, from: &[u8], to: &[u8]) -> u64
@@ -40,10 +41,12 @@ impl JudySl {
     }
 }
 
-// How many entries of a level are read at a time: what stands behind them is looked up at once then, not each after the step to it.
+// How many entries of a level are read at a time: what stands behind them is looked up at once then, not each after the
+// step to it.
 const PAGE: usize = 64;
 
-// Whether what compares so to a key counts: what is less does, and where the key itself counts, so does what is the same.
+// Whether what compares so to a key counts: what is less does, and where the key itself counts, so does what is the
+// same.
 fn comes(itself: bool, order: Ordering) -> bool
     ensures { result ≡ is_beyond itself order }
 {
@@ -70,8 +73,8 @@ impl Arena {
         self.levels.keys((at / 256) as usize)
     }
 
-    // How many keys stand behind an entry of a level: one where its piece is final or it leads to a tail, for which nothing is read, and else
-    // as many as its level tells.
+    // How many keys stand behind an entry of a level: one where its piece is final or it leads to a tail, for which
+    // nothing is read, and else as many as its level tells.
     pub fn keys_at(&self, piece: u64, value: u64) -> u64
         requires is_arena { IsArena self.now }
         requires counted { AreCounted self.now }
@@ -154,9 +157,9 @@ impl Arena {
         self.read_keys(level.array().iter_from(piece), count)
     }
 
-    // How many keys stand behind the entries of a level from one piece up to another. The level tells how many stand behind it: where they are
-    // as many as its entries, each entry has one, and none is read. Else those between are read, or, where they are fewer, the others, which
-    // are taken from all.
+    // How many keys stand behind the entries of a level from one piece up to another. The level tells how many stand
+    // behind it: where they are as many as its entries, each entry has one, and none is read. Else those between are
+    // read, or, where they are fewer, the others, which are taken from all.
     fn keys_between(&self, level: &WordMap, keys: u32, low: u64, high: u64) -> u64
         requires is_arena { IsArena self.now }
         requires counted { AreCounted self.now }
@@ -182,8 +185,8 @@ impl Arena {
         }
     }
 
-    // How many keys stand behind the entries of a level before a piece, of which the level may have an entry itself: none, where that is the
-    // only one.
+    // How many keys stand behind the entries of a level before a piece, of which the level may have an entry itself:
+    // none, where that is the only one.
     fn keys_before(&self, level: &WordMap, keys: u32, piece: u64, found: Option<u64>) -> u64
         requires is_arena { IsArena self.now }
         requires counted { AreCounted self.now }
@@ -231,8 +234,8 @@ impl Arena {
         }
     }
 
-    // How many keys behind the entry of a key's first piece are less than the key, or, where that itself counts, not above it; none where
-    // there is no such entry.
+    // How many keys behind the entry of a key's first piece are less than the key, or, where that itself counts, not
+    // above it; none where there is no such entry.
     fn rank_own(&self, itself: bool, entry: Option<u64>, key: &[u8]) -> u64
         requires is_arena { IsArena self.now }
         requires counted { AreCounted self.now }
@@ -250,8 +253,8 @@ impl Arena {
         self.rank_behind(itself, at, &key[8..])
     }
 
-    // How many keys are less than a key, or, where that itself counts, not above it: those whose first pieces are less, by the list of
-    // these, and those behind its own first piece.
+    // How many keys are less than a key, or, where that itself counts, not above it: those whose first pieces are less,
+    // by the list of these, and those behind its own first piece.
     fn rank(&self, firsts: &Sums, itself: bool, key: &[u8]) -> u64
         requires is_arena { IsArena self.now }
         requires counted { AreCounted self.now }
@@ -265,7 +268,8 @@ impl Arena {
         lesser + self.rank_own(itself, self.root.get(piece), key)
     }
 
-    // How many keys there are from one to another behind a level, by what is left of both; so many keys stand behind it.
+    // How many keys there are from one to another behind a level, by what is left of both; so many keys stand behind
+    // it.
     fn count_in(&self, level: &WordMap, keys: u32, from: &[u8], to: &[u8]) -> u64
         requires is_arena { IsArena self.now }
         requires counted { AreCounted self.now }

@@ -7,15 +7,17 @@ ghost use Rattle.judy_model.specs.Neighbours as neighbours;
 ghost use Rattle.judy_sl.specs.Scans.{value_found};
 
 use crate::arena::Arena;
+use crate::judysl::JudySl;
 use crate::runs::{LastRun, Levels};
-use crate::strings::JudySl;
 use judy_tails::KeyRoom;
 use std::marker::Model;
 
-/// A walk up through the keys of an array: to its callers it is the array's map, and the bytes at which it stands. A step to
-/// the next key begins in the level in which the last one ended, and goes up to the lowest level that has a further entry. Where none
-/// of that level's entries is read yet, it may read the next sixteen for the steps to come, and the values of their tails.
-/// Only `first`, and a step before which no key was found, begin at the first level. It asks for no memory. (This project's own.)
+/// A walk up through the keys of an array: to its callers it is the array's map, and the bytes at which it stands. A
+/// step to the next key begins in the level in which the last one ended, and goes up to the lowest level that has a
+/// further entry. Where none of that level's entries is read yet, it may read the next sixteen for the steps to come,
+/// and the values of their tails.
+/// Only `first`, and a step before which no key was found, begin at the first level. It asks for no memory. (This
+/// project's own.)
 #[derive(Drop)]
 pub struct KeyCursor<'a> {
     arena: &'a Arena,
@@ -34,10 +36,12 @@ impl<'a> Model for KeyCursor<'a> {
     ghost use Rattle.judy_sl.specs.Arenas.{map_of};
     ghost use Rattle.judy_sl.specs.Cursors.{IsCursor};
     ghost use Rattle.judy_sl.specs.Runs.{last_run};
+    ghost use Rattle.judy_tails.specs.Rooms.{bytes_in, IsWhole};
 
-    ghost view = { λ a. record { map = map_of a.arena.now; key = a.key } };
+    ghost view = { λ a. record { map = map_of a.arena.now; key = bytes_in a.key } };
 
-    ghost invariant = { λ a. IsCursor a.arena.now a.key a.above.items (last_run a.last) };
+    ghost invariant = { λ a. IsWhole a.key
+        × IsCursor a.arena.now (bytes_in a.key) a.above.items (last_run a.last) };
 }
 
 impl<'a> KeyCursor<'a> {
@@ -49,7 +53,8 @@ impl<'a> KeyCursor<'a> {
         self.key.as_slice()
     }
 
-    /// Goes to the least key from the bytes at which it stands on, these themselves where they are a key, and answers its value.
+    /// Goes to the least key from the bytes at which it stands on, these themselves where they are a key, and answers
+    /// its value.
     /// `None` where no key is left, and it stays. It is [`JudySl::first`].
     pub fn first(&mut self) -> Option<u64>
         ensures map { self.new.map ≡ self.old.map }
@@ -62,8 +67,8 @@ impl<'a> KeyCursor<'a> {
             .seek(true, &mut self.above, &mut self.last, &mut self.key)
     }
 
-    /// Goes to the least key above the bytes at which it stands, and answers its value. `None` where no key is above them, and
-    /// it stays. It is [`JudySl::next`].
+    /// Goes to the least key above the bytes at which it stands, and answers its value. `None` where no key is above
+    /// them, and it stays. It is [`JudySl::next`].
     pub fn next(&mut self) -> Option<u64>
         ensures map { self.new.map ≡ self.old.map }
         ensures key { self.new.key
@@ -77,8 +82,8 @@ impl<'a> KeyCursor<'a> {
 }
 
 impl JudySl {
-    /// A walk up through the keys, which stands at the bytes `from`, that may be a key of the array and needn't: its `first` is
-    /// the least key from them on, and its `next` the least above them. (This project's own.)
+    /// A walk up through the keys, which stands at the bytes `from`, that may be a key of the array and needn't: its
+    /// `first` is the least key from them on, and its `next` the least above them. (This project's own.)
     pub fn cursor(&self, from: &[u8]) -> KeyCursor<'_>
         requires { IsStringKey from.now }
         ensures map { result.map ≡ self.now.map }

@@ -1,7 +1,7 @@
 use std::alloc::AllocError;
 use thiserror::Error;
 
-/// Why an insert added no key. The array is then as it was before the call, its levels included.
+/// Why an insert added no key. The array is then as it was before the call, as contracts see it.
 #[derive(Clone, Copy, Debug, PartialEq, Eq, Error)]
 pub enum SlError {
     /// The bytes are no key: more than 1,024, or one of them is zero (limit: this project's own).

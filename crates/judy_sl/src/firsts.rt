@@ -1,12 +1,12 @@
-//! How many keys begin with each first piece, kept in a list of sums: of each piece that number less one. So a word of the first
-//! level that one key alone begins with has no place in the list.
+//! How many keys begin with each first piece, kept in a list of sums: of each piece that number less one. So a word of
+//! the first level that one key alone begins with has no place in the list.
 
 ghost use Rattle.std.specs.Prelude.{◌≡◌, ◌<◌, is_some, IfOk, OnErr};
 ghost use Rattle.std.specs.FinMap as map;
 ghost use Rattle.judy_model.specs.Keys.{IsStringKey};
 ghost use Rattle.judy_sl.specs.Pieces.{pieces};
 ghost use Rattle.judy_sl.specs.World.{lookup};
-ghost use Rattle.judy_sl.specs.Worlds.{AllLed};
+ghost use Rattle.judy_sl.specs.WorldInvariants.{AllLed};
 ghost use Rattle.judy_sl.specs.Arenas.{world_of, map_of, IsArena};
 ghost use Rattle.judy_sl.specs.Ways.{levels_passed, IsWay, IsNew};
 ghost use Rattle.judy_sl.specs.Grown.{IsAdded, IsSame};
@@ -19,11 +19,11 @@ use crate::pieces::first_piece;
 use judy_sums::Sums;
 use std::alloc::AllocError;
 
-// Adds a key that isn't there, with the value 0, and counts it. What may be refused in the list comes first; where the key itself is
-// refused, the list is as it was. The places are those of the levels that the way passes. Both lengths of lists that an insert may want call it, so
-// it is told to be inlined: else the way goes through memory.
+// Adds a key that isn't there, with the value 0, and counts it. What may be refused in the list comes first; where the
+// key itself is refused, the list is as it was. The places are those of the levels that the way passes. Both lengths of
+// lists that an insert may want call it, so it is told to be inlined: else the way goes through memory.
 #[inline(always)]
-pub fn add(
+pub fn insert_counted(
     arena: &mut Arena,
     firsts: &mut Sums,
     key: &[u8],

@@ -1,6 +1,7 @@
-//! How an arena takes a new key. What is new is built beside the array, and room for its levels is reserved; a tail is put in its place, to
-//! which nothing leads yet; then comes at most one insert into a level of the array, the last step that can be refused, and where it is, the tail
-//! is taken out again. Only where a key is tried as a new one does that insert come first.
+//! How an arena takes a new key. What is new is built beside the array, and room for its levels is reserved; a tail is
+//! put in its place, to which nothing leads yet; then comes at most one insert into a level of the array, the last step
+//! that can be refused, and where it is, the tail is taken out again. Only where a key is tried as a new one does that
+//! insert come first.
 
 ghost use Rattle.std.specs.Prelude.{ℕ, List, [], ◌≡◌, ◌+◌, ◌<◌, ◌≤◌, None, IfOk, IsOk, OnOk, IfErr, OnErr, IfSome, IsSome, IsTrue, length};
 ghost use Rattle.std.specs.FinMap as map;
@@ -14,7 +15,7 @@ ghost use Rattle.judy_sl.specs.Arenas.{world_of, child_at, map_of, IsArena, HasR
 ghost use Rattle.judy_sl.specs.Places.{place_value, place_with};
 ghost use Rattle.judy_sl.specs.Branches.{AreSingle};
 ghost use Rattle.judy_sl.specs.Ways.{levels_passed, IsGap, IsClash, IsWay, IsNew};
-ghost use Rattle.judy_sl.specs.Worlds.{AllLed};
+ghost use Rattle.judy_sl.specs.WorldInvariants.{AllLed};
 ghost use Rattle.judy_sl.specs.Counted.{AreCounted, AreCountedBut};
 ghost use Rattle.judy_sl.specs.Firsts.{beginning};
 ghost use Rattle.judy_sl.specs.Grown.{IsPut, IfShown, IsHung, AreHung, HasTwig, IsTwigText, IsSound, IsGraft, IsGrafted, IsAdded, IsSame};
@@ -24,6 +25,7 @@ use crate::branches::{Branch, Twig, branch_of};
 use crate::child::{ChildRef, LEVEL};
 use crate::keys::{KeyBuf, is_key};
 use crate::pieces::first_piece;
+use judy_tails::KeyEnd;
 use judy_word::WordMap;
 use std::alloc::AllocError;
 
@@ -56,8 +58,8 @@ impl Arena {
         Ok(())
     }
 
-    // Puts a level in, for which there is room, and answers its place. It tells two keys: that of the tail in whose place it comes, and the
-    // one that comes in.
+    // Puts a level in, for which there is room, and answers its place. It tells two keys: that of the tail in whose
+    // place it comes, and the one that comes in.
     fn put_level(&mut self, words: WordMap) -> u64
         requires room { HasRoom self.old 1 }
         ensures put { IsPut self.old self.new (LevelChild 2 words) result }
@@ -67,7 +69,8 @@ impl Arena {
         index as u64 * 256 + LEVEL
     }
 
-    // Puts a tail in at the next place for its length, and answers that place. Where one of that length is free, no memory is asked for.
+    // Puts a tail in at the next place for its length, and answers that place. Where one of that length is free, no
+    // memory is asked for.
     pub fn put_tail(&mut self, rest: &[u8], value: u64) -> Result<u64, AllocError>
         requires text { IsText rest.now }
         requires short { length rest.now ≤ LONGEST_KEY }
@@ -80,7 +83,8 @@ impl Arena {
         self.tails.put(rest, value)
     }
 
-    // The same at the place that the caller has asked for: so an insert of a key that is tried looks for the list of its length once.
+    // The same at the place that the caller has asked for: so an insert of a key that is tried looks for the list of
+    // its length once.
     #[inline(always)]
     fn put_tail_next(&mut self, at: u64, rest: &[u8], value: u64) -> Result<u64, AllocError>
         requires text { IsText rest.now }
@@ -93,7 +97,8 @@ impl Arena {
         self.tails.put_next(at, rest, value)
     }
 
-    // Tries a key of fewer than eight bytes as an absent one, and puts it in with the value 0 if so, by one way down the first level. Answers as `try_add`.
+    // Tries a key of fewer than eight bytes as an absent one, and puts it in with the value 0 if so, by one way down
+    // the first level. Answers as `try_add`.
     fn try_short(&mut self, key: &[u8]) -> Result<Option<Place>, AllocError>
         requires is_arena { IsArena self.old }
         requires counted { AreCounted self.old }
@@ -121,10 +126,12 @@ impl Arena {
         }
     }
 
-    // Tries a key as one whose first piece leads nowhere, and puts it in with the value 0 if so: one way down the first level shows that and
-    // puts the piece in. Only then is more memory asked for, so that none is for a key that is there; where it is refused, the piece goes
-    // again. Answers where the key stands, and `None` where it isn't to be tried or its piece leads somewhere: then it is to be looked up.
-    // Both lengths of lists that an insert may want call it, so it is told to be inlined: it is the whole of most inserts of new keys.
+    // Tries a key as one whose first piece leads nowhere, and puts it in with the value 0 if so: one way down the first
+    // level shows that and puts the piece in. Only then is more memory asked for, so that none is for a key that is
+    // there; where it is refused, the piece goes again. Answers where the key stands, and `None` where it isn't to be
+    // tried or its piece leads somewhere: then it is to be looked up.
+    // Both lengths of lists that an insert may want call it, so it is told to be inlined: it is the whole of most
+    // inserts of new keys.
     #[inline(always)]
     pub fn try_add(&mut self, key: &[u8], tries: bool) -> Result<Option<Place>, AllocError>
         requires is_arena { IsArena self.old }
@@ -191,7 +198,8 @@ impl Arena {
         }
     }
 
-    // Puts the tail in to which an entry of a level that stands beside the array is to lead, where one is to be, and answers its place.
+    // Puts the tail in to which an entry of a level that stands beside the array is to lead, where one is to be, and
+    // answers its place.
     fn hang(&mut self, level: &mut WordMap, twig: Option<Twig>) -> Result<Option<u64>, AllocError>
         requires there { HasTwig level.old twig }
         requires text { IsTwigText twig }
@@ -235,7 +243,8 @@ impl Arena {
         *self.lend(from) = to;
     }
 
-    // Puts the levels of a branch in whose tails are hung up, leads the entry at a place to the top one, and gives back the tail to which it led.
+    // Puts the levels of a branch in whose tails are hung up, leads the entry at a place to the top one, and gives back
+    // the tail to which it led.
     // None of this asks for memory. Answers where the top one stands.
     fn graft(&mut self, from: Place, at: u64, branch: Branch) -> u64
         requires room { HasRoom self.old (length branch.upper.items + 1) }
@@ -268,7 +277,8 @@ impl Arena {
     {
         match self.child(at) {
             ChildRef::Tail(tail) => {
-                tail.push_to(key);
+                let mut end = KeyEnd::new(key);
+                tail.push_to(&mut end);
                 tail.value()
             }
             ChildRef::Level(_) => unreachable!(),

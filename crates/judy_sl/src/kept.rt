@@ -8,7 +8,7 @@ ghost use Rattle.judy_sl.specs.Arenas.{world_of};
 ghost use Rattle.judy_sl.specs.Words.{HasWords};
 
 use crate::arena::Arena;
-use crate::strings::JudySl;
+use crate::judysl::JudySl;
 
 impl Arena {
     // The values of all seats are words.

@@ -7,8 +7,8 @@ ghost use Rattle.judy_sl.specs.Levels.{IsLevelOf, HasBranch};
 
 use crate::arena::Arena;
 use crate::child::ChildRef;
+use crate::judysl::JudySl;
 use crate::pieces::first_piece;
-use crate::strings::JudySl;
 use judy_word::{JudyL, WordMap};
 
 impl Arena {
@@ -36,9 +36,10 @@ impl Arena {
 
 impl JudySl {
     /// The level behind the bytes `at`, a key of a multiple of eight bytes: its keys are the next pieces of the keys
-    /// that begin with `at`, and under the piece in which a key ends stands that key's value; under another piece stands
-    /// what only the array itself can follow. `None` where no level stands there, as where no key, or only one, begins
-    /// with `at`; the empty `at` has a level always, and so has one with which two keys begin. (This project's own.)
+    /// that begin with `at`, and under the piece in which a key ends stands that key's value; under another piece
+    /// stands what only the array itself can follow. `None` where no level stands there, as where no key, or only one,
+    /// begins with `at`; the empty `at` has a level always, and so has one with which two keys begin. (This project's
+    /// own.)
     pub fn level(&self, at: &[u8]) -> Option<&JudyL>
         requires is_key { IsStringKey at.now }
         requires whole { length at.now % 8 ≡ 0 }

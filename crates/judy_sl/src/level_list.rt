@@ -1,5 +1,6 @@
-//! The levels of an array but the first, in two lists side by side: the entries of each, and how many keys stand behind it. So a way down
-//! reads the first list alone, and a count, which asks many levels for their numbers, finds these close together.
+//! The levels of an array but the first, in two lists side by side: the entries of each, and how many keys stand behind
+//! it. So a way down reads the first list alone, and a count, which asks many levels for their numbers, finds these
+//! close together.
 
 ghost use Rattle.std.specs.Prelude.{◌≡◌, ◌+◌, ◌<◌, ◌≤◌, ℕ, [], Some, None, IsOk, OnOk, slice_index_or, vec_len};
 ghost use Rattle.std.specs.Borrow.{sem};
@@ -13,8 +14,8 @@ use slab::Slab;
 use std::alloc::{AllocError, Global};
 use std::marker::Model;
 
-// Levels, each under an index that stays its own until it is removed. To contracts it is a slab of both lists' parts. The list of numbers has a
-// place for each level, and, where there is room for more, for each of these.
+// Levels, each under an index that stays its own until it is removed. To contracts it is a slab of both lists' parts.
+// The list of numbers has a place for each level, and, where there is room for more, for each of these.
 #[derive(Drop)]
 pub struct LevelList {
     words: Slab<WordMap>,
@@ -83,7 +84,8 @@ impl LevelList {
         self.numbers[index] = keys;
     }
 
-    // How many levels both lists have places for: no more than there are, where the numbers lack some, as where memory for these was refused.
+    // How many levels both lists have places for: no more than there are, where the numbers lack some, as where memory
+    // for these was refused.
     pub fn capacity(&self) -> usize
         ensures value { result ≡ self.now.capacity }
         ensures holds_all { slab.slab_len self.now ≤ result }
@@ -96,8 +98,8 @@ impl LevelList {
         }
     }
 
-    // Makes room for so many more levels. Those for which places are free need none. For the others the lists grow by an eighth, and not to
-    // their double. The error is want of memory.
+    // Makes room for so many more levels. Those for which places are free need none. For the others the lists grow by
+    // an eighth, and not to their double. The error is want of memory.
     pub fn reserve(&mut self, more: usize) -> Result<(), AllocError>
         ensures same { self.new ≡ record self.old { capacity = self.new.capacity } }
         ensures room { OnOk result (slab.HasRoomFor self.new more) }

@@ -5,12 +5,18 @@
 //! map, and its contracts cite judy_model's definitions. A call whose comment names none of the manual is this
 //! project's own. It stands on the word arrays of judy_word.
 //!
-//! Inside, a key is cut into pieces of eight bytes (specs/Pieces.antt), and a tree of `JudyL`s finds them piece by
-//! piece (specs/World.antt); `Arena` keeps the levels of an array in one list and its tails in records (specs/Arenas.antt).
-//! arena.rt has the way of a key, grow.rt and branches.rt how a key comes in, shrink.rt how one goes, and scans.rt the
-//! neighbours; cursor.rt and runs.rt have walks that go from key to key by what a level and the one above it
-//! still have, some of which is read ahead (ahead.rt). sorted.rt and planting.rt have arrays
-//! made at once of strings that ascend.
+//! Inside, a key (keys.rt, zeros.rt) is cut into pieces of eight bytes (pieces.rt, specs/Pieces.antt), and a tree of
+//! `JudyL`s finds them piece by piece (specs/World.antt); `Arena` keeps the levels of an array in one list and its
+//! tails in records (specs/Arenas.antt).
+//!
+//! judysl.rt has the array, and error.rt why an insert is refused. arena.rt has the way of a key, child.rt what stands
+//! behind a piece of it, level_list.rt the levels below the first, level.rt a level as seen from outside, grow.rt and
+//! branches.rt how a key comes in, shrink.rt how one goes, scans.rt the neighbours, and nearest_slots.rt the nearest
+//! key with its slot; cursor.rt and runs.rt have walks that go from key to key by what a level and the one above it
+//! still have, some of which is read ahead (ahead.rt). counted.rt has how levels come to tell how many keys stand
+//! behind them, by those that a way passes (passed.rt), counts.rt what is counted by that, firsts.rt how many keys
+//! begin with each first piece, and nth.rt which key stands at a place. sorted.rt and planting.rt have arrays made at
+//! once of strings that ascend, kept.rt what every array keeps, and laws.rt laws of pieces.
 #![tactic(auto)]
 
 mod ahead;
@@ -23,6 +29,7 @@ mod cursor;
 mod error;
 mod firsts;
 mod grow;
+mod judysl;
 mod kept;
 mod keys;
 pub mod laws;
@@ -37,13 +44,12 @@ mod runs;
 mod scans;
 mod shrink;
 mod sorted;
-mod strings;
 mod zeros;
 
 pub use cursor::KeyCursor;
 pub use error::SlError;
+pub use judysl::JudySl;
 pub use keys::{KeyBuf, is_key};
 pub use scans::{Look, Side};
 pub use sorted::{SlSortedError, check_sorted};
-pub use strings::JudySl;
 pub use zeros::are_nonzero;

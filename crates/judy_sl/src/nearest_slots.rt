@@ -7,14 +7,15 @@ ghost use Rattle.judy_model.specs.declared.keys.TheConstants.{LONGEST_KEY};
 ghost use Rattle.judy_sl.specs.Lends.{LendsSlot};
 ghost use Rattle.judy_sl.specs.Scans.{neighbour_along, value_found, nearest_key, IsFront};
 
+use crate::judysl::JudySl;
 use crate::scans::Look;
-use crate::strings::JudySl;
 
 impl JudySl {
-    /// The slot of the neighbour of the key at the front of a buffer, which has `len` bytes; the neighbour then stands there, and `len`
-    /// is its length. `None` where there is none, and both stay. What the caller leaves in the slot is then the neighbour's value. The
-    /// buffer has at least 1,024 bytes; what it has behind the neighbour stays. The key holds no zero byte, and needn't be one of the
-    /// array. It asks for no memory. (Manual: JSLF, JSLN, JSLL, JSLP, whose answer is this slot.)
+    /// The slot of the neighbour of the key at the front of a buffer, which has `len` bytes; the neighbour then stands
+    /// there, and `len` is its length. `None` where there is none, and both stay. What the caller leaves in the slot is
+    /// then the neighbour's value. The buffer has at least 1,024 bytes; what it has behind the neighbour stays. The key
+    /// holds no zero byte, and needn't be one of the array. It asks for no memory. (Manual: JSLF, JSLN, JSLL, JSLP,
+    /// whose answer is this slot.)
     ///
     /// It costs what [`JudySl::neighbour_in`] does, and the step from the place that it finds to the slot.
     ///

@@ -1,29 +1,32 @@
-//! Which key stands at a place: the first piece is sought among the first level's by how many keys stand before it, and behind it
-//! each level's entries are read from the nearer end up to the place, unless each has one key behind it.
+//! Which key stands at a place: the first piece is sought among the first level's by how many keys stand before it, and
+//! behind it each level's entries are read from the nearer end up to the place, unless each has one key behind it.
 
-ghost use Rattle.std.specs.Prelude.{◌≡◌, ◌<◌, ◌≤◌, ◌+◌, ◌^◌, ℕ, Some, suc, drop, unwrap_or, All};
+ghost use Rattle.std.specs.Prelude.{◌≡◌, ◌<◌, ◌≤◌, ◌+◌, ◌^◌, ℕ, List, Some, suc, drop, unwrap_or, All};
 ghost use Rattle.std.specs.FinMap as map;
 ghost use Rattle.judy_model.specs.Counts as counts;
 ghost use Rattle.judy_sl.specs.Arenas.{world_of, map_of, IsArena};
 ghost use Rattle.judy_sl.specs.Counted.{LeadsOn, keys_behind, keys_behind_all, AreCounted, StandsWith};
 ghost use Rattle.judy_sl.specs.Firsts.{AreFirsts};
 ghost use Rattle.judy_sl.specs.Nth.{before_entry, KeysFit, IsChosen, AreReadFor, IsSpotIn, IsSpotOf, IsNthBehind};
+ghost use Rattle.judy_tails.specs.Writers.{StaysBeyond, WasGiven};
 ghost use Rattle.judy_sl.specs.Scans.{value_found};
 
 use crate::arena::Arena;
 use crate::child::ChildRef;
+use crate::judysl::JudySl;
 use crate::keys::KeyBuf;
 use crate::pieces::push_piece;
-use crate::strings::JudySl;
 use judy_sums::Sums;
+use judy_tails::{KeyEnd, KeyWriter};
 use judy_word::{Entries, WordMap};
 
 impl JudySl {
-    /// The value of the `n`-th key in ascending order, counted from 1; that key is then in the buffer, whatever was there
-    /// before. `None` for 0, and for an `n` above the number of keys (both this project's own), and the buffer stays. It
-    /// asks for no memory. It takes one way down the array: the entry of the first level is sought by halves and in proportion, and in
-    /// each level below the entries up to the key's own are read, from the end that is nearer by the keys between, unless one key stands
-    /// behind each of that level's entries. (This project's own; the manual has counts of words alone.)
+    /// The value of the `n`-th key in ascending order, counted from 1; that key is then in the buffer, whatever was
+    /// there before. `None` for 0, and for an `n` above the number of keys (both this project's own), and the buffer
+    /// stays. It asks for no memory. It takes one way down the array: the entry of the first level is sought by halves
+    /// and in proportion, and in each level below the entries up to the key's own are read, from the end that is nearer
+    /// by the keys between, unless one key stands behind each of that level's entries. (This project's own; the manual
+    /// has counts of words alone.)
     ///
     /// Of the keys `a`, `ab` and `c`, `by_count(2, &mut key)` puts `ab` into `key`.
     pub fn by_count(&self, n: u64, key: &mut KeyBuf) -> Option<u64>
@@ -49,7 +52,7 @@ struct Mark {
 
 // An entry of a level, and a place among the keys behind it.
 #[derive(Clone, Copy)]
-struct Spot {
+struct EntryPlace {
     piece: u64,
     value: u64,
     place: u64,
@@ -78,7 +81,8 @@ fn between(low: Mark, high: Mark, most: u64, turn: u64) -> u64
     }
 }
 
-// What stands before the entry at a place of the first level: the entries before it, and what the list holds below its word.
+// What stands before the entry at a place of the first level: the entries before it, and what the list holds below its
+// word.
 fn before_entry(level: &WordMap, firsts: &Sums, place: u64) -> u64
     requires within { place < map.len level.now.map }
     requires fits { before_entry level.now.map firsts.now place ≤ 4294967295 }
@@ -121,7 +125,7 @@ fn chosen(level: &WordMap, firsts: &Sums, most: u64) -> Mark
 }
 
 // The entry at a place of a level, and a place among the keys behind it.
-fn entry_spot(level: &WordMap, entry: u64, place: u64) -> Spot
+fn entry_spot(level: &WordMap, entry: u64, place: u64) -> EntryPlace
     requires within { entry < map.len level.now.map }
     requires fits { entry + 1 < 2 ^ 64 }
     ensures at { counts.by_count level.now.map (entry + 1) ≡ Some result.piece }
@@ -131,7 +135,7 @@ fn entry_spot(level: &WordMap, entry: u64, place: u64) -> Spot
     let Some((piece, value)) = level.array().by_count_entry(entry + 1) else {
         unreachable!()
     };
-    Spot {
+    EntryPlace {
         piece,
         value,
         place,
@@ -151,9 +155,9 @@ fn entries_at(level: &WordMap, place: u64) -> Entries<'_>
 }
 
 impl Arena {
-    // The entry of some entries behind which the key at a place stands, by how many keys stand behind each entry; where none does,
-    // how much of the place is left behind them.
-    fn page_spot(&self, page: &[(u64, u64)], place: u64) -> Result<Spot, u64>
+    // The entry of some entries behind which the key at a place stands, by how many keys stand behind each entry; where
+    // none does, how much of the place is left behind them.
+    fn page_spot(&self, page: &[(u64, u64)], place: u64) -> Result<EntryPlace, u64>
         requires is_arena { IsArena self.now }
         requires counted { AreCounted self.now }
         requires leads { All (LeadsOn (world_of self.now)) page.now }
@@ -163,7 +167,7 @@ impl Arena {
         for &(piece, value) in page {
             let keys = self.keys_at(piece, value);
             if left < keys {
-                return Ok(Spot {
+                return Ok(EntryPlace {
                     piece,
                     value,
                     place: left,
@@ -175,7 +179,7 @@ impl Arena {
     }
 
     // The same of entries that are to come, as they are read page by page.
-    fn read_spot(&self, mut entries: Entries<'_>, place: u64) -> Spot
+    fn read_spot(&self, mut entries: Entries<'_>, place: u64) -> EntryPlace
         requires is_arena { IsArena self.now }
         requires counted { AreCounted self.now }
         requires leads { All (LeadsOn (world_of self.now)) entries }
@@ -193,9 +197,9 @@ impl Arena {
         }
     }
 
-    // The same of a level with so many keys behind it, from its end back: what stands behind a page is taken from what stands before
-    // the page's end.
-    fn read_back(&self, level: &WordMap, keys: u64, place: u64) -> Spot
+    // The same of a level with so many keys behind it, from its end back: what stands behind a page is taken from what
+    // stands before the page's end.
+    fn read_back(&self, level: &WordMap, keys: u64, place: u64) -> EntryPlace
         requires is_arena { IsArena self.now }
         requires counted { AreCounted self.now }
         requires leads { All (LeadsOn (world_of self.now)) (map.entries level.now.map) }
@@ -222,10 +226,11 @@ impl Arena {
         }
     }
 
-    // The entry of a level behind which the key at a place stands. The level tells how many keys stand behind it: where they are as many
-    // as its entries, each entry has one, and the place is the entry's own. Where there is one entry, all stand behind it. Else the entries are
-    // read, from the end where the place is in the upper half of the keys, unless they are one page.
-    fn spot_at(&self, level: &WordMap, keys: u32, place: u64) -> Spot
+    // The entry of a level behind which the key at a place stands. The level tells how many keys stand behind it: where
+    // they are as many as its entries, each entry has one, and the place is the entry's own. Where there is one entry,
+    // all stand behind it. Else the entries are read, from the end where the place is in the upper half of the keys,
+    // unless they are one page.
+    fn spot_at(&self, level: &WordMap, keys: u32, place: u64) -> EntryPlace
         requires is_arena { IsArena self.now }
         requires counted { AreCounted self.now }
         requires told { StandsWith (world_of self.now) level.now.map keys }
@@ -247,14 +252,19 @@ impl Arena {
         }
     }
 
-    // Puts what is left of the key at a place behind a child, counted from 0, behind the bytes of the buffer, and answers its value.
-    fn nth_behind(&self, child: u64, place: u64, key: &mut KeyBuf) -> Option<u64>
+    // Puts what is left of the key at a place behind a child, counted from 0, behind the bytes that a writer has, and
+    // answers its value.
+    fn nth_behind<K: KeyWriter>(&self, child: u64, place: u64, key: &mut K) -> Option<u64>
         requires is_arena { IsArena self.now }
         requires counted { AreCounted self.now }
         requires within { place < keys_behind (world_of self.now) (suc child) }
-        requires fits { KeysFit (world_of self.now) (suc child) key.old.items }
-        ensures { IsNthBehind (world_of self.now)
-            (suc child) place key.old.items key.new.items result }
+        requires begun { (before : List ℕ) × KeysFit (world_of self.now) (suc child) before
+            × K.has key.old before }
+        ensures found { (before : List ℕ)
+            → KeysFit (world_of self.now) (suc child) before → K.has key.old before
+            → WasGiven K.has key.new
+            (λ after. IsNthBehind (world_of self.now) (suc child) place before after result) }
+        ensures beyond { StaysBeyond K.len K.beyond key.old key.new }
     {
         let mut at = child;
         let mut left = place;
@@ -292,10 +302,11 @@ impl Arena {
             unreachable!()
         };
         key.clear();
-        push_piece(key, piece);
+        let mut end = KeyEnd::new(key);
+        push_piece(&mut end, piece);
         if piece % 256 == 0 {
             return Some(value);
         }
-        self.nth_behind(value, place - mark.before, key)
+        self.nth_behind(value, place - mark.before, &mut end)
     }
 }

@@ -1,7 +1,7 @@
 //! Keys piece by piece.
 
-ghost use Rattle.std.specs.Prelude.{◌≡◌, ◌↔◌, ◌+◌, ◌≤◌, ◌++◌, IsFalse, length};
-ghost use Rattle.judy_model.specs.declared.keys.TheConstants.{LONGEST_KEY};
+ghost use Rattle.std.specs.Prelude.{ℕ, List, ◌≡◌, ◌↔◌, ◌+◌, ◌≤◌, ◌++◌, IsFalse, length};
+ghost use Rattle.judy_model.specs.declared.keys.TheConstants.{LONGEST_STRING};
 ghost use Rattle.judy_tails.specs.Writers.{StaysBeyond};
 ghost use Rattle.judy_sl.specs.Pieces.{piece_of, piece_bytes, EndsWell};
 
@@ -23,13 +23,16 @@ pub fn fresh_piece(bytes: &[u8]) -> u64
     fresh_word(bytes)
 }
 
-// Puts the bytes of a piece behind those of the key: the ones that aren't zero. Mostly none is, and then all eight are put there at once.
+// Puts the bytes of a piece behind those of the key: the ones that aren't zero. Mostly none is, and then all eight are
+// put there at once.
 // Within its callers, and what goes byte by byte is not: else each byte is made ready before that is asked.
 #[inline(always)]
 pub fn push_piece<K: KeyWriter>(key: &mut K, piece: u64)
-    requires { length (K.written key.old) + length (piece_bytes piece) ≤ LONGEST_KEY }
-    ensures written { K.written key.new ≡ K.written key.old ++ piece_bytes piece }
-    ensures beyond { StaysBeyond K.written K.beyond key.old key.new }
+    requires { K.len key.old + length (piece_bytes piece) ≤ LONGEST_STRING }
+    ensures len { K.len key.new ≡ K.len key.old + length (piece_bytes piece) }
+    ensures has { (front : List ℕ)
+        → K.has key.old front → K.has key.new (front ++ piece_bytes piece) }
+    ensures beyond { StaysBeyond K.len K.beyond key.old key.new }
 {
     let bytes = piece.to_be_bytes();
     if are_eight(&bytes) {
@@ -42,9 +45,11 @@ pub fn push_piece<K: KeyWriter>(key: &mut K, piece: u64)
 // The same byte by byte.
 #[inline(never)]
 fn push_each<K: KeyWriter>(key: &mut K, piece: u64)
-    requires { length (K.written key.old) + length (piece_bytes piece) ≤ LONGEST_KEY }
-    ensures written { K.written key.new ≡ K.written key.old ++ piece_bytes piece }
-    ensures beyond { StaysBeyond K.written K.beyond key.old key.new }
+    requires { K.len key.old + length (piece_bytes piece) ≤ LONGEST_STRING }
+    ensures len { K.len key.new ≡ K.len key.old + length (piece_bytes piece) }
+    ensures has { (front : List ℕ)
+        → K.has key.old front → K.has key.new (front ++ piece_bytes piece) }
+    ensures beyond { StaysBeyond K.len K.beyond key.old key.new }
 {
     for byte in piece.to_be_bytes() {
         if byte != 0 {

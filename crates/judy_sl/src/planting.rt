@@ -1,5 +1,6 @@
-//! The first keys of an array that is made at once. Of those that begin with the same whole piece the first one comes in here: its tail is put in,
-//! and its entry of the first level goes to a list. When all are in, that level is made of the list at once.
+//! The first keys of an array that is made at once. Of those that begin with the same whole piece the first one comes
+//! in here: its tail is put in, and its entry of the first level goes to a list. When all are in, that level is made of
+//! the list at once.
 
 ghost use Rattle.std.specs.Prelude.{◌≡◌, ◌≤◌, ◌++◌, ◌∷◌, ℕ, [], All, IfOk, OnOk, length};
 ghost use Rattle.std.specs.FinMap as map;
@@ -11,8 +12,8 @@ ghost use Rattle.judy_sl.specs.Planted.{opens, openers, planted, AreBelow, IsPla
 ghost use Rattle.judy_sl.specs.Sorted.{pairs_in, with_pairs};
 
 use crate::arena::{Arena, Place};
+use crate::judysl::JudySl;
 use crate::pieces::first_piece;
-use crate::strings::JudySl;
 use judy_word::WordMap;
 use std::alloc::{AllocError, Global};
 
@@ -68,7 +69,8 @@ fn plant_all(arena: &mut Arena, pairs: &[(&[u8], u64)]) -> Result<Vec<(u64, u64)
 }
 
 impl JudySl {
-    // The array with a limit that has the first of all keys that begin with the same whole piece, of strings that ascend.
+    // The array with a limit that has the first of all keys that begin with the same whole piece, of strings that
+    // ascend.
     pub(crate) fn of_openers(
         alloc: Global,
         limit: u64,

@@ -1,13 +1,15 @@
 //! The entries of a level that are still to come, and the levels above it, by which a walk goes from key to key without
 //! a way down from the first level for each.
 
-ghost use Rattle.std.specs.Prelude.{◌≡◌, IsTrue, IfSome, None, false, drop, All};
+ghost use Rattle.std.specs.Prelude.{◌≡◌, ℕ, List, IsTrue, IfSome, None, false, drop, All};
 ghost use Rattle.std.specs.FinMap.{contains_key, entries};
 ghost use Rattle.judy_model.specs.Counts.{rank};
 ghost use Rattle.judy_sl.specs.Pieces.{IsText};
 ghost use Rattle.judy_sl.specs.Arenas.{world_of, IsArena};
 ghost use Rattle.judy_sl.specs.Counted.{LeadsOn};
-ghost use Rattle.judy_sl.specs.Runs.{AreBeyond, EntryLeads, RunLeads, last_run, IsNextEntry, Stands, HasLevel, IsLevelBehind, IsAbove};
+ghost use Rattle.judy_sl.specs.Runs.{AreBeyond, RunLeads, last_run, IsNextEntry, Stands, HasLevel, IsLevelBehind, IsAbove, IsClimbed, IsBegunAbove};
+ghost use Rattle.judy_tails.specs.Writers.{WasGiven};
+ghost use Rattle.judy_tails.specs.Rooms.{bytes_in, IsWhole};
 
 use crate::ahead::Ahead;
 use crate::arena::Arena;
@@ -22,7 +24,8 @@ use judy_word::WordMap;
 // The levels above one, the first level first: one for each piece that leads there. No place among them is empty.
 pub type Levels<'a> = ArrayVec<Option<&'a WordMap>, MOST_PIECES>;
 
-// A level, and its entries that are still to come, by ascending piece; with those of the level above it where they are kept.
+// A level, and its entries that are still to come, by ascending piece; with those of the level above it where they are
+// kept.
 #[derive(Drop)]
 pub struct Run<'a> {
     pub level: &'a WordMap,
@@ -104,24 +107,24 @@ impl Arena {
         level
     }
 
-    // Writes the first of the keys behind an entry in the key's place, and answers its value. Beyond the entry its level has those
-    // of the run, which is then that of the last level on the way.
-    fn climb<'a>(
+    // Writes the first of the keys behind an entry, where the writer has the bytes before that, and answers its value.
+    // Beyond the entry its level has those of the run, which is then that of the last level on the way.
+    fn climb<'a, K: KeyWriter>(
         &'a self,
         itself: bool,
         entry: (u64, u64),
         above: &mut Levels<'a>,
         run: &mut Run<'a>,
-        key: &mut KeyRoom,
+        key: &mut K,
     ) -> Option<u64>
         requires is_arena { IsArena self.now }
-        requires is_text { IsText key.old }
-        requires leads { EntryLeads itself
-            (world_of self.now) key.old entry above.old.items run.old }
-        ensures neighbour { IsAbove itself (world_of self.now) key.old key.new result }
-        ensures stands { Stands (world_of self.now) key.new above.new.items run.new }
+        requires begun { (from : List ℕ) × IsBegunAbove itself
+            (world_of self.now) entry above.old.items run.old K.has key.old from }
+        ensures { (from : List ℕ) → IsBegunAbove itself
+            (world_of self.now) entry above.old.items run.old K.has key.old from
+            → WasGiven K.has key.new
+            (IsClimbed itself (world_of self.now) from above.new.items run.new result) }
     {
-        key.cut(8 * above.len());
         let (mut piece, mut value) = entry;
         while piece % 256 != 0 {
             push_piece(key, piece);
@@ -144,8 +147,8 @@ impl Arena {
         Some(value)
     }
 
-    // The next entry of the run, or where it has none, of the lowest level above that has one beyond the key's own; the run
-    // is then of that level.
+    // The next entry of the run, or where it has none, of the lowest level above that has one beyond the key's own; the
+    // run is then of that level.
     fn next_entry<'a>(
         &'a self,
         above: &mut Levels<'a>,
@@ -166,7 +169,8 @@ impl Arena {
         }
     }
 
-    // The values of the tails to which some entries lead, taken together. No one wants them: they are read so that their lines of memory come.
+    // The values of the tails to which some entries lead, taken together. No one wants them: they are read so that
+    // their lines of memory come.
     fn touch(&self, page: &[(u64, u64)]) -> u64
         requires is_arena { IsArena self.now }
         requires leads { All (LeadsOn (world_of self.now)) page.now }
@@ -180,8 +184,8 @@ impl Arena {
         seen
     }
 
-    // Reads entries ahead where none is left of those that were read, with the tails to which they lead: these are waited for side by side so, and
-    // not one after another as their keys come.
+    // Reads entries ahead where none is left of those that were read, with the tails to which they lead: these are
+    // waited for side by side so, and not one after another as their keys come.
     fn read_ahead(&self, following: &mut Ahead<'_>)
         requires is_arena { IsArena self.now }
         requires leads { All (LeadsOn (world_of self.now)) following.old.0 }
@@ -203,10 +207,15 @@ impl Arena {
         key: &mut KeyRoom,
     ) -> Option<u64>
         requires is_arena { IsArena self.now }
-        requires is_text { IsText key.old }
-        requires leads { RunLeads (world_of self.now) key.old above.old.items (last_run last.old) }
-        ensures neighbour { IsAbove itself (world_of self.now) key.old key.new result }
-        ensures leads { RunLeads (world_of self.now) key.new above.new.items (last_run last.new) }
+        requires whole { IsWhole key.old }
+        requires is_text { IsText (bytes_in key.old) }
+        requires leads { RunLeads
+            (world_of self.now) (bytes_in key.old) above.old.items (last_run last.old) }
+        ensures whole { IsWhole key.new }
+        ensures neighbour { IsAbove itself
+            (world_of self.now) (bytes_in key.old) (bytes_in key.new) result }
+        ensures leads { RunLeads
+            (world_of self.now) (bytes_in key.new) above.new.items (last_run last.new) }
     {
         let turn = self.turn(Look::upward(itself), key.as_slice())?;
         let level = self.level_behind(key.as_slice(), turn.depth, above);
@@ -214,6 +223,7 @@ impl Arena {
         last.run.level = level;
         last.run.entries.restart_from(level, turn.piece);
         pass_own(level, turn.piece, &mut last.run.entries);
+        key.cut(8 * above.len());
         self.climb(itself, (turn.piece, turn.value), above, &mut last.run, key)
     }
 
@@ -225,15 +235,21 @@ impl Arena {
         key: &mut KeyRoom,
     ) -> Option<u64>
         requires is_arena { IsArena self.now }
-        requires is_text { IsText key.old }
-        requires leads { RunLeads (world_of self.now) key.old above.old.items (last_run last.old) }
-        ensures neighbour { IsAbove false (world_of self.now) key.old key.new result }
-        ensures leads { RunLeads (world_of self.now) key.new above.new.items (last_run last.new) }
+        requires whole { IsWhole key.old }
+        requires is_text { IsText (bytes_in key.old) }
+        requires leads { RunLeads
+            (world_of self.now) (bytes_in key.old) above.old.items (last_run last.old) }
+        ensures whole { IsWhole key.new }
+        ensures neighbour { IsAbove false
+            (world_of self.now) (bytes_in key.old) (bytes_in key.new) result }
+        ensures leads { RunLeads
+            (world_of self.now) (bytes_in key.new) above.new.items (last_run last.new) }
     {
         if !last.known {
             return self.seek(false, above, last, key);
         }
         let entry = self.next_entry(above, &mut last.run, key.as_slice())?;
+        key.cut(8 * above.len());
         let value = self.climb(false, entry, above, &mut last.run, key);
         self.read_ahead(&mut last.run.entries);
         value

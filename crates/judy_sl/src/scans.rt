@@ -1,23 +1,23 @@
 //! The neighbours of a key: one way down its pieces that keeps the nearest entry beside it, and one way down from
 //! that entry to the first key behind it.
 
-ghost use Rattle.std.specs.Prelude.{◌≡◌, ◌≢◌, ◌≤◌, ℕ, true, false, IsTrue, IfSome, All, unwrap_or, length, take};
+ghost use Rattle.std.specs.Prelude.{◌≡◌, ◌≢◌, ◌≤◌, ℕ, List, true, false, IsTrue, IfSome, All, unwrap_or, length, take};
 ghost use Rattle.std.specs.FinMap as map;
 ghost use Rattle.std.specs.FinMap.{contains_key};
 ghost use Rattle.judy_model.specs.Keys.{IsWord};
 ghost use Rattle.judy_model.specs.Neighbours as neighbours;
 ghost use Rattle.judy_model.specs.declared.keys.TheConstants.{LONGEST_KEY};
-ghost use Rattle.judy_tails.specs.Writers.{StaysBeyond};
+ghost use Rattle.judy_tails.specs.Writers.{StaysBeyond, WasGiven};
 ghost use Rattle.judy_sl.specs.Pieces.{IsText};
 ghost use Rattle.judy_sl.specs.Arenas.{world_of, map_of, IsArena};
-ghost use Rattle.judy_sl.specs.Scans.{look_to, upward, is_beyond, along_bytes, IsNearestEntry, IsFirstEntry, piece_in, IsEntryOf, turn_or, neighbour_along, value_found, value_in, StandsAt, IsTurn, IsTurnOf, IsNeighbour, nearest_key, IsFront};
+ghost use Rattle.judy_sl.specs.Scans.{look_to, upward, is_beyond, along_bytes, IsNearestEntry, IsFirstEntry, piece_in, IsEntryOf, turn_or, neighbour_along, value_found, value_in, StandsAt, IsTurn, IsTurnOf, IsBegun, IsScanned, nearest_key, IsFront};
 
 use crate::arena::{Arena, Place, place_in};
 use crate::child::ChildRef;
+use crate::judysl::JudySl;
 use crate::keys::KeyBuf;
 use crate::pieces::{first_piece, fresh_piece, push_piece};
-use crate::strings::JudySl;
-use judy_tails::{KeyFront, KeyWriter, Tail};
+use judy_tails::{KeyEnd, KeyFront, KeyWriter, Tail};
 use judy_word::WordMap;
 use std::cmp::Ordering;
 
@@ -51,7 +51,7 @@ pub struct Turn {
 
 // The value of the key that a scan found, and where it stands.
 #[derive(Clone, Copy)]
-pub struct Found {
+pub struct Scanned {
     pub place: Place,
     pub value: u64,
 }
@@ -171,8 +171,8 @@ impl Look {
 }
 
 impl Arena {
-    // Puts the neighbour of the key into the buffer that holds the key, and answers its value; where there is none the buffer
-    // stays.
+    // Puts the neighbour of the key into the buffer that holds the key, and answers its value; where there is none the
+    // buffer stays.
     fn neighbour(&self, look: Look, key: &mut KeyBuf) -> Option<u64>
         requires is_arena { IsArena self.now }
         requires without_zero { All (λ byte. byte ≢ 0) key.old.items }
@@ -182,15 +182,17 @@ impl Arena {
             (neighbour_along look.side look.itself (map_of self.now) key.old.items) }
     {
         let turn = self.turn(look, key.as_slice())?;
-        match self.follow(look, turn, key) {
+        key.truncate(turn.depth);
+        let mut end = KeyEnd::new(key);
+        match self.follow(look, turn, &mut end) {
             Some(found) => Some(found.value),
             None => None,
         }
     }
 
-    // The same at the front of a buffer that has room for any key, where the key has so many bytes, with the place at which the
-    // neighbour stands; behind it the buffer stays.
-    pub fn nearest_in(&self, look: Look, buffer: &mut [u8], len: &mut usize) -> Option<Found>
+    // The same at the front of a buffer that has room for any key, where the key has so many bytes, with the place at
+    // which the neighbour stands; behind it the buffer stays.
+    pub fn nearest_in(&self, look: Look, buffer: &mut [u8], len: &mut usize) -> Option<Scanned>
         requires is_arena { IsArena self.now }
         requires room { LONGEST_KEY ≤ length buffer.old }
         requires inside { len.old ≤ length buffer.old }
@@ -202,7 +204,7 @@ impl Arena {
         ensures stands { StandsAt (world_of self.now) (take len.new buffer.new) result }
     {
         let turn = self.turn(look, &buffer[..*len])?;
-        let mut key = KeyFront::new(buffer, *len);
+        let mut key = KeyFront::new(buffer, turn.depth);
         let found = self.follow(look, turn, &mut key);
         *len = key.len();
         found
@@ -320,18 +322,18 @@ impl Arena {
         )
     }
 
-    // Writes the first of the keys behind the entry in the key's place, and answers its value and where it stands. There is
-    // one: an entry leads to a tail, or to a level with entries.
-    fn follow<K: KeyWriter>(&self, look: Look, turn: Turn, key: &mut K) -> Option<Found>
+    // Writes the first of the keys behind the entry, where the writer has the bytes before that, and answers its value
+    // and where it stands.
+    // There is one: an entry leads to a tail, or to a level with entries.
+    fn follow<K: KeyWriter>(&self, look: Look, turn: Turn, key: &mut K) -> Option<Scanned>
         requires is_arena { IsArena self.now }
-        requires is_text { IsText (K.written key.old) }
-        requires is_turn { IsTurnOf look (world_of self.now) (K.written key.old) turn }
-        ensures neighbour { IsNeighbour look
-            (world_of self.now) (K.written key.old) (K.written key.new) (value_in result) }
-        ensures stands { StandsAt (world_of self.now) (K.written key.new) result }
-        ensures beyond { StaysBeyond K.written K.beyond key.old key.new }
+        requires begun { (from : List ℕ)
+            × IsBegun look (world_of self.now) turn K.has key.old from }
+        ensures found { (from : List ℕ)
+            → IsBegun look (world_of self.now) turn K.has key.old from
+            → WasGiven K.has key.new (IsScanned look (world_of self.now) from result) }
+        ensures beyond { StaysBeyond K.len K.beyond key.old key.new }
     {
-        key.cut(turn.depth);
         let mut child = turn.child;
         let mut piece = turn.piece;
         let mut value = turn.value;
@@ -346,7 +348,7 @@ impl Arena {
                 }
                 ChildRef::Tail(tail) => {
                     tail.push_to(key);
-                    return Some(Found {
+                    return Some(Scanned {
                         place: Place::Below(value, 0),
                         value: tail.value(),
                     });
@@ -354,7 +356,7 @@ impl Arena {
             }
         }
         push_piece(key, piece);
-        Some(Found {
+        Some(Scanned {
             place: place_in(child, piece),
             value,
         })
@@ -414,13 +416,13 @@ impl JudySl {
         self.arena.neighbour(Look::exclusive(Side::Below), key)
     }
 
-    /// The value of the neighbour of the key at the front of a buffer, which has `len` bytes; the neighbour then stands there, and `len`
-    /// is its length. `None` where there is none, and both stay. The buffer has at least 1,024 bytes; what it has behind the
-    /// neighbour stays. The key holds no zero byte, and needn't be one of the array. It asks for no memory. (This project's own:
-    /// a scan that writes no byte twice.)
+    /// The value of the neighbour of the key at the front of a buffer, which has `len` bytes; the neighbour then stands
+    /// there, and `len` is its length. `None` where there is none, and both stay. The buffer has at least 1,024 bytes;
+    /// what it has behind the neighbour stays. The key holds no zero byte, and needn't be one of the array. It asks for
+    /// no memory. (This project's own: a scan that writes no byte twice.)
     ///
-    /// It searches a level for each eight bytes of the key, as far as there are levels, and then one for each eight bytes of the
-    /// neighbour behind those that both begin with.
+    /// It searches a level for each eight bytes of the key, as far as there are levels, and then one for each eight
+    /// bytes of the neighbour behind those that both begin with.
     ///
     ///     let mut buffer = [0; 1024];
     ///     buffer[..5].copy_from_slice(b"apple");

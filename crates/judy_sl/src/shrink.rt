@@ -6,7 +6,7 @@ ghost use Rattle.std.specs.FinMap.{get};
 ghost use Rattle.judy_model.specs.Keys.{IsStringKey};
 ghost use Rattle.judy_sl.specs.Pieces.{pieces, piece_of, IsText};
 ghost use Rattle.judy_sl.specs.World.{lookup};
-ghost use Rattle.judy_sl.specs.Worlds.{AllLed};
+ghost use Rattle.judy_sl.specs.WorldInvariants.{AllLed};
 ghost use Rattle.judy_sl.specs.Children.{level_of, IsTaken};
 ghost use Rattle.judy_sl.specs.Arenas.{world_of, child_at, IsArena};
 ghost use Rattle.judy_sl.specs.Places.{IsLevelPlace};
@@ -21,8 +21,8 @@ use crate::pieces::first_piece;
 use judy_word::WordMap;
 
 // Where a key is cut off: at an entry of the last level on its way that has another one, or of the first level; the
-// child to which that leads, if the key goes on; how many bytes of the key are left there; and how many levels below the
-// first its way has passed.
+// child to which that leads, if the key goes on; how many bytes of the key are left there; and how many levels below
+// the first its way has passed.
 #[derive(Clone, Copy)]
 pub struct Cut {
     pub place: Place,
@@ -142,7 +142,8 @@ impl Arena {
     }
 
     // Takes a key out, and answers whether others begin with its first piece; `None` where it wasn't there. No level is
-    // left empty but the first, and each place that becomes free is used again. The levels that stay on its way count it no more.
+    // left empty but the first, and each place that becomes free is used again. The levels that stay on its way count
+    // it no more.
     pub fn del(&mut self, key: &[u8]) -> Option<bool>
         requires is_arena { IsArena self.old }
         requires counted { AreCounted self.old }

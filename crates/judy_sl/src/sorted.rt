@@ -12,10 +12,10 @@ ghost use Rattle.judy_sl.specs.Planted.{followers};
 ghost use Rattle.judy_sl.specs.Sorted.{pairs_in, strings_in, with_pairs, IsSorted, IsFault};
 
 use crate::error::SlError;
+use crate::judysl::JudySl;
 use crate::keys::is_key;
 use crate::pieces::first_piece;
 use crate::planting::opens;
-use crate::strings::JudySl;
 use std::alloc::Global;
 use thiserror::Error;
 
@@ -73,8 +73,8 @@ fn comes_after(before: Option<&[u8]>, key: &[u8]) -> bool
     }
 }
 
-/// Whether the strings of a list are keys that strictly ascend, and are no more than a limit; else what is wrong with the first that doesn't
-/// fit, as `from_sorted` tells it. It asks for no memory.
+/// Whether the strings of a list are keys that strictly ascend, and are no more than a limit; else what is wrong with
+/// the first that doesn't fit, as `from_sorted` tells it. It asks for no memory.
 ///
 ///     check_sorted(9, &[(b"pear", 1), (b"fig", 2)])        // Err(SlSortedError::NotAscending(1))
 pub fn check_sorted(limit: u64, pairs: &[(&[u8], u64)]) -> Result<(), SlSortedError>
@@ -98,7 +98,8 @@ pub fn check_sorted(limit: u64, pairs: &[(&[u8], u64)]) -> Result<(), SlSortedEr
     Ok(())
 }
 
-// Gives those keys their values that aren't the first of all which begin with the same whole piece, one after the other.
+// Gives those keys their values that aren't the first of all which begin with the same whole piece, one after the
+// other.
 fn put_followers(array: &mut JudySl, pairs: &[(&[u8], u64)]) -> Result<(), SlError>
     ensures { OnOk result (array.new
         ≡ with_map array.old (with_pairs array.old.map (followers 0 (pairs_in pairs.now)))) }
@@ -116,11 +117,11 @@ fn put_followers(array: &mut JudySl, pairs: &[(&[u8], u64)]) -> Result<(), SlErr
 }
 
 impl JudySl {
-    /// The array with a limit, from 1 to 4,294,967,295, that has these pairs of a string and its value, whose strings are keys that strictly
-    /// ascend. (This project's own.)
+    /// The array with a limit, from 1 to 4,294,967,295, that has these pairs of a string and its value, whose strings
+    /// are keys that strictly ascend. (This project's own.)
     ///
-    /// The error tells the first string that is no key, isn't above the one before it, or is one more than the limit, by its place; `NoMemory`
-    /// only where there is none. Nothing is kept then.
+    /// The error tells the first string that is no key, isn't above the one before it, or is one more than the limit,
+    /// by its place; `NoMemory` only where there is none. Nothing is kept then.
     ///
     ///     let prices = JudySl::from_sorted(alloc, 100, &[(b"apple", 30), (b"fig", 45)])?;
     pub fn from_sorted(

@@ -5,8 +5,8 @@ ghost use Rattle.std.specs.List.{list_all};
 
 use std::simd::prelude::*;
 
-/// Whether no byte is zero. Sixteen are tested at once, and the last sixteen of all, some of which may have been tested before. So there is no step
-/// for each byte, but for fewer than eight.
+/// Whether no byte is zero. Sixteen are tested at once, and the last sixteen of all, some of which may have been tested
+/// before. So there is no step for each byte, but for fewer than eight.
 pub fn are_nonzero(bytes: &[u8]) -> bool
     ensures { result ≡ list_all (λ byte. not (byte == 0)) bytes.now }
 {

@@ -1,9 +1,11 @@
 -- How many keys begin with a piece, and the list of that, where a key comes in or goes.
-use Rattle.std.proofs.Common.{◌≡◌, ◌≢◌, ℕ, suc, ◌+◌, ◌-◌, ◌≤◌, ◌==◌, Bool, true, false, cond, inl, inr, ⊎_elim, IsTrue, IsSome, List, [], ◌∷◌, map, length, filter, Option, None, Some, is_some, unwrap_or, refl, sym, ap, ◌∙◌, subst, arith, true≢false, Less, Equal, Greater}
+use Rattle.std.proofs.Common.{◌≡◌, ◌≢◌, ℕ, suc, ◌+◌, ◌-◌, ◌≤◌, ◌==◌, Bool, true, false, cond, inl, inr, ⊎_elim, IsTrue, IsSome, List, [], ◌∷◌, map, length, filter, Option, None}
+use Rattle.std.proofs.Common.{Some, is_some, unwrap_or, refl, sym, ap, ◌∙◌, subst, arith, true≢false, Less, Equal, Greater}
 use Rattle.std.specs.List.{sum_by, AllByRecursion}
 use Rattle.std.specs.Ordering.{is_eq, eq_by_cmp}
 use Rattle.std.specs.Cmp.{nat_cmp_total, tied_itself}
-use Rattle.std.specs.FinMap.{FinMap, nat_cmp-IsAntisymmetric, entries, entries_sorted, keys, get, contains_key, empty, insert, remove, len, find, put, same_map, get-empty, get-insert, get-remove, entries-insert, get-entries}
+use Rattle.std.specs.FinMap.{FinMap, nat_cmp-IsAntisymmetric, entries, entries_sorted, keys, get, contains_key, empty, insert, remove, len, find, put, same_map, get-empty}
+use Rattle.std.specs.FinMap.{get-insert, get-remove, entries-insert, get-entries}
 use Rattle.std.specs.FinMap.Entries.{by_order}
 use Rattle.std.proofs.lemmas.Bool.{eq-eqb, ne_eqb, cases_eq}
 use Rattle.std.proofs.lemmas.List.Sums.{sum_by-cons}
@@ -27,20 +29,25 @@ use Rattle.judy_sl.proofs.lemmas.counts.LevelRanks.{one_if}
 
 filter_put : (test : List ℕ → Bool) (key : List ℕ) (value : ℕ) (pairs : List (List ℕ × ℕ)) → find byte_order key pairs ≡ None
     → length (filter test (map (λ pair. pair.0) (put byte_order key value pairs))) ≡ length (filter test (map (λ pair. pair.0) pairs)) + one_if (test key)
-filter_put test key value [] none = elim (test key) as (λ b. length (cond b (key ∷ []) []) ≡ length (filter test (map {A = List ℕ × ℕ} {B = List ℕ} (λ pair. pair.0) [])) + one_if b) [ true ↦ refl | false ↦ refl ]
+filter_put test key value [] none =
+    elim (test key) as (λ b. length (cond b (key ∷ []) []) ≡ length (filter test (map {A = List ℕ × ℕ} {B = List ℕ} (λ pair. pair.0) [])) + one_if b) [ true ↦ refl | false ↦ refl ]
 filter_put test key value (pair ∷ rest) none =
     let later : List (List ℕ) = filter test (map (λ one. one.0) rest) in
     elim (byte_order key pair.0) as (λ r. cond (is_eq r) (Some pair.1) (find byte_order key rest) ≡ None
-    → length (filter test (map (λ one. one.0) (by_order r ((key, value) ∷ pair ∷ rest) ((pair.0, value) ∷ rest) (pair ∷ put byte_order key value rest)))) ≡ length (filter test (pair.0 ∷ map (λ one. one.0) rest)) + one_if (test key)) [
-      | Less ↦ λ missing. elim (test key) as (λ b. length (cond b (key ∷ filter test (pair.0 ∷ map (λ one. one.0) rest)) (filter test (pair.0 ∷ map (λ one. one.0) rest))) ≡ length (filter test (pair.0 ∷ map (λ one. one.0) rest)) + one_if b) [ true ↦ omega arith | false ↦ omega arith ]
+    → length (filter test (map (λ one. one.0) (by_order r ((key, value) ∷ pair ∷ rest) ((pair.0, value) ∷ rest) (pair ∷ put byte_order key value rest)))) ≡
+    length (filter test (pair.0 ∷ map (λ one. one.0) rest)) + one_if (test key)) [
+      | Less ↦ λ missing. elim (test key) as (λ b. length (cond b (key ∷ filter test (pair.0 ∷ map (λ one. one.0) rest)) (filter test (pair.0 ∷ map (λ one. one.0) rest))) ≡
+          length (filter test (pair.0 ∷ map (λ one. one.0) rest)) + one_if b) [ true ↦ omega arith | false ↦ omega arith ]
       | Equal ↦ λ missing. absurd (none-some pair.1 (sym missing))
       | Greater ↦ λ missing.
           let on = filter_put test key value rest missing in
-          elim (test pair.0) as (λ b. length (cond b (pair.0 ∷ filter test (map (λ one. one.0) (put byte_order key value rest))) (filter test (map (λ one. one.0) (put byte_order key value rest)))) ≡ length (cond b (pair.0 ∷ later) later) + one_if (test key)) [ true ↦ omega arith | false ↦ on ]
+          elim (test pair.0) as (λ b. length (cond b (pair.0 ∷ filter test (map (λ one. one.0) (put byte_order key value rest)))
+          (filter test (map (λ one. one.0) (put byte_order key value rest)))) ≡ length (cond b (pair.0 ∷ later) later) + one_if (test key)) [ true ↦ omega arith | false ↦ on ]
     ] none
 
 -- With a new key one more begins with its piece.
-pub beginning_new : (all : FinMap byte_order ℕ) (key : List ℕ) (value : ℕ) → get all key ≡ None → (piece : ℕ) → beginning (insert all key value) piece ≡ beginning all piece + one_if (piece_of key == piece)
+pub beginning_new : (all : FinMap byte_order ℕ) (key : List ℕ) (value : ℕ) → get all key ≡ None → (piece : ℕ) →
+    beginning (insert all key value) piece ≡ beginning all piece + one_if (piece_of key == piece)
 unfolding beginning
 beginning_new all key value none piece =
     ap (λ (pairs : List (List ℕ × ℕ)). length (filter (λ one. piece_of one == piece) (map (λ pair. pair.0) pairs))) (entries-insert byte_order_total all key value)
@@ -109,7 +116,8 @@ beginning_some all key piece held is = some_pass (λ one. piece_of one == piece)
 -- Where each key begins with another piece there is none.
 pub beginning_none : (all : FinMap byte_order ℕ) (piece : ℕ) → ((key : List ℕ) → IsTrue (contains_key all key) → piece_of key ≢ piece) → beginning all piece ≡ 0
 unfolding beginning
-beginning_none all piece none = none_pass (λ one. piece_of one == piece) (keys all) (λ key here. ne_eqb (piece_of key) piece (none key (contains_key-from_among byte_order_total byte_order_same all key here)))
+beginning_none all piece none =
+    none_pass (λ one. piece_of one == piece) (keys all) (λ key here. ne_eqb (piece_of key) piece (none key (contains_key-from_among byte_order_total byte_order_same all key here)))
 
 -- ---- how large the list is
 
@@ -145,7 +153,8 @@ begun_more key all piece =
     let later : List (List ℕ) = filter (λ one. piece_of one == piece) all in
     elim (piece_of key == piece) as (λ b. length (cond b (key ∷ later) later) ≡ length later + one_if b) [ true ↦ omega arith | false ↦ omega arith ]
 
-more_begun : (key : List ℕ) (all : List (List ℕ)) (pairs : Pairs) → sum_by (λ (pair : ℕ × ℕ). begun (key ∷ all) pair.0) pairs ≡ sum_by (λ (pair : ℕ × ℕ). begun all pair.0) pairs + sum_by (λ (pair : ℕ × ℕ). one_if (piece_of key == pair.0)) pairs
+more_begun : (key : List ℕ) (all : List (List ℕ)) (pairs : Pairs) → sum_by (λ (pair : ℕ × ℕ). begun (key ∷ all) pair.0) pairs ≡
+    sum_by (λ (pair : ℕ × ℕ). begun all pair.0) pairs + sum_by (λ (pair : ℕ × ℕ). one_if (piece_of key == pair.0)) pairs
 more_begun key all [] = refl
 more_begun key all (pair ∷ rest) =
     let sum = sum_by-cons (λ (one : ℕ × ℕ). begun (key ∷ all) one.0) pair rest in
@@ -197,7 +206,8 @@ module _ (all : FinMap byte_order ℕ) (firsts : FinMap word_order ℕ) (are : A
   -- All numbers together are no more than the keys,
   pub firsts_sum : sum_of (entries firsts) ≤ len all
   firsts_sum =
-      let each = each_found word_order nat_cmp_total nat_cmp-IsAntisymmetric (λ (pair : ℕ × ℕ). pair.1 ≤ begun (keys all) pair.0) (entries firsts) (entries_sorted firsts) (λ piece number found. number_within piece number (get-entries firsts piece ∙ found)) in
+      let each = each_found word_order nat_cmp_total nat_cmp-IsAntisymmetric (λ (pair : ℕ × ℕ). pair.1 ≤ begun (keys all) pair.0) (entries firsts) (entries_sorted firsts)
+      (λ piece number found. number_within piece number (get-entries firsts piece ∙ found)) in
       let sum = each_within (keys all) (entries firsts) each in
       let most = begun_within (keys all) (entries firsts) (entries_sorted firsts) in
       let long = length-keys all in

@@ -1,5 +1,6 @@
 -- How many keys there are from one to another behind a level, and behind the entries of a level between two pieces.
-use Rattle.std.proofs.Common.{◌≡◌, ℕ, suc, ◌+◌, ◌-◌, ◌%◌, ◌<◌, ◌≤◌, Bool, true, false, cond, ⊎_elim, List, [], ◌∷◌, ◌++◌, length, take, drop, Option, None, Some, is_some, is_lt, refl, sym, ap, ◌∙◌, arith}
+use Rattle.std.proofs.Common.{◌≡◌, ℕ, suc, ◌+◌, ◌-◌, ◌%◌, ◌<◌, ◌≤◌, Bool, true, false, cond, ⊎_elim, List, [], ◌∷◌, ◌++◌, length, take, drop, Option, None, Some, is_some, is_lt}
+use Rattle.std.proofs.Common.{refl, sym, ap, ◌∙◌, arith}
 use Rattle.std.specs.Ordering.{eq_by_cmp, ordering_then}
 use Rattle.std.specs.Int.{from_bool}
 use Rattle.std.specs.List.{flat_map}
@@ -19,7 +20,7 @@ use Rattle.judy_sums.specs.Chunks.{Ascends}
 use Rattle.judy_sums.specs.Levels.{keys_below, part_len}
 use Rattle.judy_sl.specs.Pieces.{piece_of, IsText, IsInner}
 use Rattle.judy_sl.specs.World.{World, level}
-use Rattle.judy_sl.specs.Worlds.{IsWorld}
+use Rattle.judy_sl.specs.WorldInvariants.{IsWorld}
 use Rattle.judy_sl.specs.Behind.{map_behind, entry_keys}
 use Rattle.judy_sl.specs.Counted.{keys_behind, keys_behind_all, ranked, StandsWith}
 use Rattle.judy_sl.specs.Ranks.{ranked_own, ranked_in}
@@ -55,7 +56,8 @@ module _ (world : World) (words : FinMap word_order ℕ) where
       omega arith
 
   -- Below 0 there are none.
-  pub from_none : (count piece : ℕ) → keys_below (part_len (entry_keys world)) (entries words) 0 + count ≡ keys_below (part_len (entry_keys world)) (entries words) piece → count ≡ keys_below (part_len (entry_keys world)) (entries words) piece
+  pub from_none : (count piece : ℕ) → keys_below (part_len (entry_keys world)) (entries words) 0 + count ≡ keys_below (part_len (entry_keys world)) (entries words) piece →
+      count ≡ keys_below (part_len (entry_keys world)) (entries words) piece
   from_none count piece is =
       let front = front_keys world words 0 ∙ ap (λ n. keys_behind_all world (take n (entries words))) (words_none words) in
       let none : keys_behind_all world (take 0 (entries words)) ≡ 0 = refl in
@@ -86,7 +88,8 @@ pub record Shares (world : World) (words : FinMap word_order ℕ) (keys low high
       ≡ keys_below (part_len (entry_keys world)) (entries words) high
   pub last : keys_below (part_len (entry_keys world)) (entries words) high + keys_behind_all world (take (all - up_to) (drop (rank words high) (entries words))) ≡ keys
 
-pub shares_of : {world : World} {behind : ℕ → List ℕ} → IsWorld world behind → {words : FinMap word_order ℕ} {keys : ℕ} → StandsWith world words keys → (low high : ℕ) → low ≤ high → {before up_to all : ℕ}
+pub shares_of : {world : World} {behind : ℕ → List ℕ} → IsWorld world behind → {words : FinMap word_order ℕ} {keys : ℕ} → StandsWith world words keys → (low high : ℕ) →
+    low ≤ high → {before up_to all : ℕ}
     → before ≡ rank words low → up_to ≡ rank words high → all ≡ len words → Shares world words keys low high before up_to all
 shares_of {world} is {words} {keys} stands low high rising {before} {up_to} {all} first second count =
     let rises = rank_rises words low high rising in
@@ -105,7 +108,8 @@ shares_of {world} is {words} {keys} stands low high rising {before} {up_to} {all
 pub none_before : (behind : ℕ × ℕ → ℕ) (word place : ℕ) (pairs : Pairs) → Ascends pairs → length pairs ≡ 1 → find word_order word pairs ≡ Some place → keys_below behind pairs word ≡ 0
 none_before behind word place [] ascend one found = absurd (none-some place found)
 none_before behind word place (entry ∷ rest) ascend one found =
-    elim (eq_by_cmp word_order word entry.0) as (λ b. eq_by_cmp word_order word entry.0 ≡ b → cond b (Some entry.1) (find word_order word rest) ≡ Some place → keys_below behind (entry ∷ rest) word ≡ 0) [
+    elim (eq_by_cmp word_order word entry.0) as (λ b. eq_by_cmp word_order word entry.0 ≡ b → cond b (Some entry.1) (find word_order word rest) ≡ Some place →
+    keys_below behind (entry ∷ rest) word ≡ 0) [
       | true ↦ λ tied here. let same = same_from_tie nat_cmp-IsAntisymmetric word entry.0 tied in below_past behind word entry rest ascend (omega arith)
       | false ↦ λ apart there. absurd (nothing rest (omega arith) there)
     ] refl found
@@ -120,7 +124,8 @@ none_before behind word place (entry ∷ rest) ascend one found =
 part_most : {K : Type 0} (part : ℕ × ℕ → List K) (word place : ℕ) (pairs : Pairs) → find word_order word pairs ≡ Some place → length (part (word, place)) ≤ length (flat_map part pairs)
 part_most part word place [] found = absurd (none-some place found)
 part_most part word place (entry ∷ rest) found =
-    elim (eq_by_cmp word_order word entry.0) as (λ b. eq_by_cmp word_order word entry.0 ≡ b → cond b (Some entry.1) (find word_order word rest) ≡ Some place → length (part (word, place)) ≤ length (part entry ++ flat_map part rest)) [
+    elim (eq_by_cmp word_order word entry.0) as (λ b. eq_by_cmp word_order word entry.0 ≡ b → cond b (Some entry.1) (find word_order word rest) ≡ Some place →
+    length (part (word, place)) ≤ length (part entry ++ flat_map part rest)) [
       | true ↦ λ tied here.
           let long = length-append (part entry) (flat_map part rest) in
           let own = ap (λ w. length (part (w, place))) (same_from_tie nat_cmp-IsAntisymmetric word entry.0 tied) ∙ ap (λ at. length (part (entry.0, at))) (sym (same_Some entry.1 place here)) in
@@ -146,15 +151,18 @@ module _ {world : World} {behind : ℕ → List ℕ} (is : IsWorld world behind)
   pub level_ranked : (itself : Bool) (key : List ℕ) → IsText key → ranked itself (map_behind world seat) key ≡ ranked_in world itself words key
   level_ranked itself key text = by (get words (piece_of key)) refl
     where
-      by : (found : Option ℕ) → get words (piece_of key) ≡ found → ranked itself (map_behind world seat) key ≡ keys_below (part_len (entry_keys world)) (entries words) (piece_of key) + ranked_own world itself found key
+      by : (found : Option ℕ) → get words (piece_of key) ≡ found → ranked itself (map_behind world seat) key ≡
+          keys_below (part_len (entry_keys world)) (entries words) (piece_of key) + ranked_own world itself found key
       by None none = let absent = rank_absent itself key text is seat words here none in omega arith
       by (Some at) there = ⊎_elim
           (λ (short : length key < 8).
           rank_final itself key text is seat words here short at there
-          ∙ ap (λ b. keys_below (part_len (entry_keys world)) (entries words) (piece_of key) + cond b (one_if itself) (ranked itself (map_behind world (suc at)) (drop 8 key))) (sym (lt-ltb (length key) 8 short)))
+          ∙ ap (λ b. keys_below (part_len (entry_keys world)) (entries words) (piece_of key) + cond b (one_if itself) (ranked itself (map_behind world (suc at)) (drop 8 key)))
+          (sym (lt-ltb (length key) 8 short)))
           (λ (long : 8 ≤ length key).
           rank_inner itself key text is seat words here long at there
-          ∙ ap (λ b. keys_below (part_len (entry_keys world)) (entries words) (piece_of key) + cond b (one_if itself) (ranked itself (map_behind world (suc at)) (drop 8 key))) (sym (le-ltb (length key) 8 long)))
+          ∙ ap (λ b. keys_below (part_len (entry_keys world)) (entries words) (piece_of key) + cond b (one_if itself) (ranked itself (map_behind world (suc at)) (drop 8 key)))
+          (sym (le-ltb (length key) 8 long)))
           (cases_lt (length key) 8)
 
   module _ (from to : List ℕ) (low_text : IsText from) (high_text : IsText to) where
@@ -202,7 +210,8 @@ module _ {world : World} {behind : ℕ → List ℕ} (is : IsWorld world behind)
 
       -- and else those behind the child of the entry.
       pub child_shared : 8 ≤ length from → (at : ℕ) → get words (piece_of from) ≡ Some at
-          → ranked true (map_behind world seat) to - ranked false (map_behind world seat) from ≡ ranked true (map_behind world (suc at)) (drop 8 to) - ranked false (map_behind world (suc at)) (drop 8 from)
+          → ranked true (map_behind world seat) to - ranked false (map_behind world seat) from ≡ ranked true (map_behind world (suc at)) (drop 8 to) - ranked false
+          (map_behind world (suc at)) (drop 8 from)
       child_shared long at there =
           let high = rank_inner true to high_text is seat words here (both_long long) at (ap (get words) (sym same) ∙ there) in
           let low = rank_inner false from low_text is seat words here long at there in

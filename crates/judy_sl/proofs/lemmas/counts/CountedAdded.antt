@@ -7,7 +7,7 @@ use Rattle.judy_sl.specs.Children.{Child, Free, Tail, Level, IsLevelChild}
 use Rattle.judy_sl.specs.declared.arena.Arena.{Arena}
 use Rattle.judy_sl.specs.Pieces.{pieces, AreInner}
 use Rattle.judy_sl.specs.World.{gone, level, lookup, walk}
-use Rattle.judy_sl.specs.Worlds.{AllLed}
+use Rattle.judy_sl.specs.WorldInvariants.{AllLed}
 use Rattle.judy_sl.specs.Arenas.{world_of, node_of, child_at, IsArena}
 use Rattle.judy_sl.specs.Ways.{levels_passed}
 use Rattle.judy_sl.specs.Counted.{keys_behind, LevelTells, Same, OneLess, AreCounted, IsAmong, AreCountedBut}
@@ -24,7 +24,8 @@ LevelWas before at (Level told words) = (was : ArrayOf word_order) × (child_at 
 
 -- A level that was there stays one, and the pieces that lead to it still lead there.
 abbrev pub StaysLed : Arena → Arena → Type 0
-StaysLed before after = (at told : ℕ) (was : ArrayOf word_order) → child_at before at ≡ Level told was → IsLevelChild (child_at after at) × ((front : List ℕ) → AreInner front → walk (world_of before) 0 front ≡ Some (suc at) → walk (world_of after) 0 front ≡ Some (suc at))
+StaysLed before after = (at told : ℕ) (was : ArrayOf word_order) → child_at before at ≡ Level told was →
+    IsLevelChild (child_at after at) × ((front : List ℕ) → AreInner front → walk (world_of before) 0 front ≡ Some (suc at) → walk (world_of after) 0 front ≡ Some (suc at))
 
 -- A level that is new tells two keys, and there are two: the one whose tail stood there, and one that has come in.
 pub record IsNewLevel (before after : Arena) (at told : ℕ) : Type 0 where
@@ -49,7 +50,8 @@ level-told Free map is = absurd (cc)
 level-told (Tail rest) map is = absurd (cc)
 level-told (Level told words) map is = (told, words, refl)
 
-module _ (before after : Arena) (is : IsArena before) (is_after : IsArena after) (led : AllLed (world_of before)) (counted : AreCounted before) (key : List ℕ) (is_key : IsStringKey key) (value : ℕ) (change : IsChange (world_of before) (world_of after) (pieces key) (Some value)) (none : lookup (world_of before) 0 (pieces key) ≡ None) (stays : StaysLed before after) where
+module _ (before after : Arena) (is : IsArena before) (is_after : IsArena after) (led : AllLed (world_of before)) (counted : AreCounted before) (key : List ℕ) (is_key : IsStringKey key)
+    (value : ℕ) (change : IsChange (world_of before) (world_of after) (pieces key) (Some value)) (none : lookup (world_of before) 0 (pieces key) ≡ None) (stays : StaysLed before after) where
   -- A level that was there.
   module _ (at told : ℕ) (was : ArrayOf word_order) (was_is : child_at before at ≡ Level told was) where
     reached : IsReached (world_of before) (suc at)

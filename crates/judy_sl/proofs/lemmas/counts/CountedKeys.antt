@@ -7,7 +7,7 @@ use Rattle.judy_sl.specs.declared.arena.Arena.{Arena}
 use Rattle.judy_sl.specs.declared.arena.Place.{Place}
 use Rattle.judy_sl.specs.Pieces.{pieces}
 use Rattle.judy_sl.specs.World.{World}
-use Rattle.judy_sl.specs.Worlds.{AllLed}
+use Rattle.judy_sl.specs.WorldInvariants.{AllLed}
 use Rattle.judy_sl.specs.Arenas.{world_of, map_of, IsArena}
 use Rattle.judy_sl.specs.Ways.{IsFound}
 use Rattle.judy_sl.specs.Grown.{IsChange, IsAdded}

@@ -1,5 +1,6 @@
 -- What levels tell of the keys behind them where a key was counted out, and then taken out.
-use Rattle.std.proofs.Common.{◌≡◌, ◌≢◌, ℕ, zero, suc, ◌<◌, ◌≤◌, Bool, true, false, cond, List, [], ◌∷◌, ◌++◌, length, take, is_some, Option, None, Some, inl, inr, refl, sym, ap, subst, ◌∙◌, arith, ⊎_elim}
+use Rattle.std.proofs.Common.{◌≡◌, ◌≢◌, ℕ, zero, suc, ◌<◌, ◌≤◌, Bool, true, false, cond, List, [], ◌∷◌, ◌++◌, length, take, is_some, Option, None, Some, inl, inr, refl, sym, ap}
+use Rattle.std.proofs.Common.{subst, ◌∙◌, arith, ⊎_elim}
 use Rattle.std.proofs.lemmas.Bool.{cases_eq, cases_lt}
 use Rattle.std.proofs.lemmas.List.{length-append, append-nil}
 use Rattle.std.proofs.lemmas.Option.{none-some, same_Some}
@@ -15,7 +16,7 @@ use Rattle.judy_sl.specs.declared.arena.Place.TheVariants.{Root, Below}
 use Rattle.judy_sl.specs.declared.shrink.Cut.{Cut}
 use Rattle.judy_sl.specs.Pieces.{pieces, AreInner}
 use Rattle.judy_sl.specs.World.{World, Node, gone, tail, level, lookup, walk, step_node, step_entry}
-use Rattle.judy_sl.specs.Worlds.{AllLed}
+use Rattle.judy_sl.specs.WorldInvariants.{AllLed}
 use Rattle.judy_sl.specs.Arenas.{world_of, node_of, child_at, IsArena}
 use Rattle.judy_sl.specs.Places.{IsLevelPlace}
 use Rattle.judy_sl.specs.Ways.{seat_of, piece_at, levels_passed}
@@ -36,7 +37,9 @@ use Rattle.judy_sl.proofs.lemmas.counts.Stepping.{among-cases}
 
 -- ---- the numbers
 
-module _ (before after : Arena) (is : IsArena before) (is_after : IsArena after) (led : AllLed (world_of after)) (places : List ℕ) (counted : AreCountedBut before places) (key : List ℕ) (is_key : IsStringKey key) (value : ℕ) (change : IsChange (world_of after) (world_of before) (pieces key) (Some value)) (none : lookup (world_of after) 0 (pieces key) ≡ None) (keeps : (seat : ℕ) → KeepsEntries (world_of after seat) (world_of before seat)) where
+module _ (before after : Arena) (is : IsArena before) (is_after : IsArena after) (led : AllLed (world_of after)) (places : List ℕ) (counted : AreCountedBut before places)
+    (key : List ℕ) (is_key : IsStringKey key) (value : ℕ) (change : IsChange (world_of after) (world_of before) (pieces key) (Some value))
+    (none : lookup (world_of after) 0 (pieces key) ≡ None) (keeps : (seat : ℕ) → KeepsEntries (world_of after seat) (world_of before seat)) where
   -- A level that was there with the same number.
   module _ (at told : ℕ) (words was : ArrayOf word_order) (level_is : child_at after at ≡ Level told words) (was_is : child_at before at ≡ Level told was) where
     reached : IsReached (world_of after) (suc at)
@@ -71,7 +74,9 @@ module _ (before after : Arena) (is : IsArena before) (is_after : IsArena after)
         let way : IsReached (world_of before) (suc at) = record { front = passed.piece ∷ passed.front; inner = passed.inner; way = passed.way } in
         (passed.rest, passed.parts ∙ ap (λ front. front ++ passed.rest) (reached-once (world_of before) is.behind is.is_world (suc at) way reached-before))
 
-  module _ (levels : (at told : ℕ) (words : ArrayOf word_order) → child_at after at ≡ Level told words → (was : ArrayOf word_order) × (child_at before at ≡ Level told was)) (passed : (at : ℕ) → IsAmong places at → IsPassed (world_of before) 0 (pieces key) at) (left : (at : ℕ) (map : FinMap word_order ℕ) (front rest : List ℕ) → world_of after (suc at) ≡ level map → AreInner front → walk (world_of after) 0 front ≡ Some (suc at) → pieces key ≡ front ++ rest → IsAmong places at) where
+  module _ (levels : (at told : ℕ) (words : ArrayOf word_order) → child_at after at ≡ Level told words → (was : ArrayOf word_order) × (child_at before at ≡ Level told was))
+      (passed : (at : ℕ) → IsAmong places at → IsPassed (world_of before) 0 (pieces key) at) (left : (at : ℕ) (map : FinMap word_order ℕ) (front rest : List ℕ) →
+      world_of after (suc at) ≡ level map → AreInner front → walk (world_of after) 0 front ≡ Some (suc at) → pieces key ≡ front ++ rest → IsAmong places at) where
     told-child : (at : ℕ) (child : Child) → child_at after at ≡ child → LevelTells Same child (keys_behind (world_of after) (suc at))
     told-child at Free is = tt
     told-child at (Tail rest) is = tt
@@ -82,7 +87,8 @@ module _ (before after : Arena) (is : IsArena before) (is_after : IsArena after)
         (λ among.
         let on = passed-parts at told words was.0 level_is was.1 (passed at among) in
         was-passed at told words was.0 level_is was.1 on.0 on.1 (subst (λ child. LevelTells OneLess child (keys_behind (world_of before) (suc at))) was.1 (counted.passed at among)))
-        (λ off. was-off at told words was.0 level_is was.1 (λ rest same. off (left at words.map to.front rest (ap node_of level_is) to.inner to.way (sym same))) (subst (λ child. LevelTells Same child (keys_behind (world_of before) (suc at))) was.1 (counted.others at off)))
+        (λ off. was-off at told words was.0 level_is was.1 (λ rest same. off (left at words.map to.front rest (ap node_of level_is) to.inner to.way (sym same)))
+        (subst (λ child. LevelTells Same child (keys_behind (world_of before) (suc at))) was.1 (counted.others at off)))
         (among-cases places at)
 
     counted-now : AreCounted after
@@ -120,7 +126,8 @@ module _ (before mid : Arena) (place : Place) (mid_is : mid ≡ place_without be
   out-level : (to : Place) → place ≡ to → (at told : ℕ) (words : ArrayOf word_order) → child_at mid at ≡ Level told words → (was : ArrayOf word_order) × (child_at before at ≡ Level told was)
   out-level (Root piece) e at told words is = (words, ap (λ (p : Place). child_at (place_without before p) at) (sym e) ∙ ap (λ (a : Arena). child_at a at) (sym mid_is) ∙ is)
   out-level (Below to piece) e at told words is =
-      let here : child_at (place_without before (Below to piece)) at ≡ Level told words = ap (λ (p : Place). child_at (place_without before p) at) (sym e) ∙ ap (λ (a : Arena). child_at a at) (sym mid_is) ∙ is in
+      let here : child_at (place_without before (Below to piece)) at ≡ Level told words = ap (λ (p : Place). child_at (place_without before p) at) (sym e) ∙
+      ap (λ (a : Arena). child_at a at) (sym mid_is) ∙ is in
       let can = can-without before to piece (subst (IsLevelPlace before) e is_level) in
       elim (cases_eq at to) [
         | inl same ↦
@@ -130,19 +137,23 @@ module _ (before mid : Arena) (place : Place) (mid_is : mid ≡ place_without be
       ]
 
   out-keeps : (to : Place) → place ≡ to → (seat : ℕ) → KeepsEntries (world_of mid seat) (world_of before seat)
-  out-keeps to e seat = subst (λ (w : World). KeepsEntries (w seat) (world_of before seat)) (sym (ap world_of (mid_is ∙ ap (place_without before) e))) (by_place to (subst (IsLevelPlace before) e is_level) seat)
+  out-keeps to e seat =
+      subst (λ (w : World). KeepsEntries (w seat) (world_of before seat)) (sym (ap world_of (mid_is ∙ ap (place_without before) e))) (by_place to (subst (IsLevelPlace before) e is_level) seat)
     where
       by_place : (to : Place) → IsLevelPlace before to → (seat : ℕ) → KeepsEntries (world_of (place_without before to) seat) (world_of before seat)
       by_place (Root piece) is zero = keeps-remove before.root.map piece
       by_place (Root piece) is (suc at) = keeps-same (world_of before (suc at)) (world_of before (suc at)) refl
-      by_place (Below to piece) is zero = keeps-same (world_of (place_without before (Below to piece)) 0) (world_of before 0) (sym (ap (λ (words : ArrayOf word_order). level words.map) (root-with_child before to (child_without (child_at before to) piece))))
+      by_place (Below to piece) is zero =
+          keeps-same (world_of (place_without before (Below to piece)) 0) (world_of before 0) (sym (ap (λ (words : ArrayOf word_order). level words.map)
+          (root-with_child before to (child_without (child_at before to) piece))))
       by_place (Below to piece) is (suc at) =
           let can = can-without before to piece is in
           elim (cases_eq at to) [
             | inl same ↦
                 let child = child_at-same before to (child_without (child_at before to) piece) can at same ∙ ap (λ n. child_without (child_at before n) piece) (sym same) in
                 subst (λ c. KeepsEntries (node_of c) (world_of before (suc at))) (sym child) (without-keeps (child_at before at) piece)
-            | inr apart ↦ keeps-same (world_of (place_without before (Below to piece)) (suc at)) (world_of before (suc at)) (sym (ap node_of (child_at-other before to (child_without (child_at before to) piece) can at apart)))
+            | inr apart ↦ keeps-same (world_of (place_without before (Below to piece)) (suc at)) (world_of before (suc at))
+                (sym (ap node_of (child_at-other before to (child_without (child_at before to) piece) can at apart)))
           ]
 
 -- ---- what stands after places were made free
@@ -198,7 +209,8 @@ walk-split world seat (piece ∷ front) more end way =
     let on = walk-split world (suc step.found) front more end step.goes in
     (on.0, ap (λ node. step_node node piece (λ found. walk world (suc found) front)) step.is ∙ ap (λ found. step_entry found (λ to. walk world (suc to) front)) step.entry ∙ on.1, on.2)
 
-module _ (before mid after : Arena) (is : IsArena before) (key : List ℕ) (is_key : IsStringKey key) (cut : Cut) (cut_is : IsCutWhere (Unit {0}) (world_of before) key cut) (mid_is : mid ≡ place_without before cut.place) (left : IsLeft mid after) where
+module _ (before mid after : Arena) (is : IsArena before) (key : List ℕ) (is_key : IsStringKey key) (cut : Cut) (cut_is : IsCutWhere (Unit {0}) (world_of before) key cut)
+    (mid_is : mid ≡ place_without before cut.place) (left : IsLeft mid after) where
   abbrev above : List ℕ
   above = cut_is.leads.front
 
@@ -240,7 +252,8 @@ module _ (before mid after : Arena) (is : IsArena before) (key : List ℕ) (is_k
     | inr most ↦ most
   ]
     where
-      deeper : (mid_ps front rest : List ℕ) → front ≡ above ++ mid_ps → piece ∷ cut_is.rest ≡ mid_ps ++ rest → length above < length front → walk (world_of after) 0 front ≡ Some (suc at) → AreInner front → ⊥
+      deeper : (mid_ps front rest : List ℕ) → front ≡ above ++ mid_ps → piece ∷ cut_is.rest ≡ mid_ps ++ rest → length above < length front →
+          walk (world_of after) 0 front ≡ Some (suc at) → AreInner front → ⊥
       deeper [] front rest front_is rest_is more way inner =
           let same = ap (λ (ps : List ℕ). length ps) (front_is ∙ append-nil above) in
           omega (arith, same, more)
@@ -253,18 +266,22 @@ module _ (before mid after : Arena) (is : IsArena before) (key : List ℕ) (is_k
   keeps-all seat = keeps-then (world_of after seat) (world_of mid seat) (world_of before seat) (left-keeps mid after left seat) (keeps-out seat)
 
   -- It is one of those that the way had passed there.
-  pub left-among : (at : ℕ) (map : FinMap word_order ℕ) (front rest : List ℕ) → world_of after (suc at) ≡ level map → AreInner front → walk (world_of after) 0 front ≡ Some (suc at) → pieces key ≡ front ++ rest → IsAmong (take cut.depth (levels_passed (world_of before) key)) at
+  pub left-among : (at : ℕ) (map : FinMap word_order ℕ) (front rest : List ℕ) → world_of after (suc at) ≡ level map → AreInner front → walk (world_of after) 0 front ≡ Some (suc at) →
+      pieces key ≡ front ++ rest → IsAmong (take cut.depth (levels_passed (world_of before) key)) at
   left-among at map front rest is_level inner way parts =
       let short = short-left at front rest inner way parts in
       let deep = cut_is.deep in
       let was = keeps-all (suc at) map is_level in
-      way-first (world_of before) is.behind is.is_world key is_key front rest at was.0 inner (walk-keeps (world_of after) (world_of before) keeps-all 0 front (suc at) inner way) parts was.1 cut.depth (omega (arith, short, deep))
+      way-first (world_of before) is.behind is.is_world key is_key front rest at was.0 inner (walk-keeps (world_of after) (world_of before) keeps-all 0 front (suc at) inner way)
+      parts was.1 cut.depth (omega (arith, short, deep))
 
-  pub counted-lost : (shrunk : IsShrunk before after key) → is_some (lookup (world_of before) 0 (pieces key)) ≡ true → AreCountedBut before (take cut.depth (levels_passed (world_of before) key)) → AreCounted after
+  pub counted-lost : (shrunk : IsShrunk before after key) → is_some (lookup (world_of before) 0 (pieces key)) ≡ true →
+      AreCountedBut before (take cut.depth (levels_passed (world_of before) key)) → AreCounted after
   counted-lost shrunk there counted =
       let held = held-value (lookup (world_of before) 0 (pieces key)) there in
       let back : IsChange (world_of after) (world_of before) (pieces key) (Some held.0) = record { at_key = held.1; elsewhere = λ ps are ne. sym (shrunk.change.elsewhere ps are ne) } in
       counted-now before after is shrunk.is_arena shrunk.led (take cut.depth (levels_passed (world_of before) key)) counted key is_key held.0 back shrunk.change.at_key keeps-all
-      (λ at told words level_is. out-level before mid cut.place mid_is (level-stands before cut.place cut_is.map cut_is.is_level) cut.place refl at told words (left-child mid after left at (child_at after at) refl words told level_is))
+      (λ at told words level_is. out-level before mid cut.place mid_is (level-stands before cut.place cut_is.map cut_is.is_level) cut.place refl at told words
+      (left-child mid after left at (child_at after at) refl words told level_is))
       (λ at among. among-way (world_of before) is.behind is.is_world key is_key at (among-front cut.depth (levels_passed (world_of before) key) at among))
       left-among

@@ -32,21 +32,25 @@ use Rattle.judy_sl.proofs.lemmas.seats.Maps.{child-none}
 pub len_alike : (one other : FinMap byte_order ℕ) → ((key : List ℕ) → contains_key one key ≡ contains_key other key) → len one ≡ len other
 len_alike one other alike =
     sym (length-keys one)
-    ∙ length-from_same_keys (eq_by_cmp_equiv byte_order_total) (keys one) (keys other) (IsDistinct-from_sorted byte_order (keys one) (keys_ascending one)) (IsDistinct-from_sorted byte_order (keys other) (keys_ascending other)) (λ key. sym (contains_key-keys one key) ∙ alike key ∙ contains_key-keys other key)
+    ∙ length-from_same_keys (eq_by_cmp_equiv byte_order_total) (keys one) (keys other) (IsDistinct-from_sorted byte_order (keys one) (keys_ascending one))
+    (IsDistinct-from_sorted byte_order (keys other) (keys_ascending other)) (λ key. sym (contains_key-keys one key) ∙ alike key ∙ contains_key-keys other key)
     ∙ length-keys other
 
 -- So are the tables of functions that answer for the same keys.
 pub table_alike : (one other : List ℕ → Option ℕ) → ((key : List ℕ) → IsStringKey key → is_some (one key) ≡ is_some (other key)) → len (table string_keys one) ≡ len (table string_keys other)
 table_alike one other alike = len_alike (table string_keys one) (table string_keys other) (λ key. by key (get (table string_keys one) key) (get (table string_keys other) key) refl refl)
   where
-    by : (key : List ℕ) (left right : Option ℕ) → get (table string_keys one) key ≡ left → get (table string_keys other) key ≡ right → is_some (get (table string_keys one) key) ≡ is_some (get (table string_keys other) key)
+    by : (key : List ℕ) (left right : Option ℕ) → get (table string_keys one) key ≡ left → get (table string_keys other) key ≡ right →
+        is_some (get (table string_keys one) key) ≡ is_some (get (table string_keys other) key)
     by key None None is else = ap (λ (found : Option ℕ). is_some found) (is ∙ sym else)
     by key (Some value) right is else =
         let there = table_some string_keys-all one key value is in
-        ap (λ (found : Option ℕ). is_some found) (get-table string_keys-all one key there.0) ∙ alike key there.0 ∙ ap (λ (found : Option ℕ). is_some found) (sym (get-table string_keys-all other key there.0))
+        ap (λ (found : Option ℕ). is_some found) (get-table string_keys-all one key there.0) ∙ alike key there.0 ∙
+        ap (λ (found : Option ℕ). is_some found) (sym (get-table string_keys-all other key there.0))
     by key None (Some value) is else =
         let there = table_some string_keys-all other key value else in
-        ap (λ (found : Option ℕ). is_some found) (get-table string_keys-all one key there.0) ∙ alike key there.0 ∙ ap (λ (found : Option ℕ). is_some found) (sym (get-table string_keys-all other key there.0))
+        ap (λ (found : Option ℕ). is_some found) (get-table string_keys-all one key there.0) ∙ alike key there.0 ∙
+        ap (λ (found : Option ℕ). is_some found) (sym (get-table string_keys-all other key there.0))
 
 -- ---- seats that hold the same keys
 
@@ -76,11 +80,13 @@ end_some : (found : Option ℕ) (go : ℕ → Option ℕ) → is_some (at_entry 
 end_some None go = refl
 end_some (Some value) go = refl
 
-on_some : (found : Option ℕ) (next : ℕ) (rest : List ℕ) (go on : ℕ → Option ℕ) → ((at : ℕ) → is_some (go at) ≡ is_some (on at)) → is_some (at_entry found (next ∷ rest) go) ≡ is_some (at_entry found (next ∷ rest) on)
+on_some : (found : Option ℕ) (next : ℕ) (rest : List ℕ) (go on : ℕ → Option ℕ) → ((at : ℕ) → is_some (go at) ≡ is_some (on at)) →
+    is_some (at_entry found (next ∷ rest) go) ≡ is_some (at_entry found (next ∷ rest) on)
 on_some None next rest go on each = refl
 on_some (Some value) next rest go on each = each value
 
-tail_some : (held kept : List ℕ) (value more : ℕ) (ps : List ℕ) → held ≡ kept → is_some (cond (eq_by_cmp byte_order held ps) (Some value) None) ≡ is_some (cond (eq_by_cmp byte_order kept ps) (Some more) None)
+tail_some : (held kept : List ℕ) (value more : ℕ) (ps : List ℕ) → held ≡ kept → is_some (cond (eq_by_cmp byte_order held ps) (Some value) None) ≡
+    is_some (cond (eq_by_cmp byte_order kept ps) (Some more) None)
 tail_some held kept value more ps same =
     ap (λ bytes. is_some (cond (eq_by_cmp byte_order bytes ps) (Some value) None)) same
     ∙ elim (eq_by_cmp byte_order kept ps) as (λ b. is_some (cond b (Some value) None) ≡ is_some (cond b (Some more) None)) [ true ↦ refl | false ↦ refl ]
@@ -96,7 +102,8 @@ last_alike (level map) gone alike piece final go on = absurd alike
 last_alike (level map) (tail held value) alike piece final go on = absurd alike
 last_alike (level map) (level other) alike piece final go on = end_some (get map piece) go ∙ alike.ends piece final ∙ sym (end_some (get other piece) on)
 
-more_alike : (one other : Node) → NodesAlike one other → (piece next : ℕ) (rest : List ℕ) → IsInner piece → (go on : ℕ → Option ℕ) → ((at : ℕ) → is_some (go at) ≡ is_some (on at)) → is_some (at_node one piece (next ∷ rest) go) ≡ is_some (at_node other piece (next ∷ rest) on)
+more_alike : (one other : Node) → NodesAlike one other → (piece next : ℕ) (rest : List ℕ) → IsInner piece → (go on : ℕ → Option ℕ) → ((at : ℕ) → is_some (go at) ≡ is_some (on at)) →
+    is_some (at_node one piece (next ∷ rest) go) ≡ is_some (at_node other piece (next ∷ rest) on)
 more_alike gone gone alike piece next rest inner go on each = refl
 more_alike gone (tail held value) alike piece next rest inner go on each = absurd alike
 more_alike gone (level map) alike piece next rest inner go on each = absurd alike
@@ -113,7 +120,8 @@ module _ (world other : World) (alike : (seat : ℕ) → NodesAlike (world seat)
   lookup_alike [] are seat = absurd are
   lookup_alike (piece ∷ []) are seat = last_alike (world seat) (other seat) (alike seat) piece are (λ found. lookup world (suc found) []) (λ found. lookup other (suc found) [])
   lookup_alike (piece ∷ next ∷ rest) are seat =
-      more_alike (world seat) (other seat) (alike seat) piece next rest are.0 (λ found. lookup world (suc found) (next ∷ rest)) (λ found. lookup other (suc found) (next ∷ rest)) (λ found. lookup_alike (next ∷ rest) are.1 (suc found))
+      more_alike (world seat) (other seat) (alike seat) piece next rest are.0 (λ found. lookup world (suc found) (next ∷ rest)) (λ found. lookup other (suc found) (next ∷ rest))
+      (λ found. lookup_alike (next ∷ rest) are.1 (suc found))
 
   -- As many keys stand behind each seat.
   pub behind_alike : (seat : ℕ) → keys_behind world seat ≡ keys_behind other seat
@@ -125,7 +133,8 @@ module _ (world other : World) (alike : (seat : ℕ) → NodesAlike (world seat)
 written_entries : (map : FinMap word_order ℕ) (piece was value : ℕ) → IsFinal piece → get map piece ≡ Some was → EntriesAlike map (insert map piece value)
 written_entries map piece was value final there = record {
   ends = λ other last. ⊎_elim
-      (λ same. ap (λ word. is_some (get map word)) same ∙ ap (λ (found : Option ℕ). is_some found) there ∙ ap (λ (found : Option ℕ). is_some found) (sym (get-insert_here map piece value)) ∙ ap (λ word. is_some (get (insert map piece value) word)) (sym same))
+      (λ same. ap (λ word. is_some (get map word)) same ∙ ap (λ (found : Option ℕ). is_some found) there ∙ ap (λ (found : Option ℕ). is_some found) (sym (get-insert_here map piece value)) ∙
+      ap (λ word. is_some (get (insert map piece value) word)) (sym same))
       (λ apart. ap (λ (found : Option ℕ). is_some found) (sym (get-insert_off map piece value other apart)))
       (cases_eq other piece);
   leads = λ other inner. sym (get-insert_off map piece value other (λ same. inner (ap (λ word. word % 256) same ∙ final)));
@@ -142,12 +151,14 @@ told_with Free piece value keys tells = tt
 told_with (Tail rest) piece value keys tells = tt
 told_with (Level told words) piece value keys tells = tells
 
-told_place : (arena : Arena) (place : Place) (value : ℕ) → IsPlace arena place → (keys : ℕ → ℕ) → ((at : ℕ) → LevelTells Same (child_at arena at) (keys at)) → (at : ℕ) → LevelTells Same (child_at (place_with arena place value) at) (keys at)
+told_place : (arena : Arena) (place : Place) (value : ℕ) → IsPlace arena place → (keys : ℕ → ℕ) → ((at : ℕ) → LevelTells Same (child_at arena at) (keys at)) →
+    (at : ℕ) → LevelTells Same (child_at (place_with arena place value) at) (keys at)
 told_place arena (Root piece) value is keys told at = told at
 told_place arena (Below there piece) value is keys told at = ⊎_elim
     (λ same. subst (λ (child : Child). LevelTells Same child (keys at)) (sym (child_at-same arena there (child_with (child_at arena there) piece value) (can-with arena there piece value is) at same))
     (told_with (child_at arena there) piece value (keys at) (subst (λ k. LevelTells Same (child_at arena k) (keys at)) same (told at))))
-    (λ apart. subst (λ (child : Child). LevelTells Same child (keys at)) (sym (child_at-other arena there (child_with (child_at arena there) piece value) (can-with arena there piece value is) at apart)) (told at))
+    (λ apart. subst (λ (child : Child). LevelTells Same child (keys at)) (sym (child_at-other arena there (child_with (child_at arena there) piece value)
+    (can-with arena there piece value is) at apart)) (told at))
     (cases_eq at there)
 
 module _ (arena : Arena) (is : IsArena arena) (key : List ℕ) (place : Place) (found : IsFound (world_of arena) key place) (value : ℕ) where

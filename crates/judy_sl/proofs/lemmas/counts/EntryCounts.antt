@@ -32,7 +32,8 @@ module _ (behind : ℕ × ℕ → ℕ) (word : ℕ) where
   below_past entry rest ascend most = below_none (entry ∷ rest) (from_first entry rest word ascend most)
 
 -- Those keys stand behind as many entries at the front as have lesser words.
-pub below_front : {K : Type 0} (part : ℕ × ℕ → List K) (word : ℕ) (entries : Pairs) → Ascends entries → keys_below (part_len part) entries word ≡ length (flat_map part (take (entries_below entries word) entries))
+pub below_front : {K : Type 0} (part : ℕ × ℕ → List K) (word : ℕ) (entries : Pairs) → Ascends entries →
+    keys_below (part_len part) entries word ≡ length (flat_map part (take (entries_below entries word) entries))
 below_front part word [] ascend = refl
 below_front part word (entry ∷ rest) ascend = ⊎_elim
     (λ (less : entry.0 < word).

@@ -1,6 +1,7 @@
 -- How many keys stand behind the entries of the first level below a word: these entries, and what the list of first pieces holds
 -- below it.
-use Rattle.std.proofs.Common.{◌≡◌, ◌≢◌, ℕ, suc, ◌+◌, ◌-◌, ◌<◌, ◌≤◌, ◌==◌, Bool, true, false, cond, nat_lt, ◌&&◌, T, is_lt, List, [], ◌∷◌, ◌++◌, length, filter, Option, Some, is_some, unwrap_or, refl, sym, ap, ◌∙◌, subst, arith, ⊎_elim, true≢false}
+use Rattle.std.proofs.Common.{◌≡◌, ◌≢◌, ℕ, suc, ◌+◌, ◌-◌, ◌<◌, ◌≤◌, ◌==◌, Bool, true, false, cond, nat_lt, ◌&&◌, T, is_lt, List, [], ◌∷◌, ◌++◌, length, filter, Option, Some}
+use Rattle.std.proofs.Common.{is_some, unwrap_or, refl, sym, ap, ◌∙◌, subst, arith, ⊎_elim, true≢false}
 use Rattle.std.specs.Ordering.{is_eq, eq_by_cmp}
 use Rattle.std.specs.List.{AllByRecursion, flat_map}
 use Rattle.std.specs.Cmp.{nat_cmp_total, tied_itself}
@@ -51,7 +52,8 @@ number_above pairs word all = ap (λ (found : Option ℕ). unwrap_or found 0) (f
 
 number_later : (pair : ℕ × ℕ) (rest : Pairs) (word : ℕ) → word ≢ pair.0 → number_in (pair ∷ rest) word ≡ number_in rest word
 number_later pair rest word apart =
-    ap (λ b. unwrap_or (cond b (Some pair.1) (find word_order word rest)) 0) (false_from_ne_true (eq_by_cmp word_order word pair.0) (λ tied. apart (same_from_tie nat_cmp-IsAntisymmetric word pair.0 tied)))
+    ap (λ b. unwrap_or (cond b (Some pair.1) (find word_order word rest)) 0) (false_from_ne_true (eq_by_cmp word_order word pair.0)
+    (λ tied. apart (same_from_tie nat_cmp-IsAntisymmetric word pair.0 tied)))
 
 -- Without its first pair a list holds nothing for that word, and the same for the others.
 number_rest : (pair : ℕ × ℕ) (rest : Pairs) → Ascends (pair ∷ rest) → (word : ℕ) → number_in rest word ≡ cond (word == pair.0) 0 (number_in (pair ∷ rest) word)
@@ -130,7 +132,9 @@ module _ {K : Type 0} (part : ℕ × ℕ → List K) where
   extras_number : (level : Pairs) (word : ℕ) → number_in (extras each_leads (part_len part) level) word ≡ length (part_of part word (find word_order word level)) - 1
   extras_number [] word = refl
   extras_number (entry ∷ rest) word =
-      elim (eq_by_cmp word_order word entry.0) as (λ b. eq_by_cmp word_order word entry.0 ≡ b → unwrap_or (cond b (Some (part_len part entry - 1)) (find word_order word (extras each_leads (part_len part) rest))) 0 ≡ length (part_of part word (cond b (Some entry.1) (find word_order word rest))) - 1) [
+      elim (eq_by_cmp word_order word entry.0) as (λ b. eq_by_cmp word_order word entry.0 ≡ b → unwrap_or
+      (cond b (Some (part_len part entry - 1)) (find word_order word (extras each_leads (part_len part) rest))) 0 ≡
+      length (part_of part word (cond b (Some entry.1) (find word_order word rest))) - 1) [
         | true ↦ λ tied. ap (λ w. length (part (w, entry.1)) - 1) (sym (same_from_tie nat_cmp-IsAntisymmetric word entry.0 tied))
         | false ↦ λ apart. extras_number rest word
       ] refl
@@ -172,17 +176,20 @@ module _ (piece : ℕ) where
         → length (filter begin_so (flat_map (entry_keys world) level)) ≡ length (part_of (entry_keys world) piece (find word_order piece level))
     own_keys [] ascend are = refl
     own_keys (entry ∷ rest) ascend are =
-        let split = ap length (filter-append begin_so (entry_keys world entry) (flat_map (entry_keys world) rest)) ∙ length-append (filter begin_so (entry_keys world entry)) (filter begin_so (flat_map (entry_keys world) rest)) in
+        let split = ap length (filter-append begin_so (entry_keys world entry) (flat_map (entry_keys world) rest)) ∙
+        length-append (filter begin_so (entry_keys world entry)) (filter begin_so (flat_map (entry_keys world) rest)) in
         ⊎_elim
         (λ (same : piece ≡ entry.0).
         let all = ap length (all_begin (entry_keys world entry) (subst (λ word. AllByRecursion (λ (pair : List ℕ × ℕ). Begun word pair.0) (entry_keys world entry)) (sym same) are.0.1)) in
         let none = ap length (above_none rest (subst (λ low. AllFrom rest (suc low)) (sym same) (head_from entry rest ascend)) are.1) in
-        let own = ap (λ b. length (part_of (entry_keys world) piece (cond b (Some entry.1) (find word_order piece rest)))) (ap (eq_by_cmp word_order piece) (sym same) ∙ ap is_eq (tied_itself nat_cmp_total piece)) ∙ ap (λ word. length (entry_keys world (word, entry.1))) same in
+        let own = ap (λ b. length (part_of (entry_keys world) piece (cond b (Some entry.1) (find word_order piece rest))))
+        (ap (eq_by_cmp word_order piece) (sym same) ∙ ap is_eq (tied_itself nat_cmp_total piece)) ∙ ap (λ word. length (entry_keys world (word, entry.1))) same in
         omega arith)
         (λ apart.
         let none = ap length (none_begin entry.0 (λ same. apart (sym same)) (entry_keys world entry) are.0.1) in
         let later = own_keys rest (rest_sorted word_order entry rest ascend) are.1 in
-        let own = ap (λ b. length (part_of (entry_keys world) piece (cond b (Some entry.1) (find word_order piece rest)))) (false_from_ne_true (eq_by_cmp word_order piece entry.0) (λ tied. apart (same_from_tie nat_cmp-IsAntisymmetric piece entry.0 tied))) in
+        let own = ap (λ b. length (part_of (entry_keys world) piece (cond b (Some entry.1) (find word_order piece rest))))
+        (false_from_ne_true (eq_by_cmp word_order piece entry.0) (λ tied. apart (same_from_tie nat_cmp-IsAntisymmetric piece entry.0 tied))) in
         omega arith)
         (cases_eq piece entry.0)
 
@@ -212,7 +219,8 @@ module _ (arena : Arena) (is : IsArena arena) where
       let head = pieces-head key in
       let first : piece_of key ≡ piece = (let both : piece_of key ∷ head.0 ≡ piece ∷ one.rest = sym head.1 ∙ spells in cc) in
       some_there (filter (λ other. piece_of other == piece) (keys (map_of arena))) key
-      (Among-filter (λ other. piece_of other == piece) (keys (map_of arena)) key (among_keys byte_order_total byte_order_same (map_of arena) key (ap (λ (found : Option ℕ). is_some found) held)) (eq-eqb (piece_of key) piece first))
+      (Among-filter (λ other. piece_of other == piece) (keys (map_of arena)) key (among_keys byte_order_total byte_order_same (map_of arena) key
+      (ap (λ (found : Option ℕ). is_some found) held)) (eq-eqb (piece_of key) piece first))
 
   -- Behind each entry stands a key.
   pub entry_some : (piece at : ℕ) → get arena.root.map piece ≡ Some at → 1 ≤ length (entry_keys (world_of arena) (piece, at))
@@ -239,7 +247,8 @@ module _ (arena : Arena) (is : IsArena arena) where
 
   weighed : AreWeighed each_leads (part_len (entry_keys (world_of arena))) (entries arena.root.map)
   weighed =
-      each_found word_order nat_cmp_total nat_cmp-IsAntisymmetric (λ entry. (1 ≤ length (entry_keys (world_of arena) entry)) × (each_leads entry ≡ false → length (entry_keys (world_of arena) entry) ≡ 1)) (entries arena.root.map) (entries_sorted arena.root.map)
+      each_found word_order nat_cmp_total nat_cmp-IsAntisymmetric (λ entry. (1 ≤ length (entry_keys (world_of arena) entry)) ×
+      (each_leads entry ≡ false → length (entry_keys (world_of arena) entry) ≡ 1)) (entries arena.root.map) (entries_sorted arena.root.map)
       (λ piece at found. (entry_some piece at (get-entries arena.root.map piece ∙ found), λ never. absurd (true≢false never)))
 
   module _ (firsts : FinMap word_order ℕ) (are : AreFirsts (map_of arena) firsts) where
@@ -257,5 +266,6 @@ module _ (arena : Arena) (is : IsArena arena) where
         let part = entry_keys (world_of arena) in
         let all = keys_below_is each_leads (part_len part) (entries arena.root.map) word weighed in
         let entry = entries_below_is arena.root.map word in
-        let sums = same_sums word (extras each_leads (part_len part) (entries arena.root.map)) (subst T (sym (extras_sorted part (entries arena.root.map))) (entries_sorted arena.root.map)) (entries firsts) (entries_sorted firsts) same_numbers in
+        let sums = same_sums word (extras each_leads (part_len part) (entries arena.root.map)) (subst T (sym (extras_sorted part (entries arena.root.map))) (entries_sorted arena.root.map))
+        (entries firsts) (entries_sorted firsts) same_numbers in
         omega arith

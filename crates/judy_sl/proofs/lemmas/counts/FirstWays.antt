@@ -29,7 +29,8 @@ use Rattle.judy_sl.proofs.lemmas.inserts.Written.{behind-leads}
 use Rattle.judy_sl.proofs.lemmas.inserts.Filled.{world-same}
 use Rattle.judy_sl.proofs.lemmas.seats.Maps.{get-map, map_written, map_removed, empty-map}
 use Rattle.judy_sl.proofs.lemmas.seats.Keeping.{map-written, get-there}
-use Rattle.judy_sl.proofs.lemmas.counts.Beginnings.{taken_out, put_back, beginning_some, beginning_none, firsts_first, firsts_more, firsts_last, firsts_less, firsts_written, number_some, number_there, no_firsts}
+use Rattle.judy_sl.proofs.lemmas.counts.Beginnings.{taken_out, put_back, beginning_some, beginning_none, firsts_first, firsts_more, firsts_last, firsts_less, firsts_written}
+use Rattle.judy_sl.proofs.lemmas.counts.Beginnings.{number_some, number_there, no_firsts}
 
 held_value : (all : FinMap byte_order ℕ) (key : List ℕ) → IsTrue (contains_key all key) → (value : ℕ) × (get all key ≡ Some value)
 held_value all key held = by (get all key) refl held
@@ -140,7 +141,8 @@ module _ (arena after : Arena) (key : List ℕ) (is_key : IsStringKey key) (none
       subst (λ (all : FinMap byte_order ℕ). AreFirsts all (raised firsts (piece_of key))) (sym (added_map place added)) (firsts_more (map_of arena) key 0 none firsts held are)
 
   -- One is refused whose way ends in the first level, or comes in.
-  pub tried_first : beginning (map_of arena) (piece_of key) ≡ 0 → {E : Type 0} (result : Result Place E) → IfOk result (λ made. IsAdded arena after key made) → OnErr result (IsSame arena after) → AreFirsts (map_of after) firsts
+  pub tried_first : beginning (map_of arena) (piece_of key) ≡ 0 → {E : Type 0} (result : Result Place E) → IfOk result (λ made. IsAdded arena after key made) →
+      OnErr result (IsSame arena after) → AreFirsts (map_of after) firsts
   tried_first nothing (Ok place) added refused = added_first nothing place added
   tried_first nothing (Err error) added refused = firsts_same arena after refused firsts are
 
@@ -158,7 +160,10 @@ module _ (arena after : Arena) (key : List ℕ) (is_key : IsStringKey key) (shru
     where
       by : (held : Option ℕ) → get (map_of arena) key ≡ held → (value : ℕ) × AreFirsts (insert (map_of after) key value) firsts
       by None none = absurd (true≢false (found ∙ ap (λ (one : Option ℕ). is_some one) (sym (get-map arena key is_key) ∙ none)))
-      by (Some value) there = (value, subst (λ (all : FinMap byte_order ℕ). AreFirsts all firsts) (sym (put_back (map_of arena) key value there) ∙ ap (λ (all : FinMap byte_order ℕ). insert all key value) (sym map_is)) are)
+      by (Some value) there = (
+        value,
+        subst (λ (all : FinMap byte_order ℕ). AreFirsts all firsts) (sym (put_back (map_of arena) key value there) ∙ ap (λ (all : FinMap byte_order ℕ). insert all key value) (sym map_is)) are,
+      )
 
   -- It wasn't there.
   pub gone_nothing : false ≡ is_some (lookup (world_of arena) 0 (pieces key)) → AreFirsts (map_of after) firsts
@@ -188,6 +193,7 @@ module _ (arena after : Arena) (key : List ℕ) (is_key : IsStringKey key) (shru
       gone_less = let was = gone_value found in firsts_less (map_of after) key was.0 gone_none firsts held was.1
 
 -- An arena without an entry.
-pub firsts_new : (arena : Arena) → arena.levels.slots ≡ [] → arena.tails ≡ no_tails → arena.root ≡ empty_array 18446744073709551615 → (firsts : FinMap word_order ℕ) → firsts ≡ empty → AreFirsts (map_of arena) firsts
+pub firsts_new : (arena : Arena) → arena.levels.slots ≡ [] → arena.tails ≡ no_tails → arena.root ≡ empty_array 18446744073709551615 → (firsts : FinMap word_order ℕ) →
+    firsts ≡ empty → AreFirsts (map_of arena) firsts
 firsts_new arena no_levels nothing no_root firsts none =
     subst (AreFirsts (map_of arena)) (sym none) (subst (λ (all : FinMap byte_order ℕ). AreFirsts all empty) (sym (empty-map arena no_levels nothing no_root)) no_firsts)

@@ -10,7 +10,7 @@ use Rattle.judy_sl.specs.declared.arena.Place.{Place}
 use Rattle.judy_sl.specs.declared.branches.Branch.{Branch}
 use Rattle.judy_sl.specs.Pieces.{pieces, AreInner, SpellKey}
 use Rattle.judy_sl.specs.World.{gone, tail, level, lookup, walk}
-use Rattle.judy_sl.specs.Worlds.{AllLed}
+use Rattle.judy_sl.specs.WorldInvariants.{AllLed}
 use Rattle.judy_sl.specs.Arenas.{world_of, node_of, child_at, IsArena}
 use Rattle.judy_sl.specs.Ways.{left_of, levels_passed}
 use Rattle.judy_sl.specs.Counted.{keys_behind, AreCountedBut}
@@ -28,7 +28,9 @@ use Rattle.judy_sl.proofs.lemmas.counts.GraftedLevels.{IsBetween, LevelMade}
 abbrev pub StandsBehind : (before after : Arena) → IsArena before → IsArena after → Type 0
 StandsBehind before after was is = (at told : ℕ) (words : ArrayOf word_order) → child_at before at ≡ Level told words → IsLevelChild (child_at after at) × (is.behind (suc at) ≡ was.behind (suc at))
 
-module _ (before after : Arena) (key : List ℕ) (from : Place) (at left : ℕ) (branch : Branch) (graft : IsGraft before key from at left branch) (was : IsArena before) (is : IsArena after) (led : AllLed (world_of after)) (change : IsChange (world_of before) (world_of after) (pieces key) (Some 0)) (stands : StandsBehind before after was is) (made : (k : ℕ) → LevelMade before graft.clash.leads.front graft.clash.held (pieces (left_of key left)) (is.behind (suc k)) k (child_at after k)) where
+module _ (before after : Arena) (key : List ℕ) (from : Place) (at left : ℕ) (branch : Branch) (graft : IsGraft before key from at left branch) (was : IsArena before)
+    (is : IsArena after) (led : AllLed (world_of after)) (change : IsChange (world_of before) (world_of after) (pieces key) (Some 0)) (stands : StandsBehind before after was is)
+    (made : (k : ℕ) → LevelMade before graft.clash.leads.front graft.clash.held (pieces (left_of key left)) (is.behind (suc k)) k (child_at after k)) where
   abbrev front : List ℕ
   front = graft.clash.leads.front
 
@@ -44,7 +46,8 @@ module _ (before after : Arena) (key : List ℕ) (from : Place) (at left : ℕ) 
       let reached = all-reached (world_of after) is.behind is.is_world led k (λ none. level-there (child_at after k) there.0 none) in (
         there.0,
         λ ps inner way.
-            let same : reached.front ≡ ps = sym (reached-behind (world_of after) is.behind is.is_world (suc k) reached) ∙ there.1 ∙ reached-behind (world_of before) was.behind was.is_world (suc k) (record { front = ps; inner = inner; way = way }) in
+            let same : reached.front ≡ ps = sym (reached-behind (world_of after) is.behind is.is_world (suc k) reached) ∙ there.1 ∙
+            reached-behind (world_of before) was.behind was.is_world (suc k) (record { front = ps; inner = inner; way = way }) in
             subst (λ f. walk (world_of after) 0 f ≡ Some (suc k)) same reached.way,
       )
 
@@ -99,7 +102,8 @@ module _ (before after : Arena) (key : List ℕ) (from : Place) (at left : ℕ) 
         keys-reached (world_of after) reached.front (suc k) reached.way
         ∙ keys-come (world_of before) (world_of after) key 0 change reached.front reached.inner graft.is_key absent between.new_more parts
         ∙ ap (λ f. suc (keys_after (world_of before) f)) front-is
-        ∙ ap (λ n. suc n) (keys-tail (world_of before) front (suc at) graft.clash.leads.way between.mid between.held_more graft.clash.value (graft.clash.is_tail ∙ ap (λ ps. tail ps graft.clash.value) between.held_is) held-left)
+        ∙ ap (λ n. suc n) (keys-tail (world_of before) front (suc at) graft.clash.leads.way between.mid between.held_more graft.clash.value
+        (graft.clash.is_tail ∙ ap (λ ps. tail ps graft.clash.value) between.held_is) held-left)
 
   came-made : (k : ℕ) (child : Child) → child_at after k ≡ child → LevelMade before front held new (is.behind (suc k)) k child → LevelCame before after k child
   came-made k Free e made_is = tt

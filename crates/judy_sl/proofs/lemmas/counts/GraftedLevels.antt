@@ -30,7 +30,8 @@ made-was before front held new place at Free was = tt
 made-was before front held new place at (Tail rest) was = tt
 made-was before front held new place at (Level told words) was = inl was
 
-pub made-then : (before middle : Arena) (front held new place : List ℕ) (at : ℕ) (child : Child) → LevelMade before front held new place at (child_at middle at) → LevelWas middle at child → LevelMade before front held new place at child
+pub made-then : (before middle : Arena) (front held new place : List ℕ) (at : ℕ) (child : Child) → LevelMade before front held new place at (child_at middle at) →
+    LevelWas middle at child → LevelMade before front held new place at child
 made-then before middle front held new place at Free made was = tt
 made-then before middle front held new place at (Tail rest) made was = tt
 made-then before middle front held new place at (Level told words) made was = subst (LevelMade before front held new place at) was.1 made

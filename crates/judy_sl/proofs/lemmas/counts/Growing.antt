@@ -9,7 +9,7 @@ use Rattle.judy_sl.specs.declared.arena.Arena.{Arena}
 use Rattle.judy_sl.specs.declared.arena.Place.{Place}
 use Rattle.judy_sl.specs.declared.arena.Place.TheVariants.{Root, Below}
 use Rattle.judy_sl.specs.World.{World, gone, level}
-use Rattle.judy_sl.specs.Worlds.{AllLed}
+use Rattle.judy_sl.specs.WorldInvariants.{AllLed}
 use Rattle.judy_sl.specs.Arenas.{world_of, node_of, child_at, IsArena}
 use Rattle.judy_sl.specs.Children.{child_with}
 use Rattle.judy_sl.specs.Places.{place_with}
@@ -92,9 +92,12 @@ module _ (arena : Arena) (place : Place) (value : ℕ) (map : FinMap word_order 
   grows-place absent =
       let seat = seat_of place in
       let node = node_with (world_of arena seat) (piece_at place) value in
-      let kept : KeepsEntries (world_of arena seat) node = subst (λ n. KeepsEntries n (node_with n (piece_at place) value)) (sym is_level) (keeps-insert map (piece_at place) value (λ at inner entry. none-some at (sym absent ∙ entry))) in
+      let kept : KeepsEntries (world_of arena seat) node = subst (λ n. KeepsEntries n (node_with n (piece_at place) value)) (sym is_level)
+      (keeps-insert map (piece_at place) value (λ at inner entry. none-some at (sym absent ∙ entry))) in
       record {
-        keeps = subst (λ (w : World). (s : ℕ) → KeepsEntries (world_of arena s) (w s)) (sym (world-with_place arena place value (level-place arena place map is_level))) (keeps-set (world_of arena) seat node kept);
+        keeps =
+            subst (λ (w : World). (s : ℕ) → KeepsEntries (world_of arena s) (w s)) (sym (world-with_place arena place value (level-place arena place map is_level)))
+            (keeps-set (world_of arena) seat node kept);
         was = was-place place is_level;
       }
 
@@ -121,6 +124,9 @@ module _ (before : Arena) (key : List ℕ) (place : Place) (left : ℕ) (gap : I
       grows-then before placed after (grows-put before placed rest at put) second
 
 -- Each level that its way has passed tells one key less than stand behind it.
-pub gap-counted : (before : Arena) (is : IsArena before) (led : AllLed (world_of before)) (counted : AreCounted before) (key : List ℕ) (is_key : IsStringKey key) (place : Place) (left : ℕ) (gap : IsGap (world_of before) key place left) (after : Arena) (made : Place) (added : IsAdded before after key made) (grows : GrowsOn before after) → AreCountedBut after (levels_passed (world_of before) key)
+pub gap-counted : (before : Arena) (is : IsArena before) (led : AllLed (world_of before)) (counted : AreCounted before) (key : List ℕ) (is_key : IsStringKey key)
+    (place : Place) (left : ℕ) (gap : IsGap (world_of before) key place left) (after : Arena) (made : Place) (added : IsAdded before after key made) (grows : GrowsOn before after) →
+    AreCountedBut after (levels_passed (world_of before) key)
 gap-counted before is led counted key is_key place left gap after made added grows =
-    counted-but before after is added.is_arena led counted key is_key 0 added.change (gap-none (world_of before) key place left gap) (stays-grown before after grows) (λ at. came-was before after at (child_at after at) (grows.was at))
+    counted-but before after is added.is_arena led counted key is_key 0 added.change (gap-none (world_of before) key place left gap) (stays-grown before after grows)
+    (λ at. came-was before after at (child_at after at) (grows.was at))

@@ -3,7 +3,7 @@ use Rattle.std.proofs.Common.{◌≡◌, ◌≢◌, ℕ, zero, suc, ◌≤◌, L
 use Rattle.std.proofs.lemmas.List.{length-append}
 use Rattle.judy_sl.specs.Pieces.{AreInner}
 use Rattle.judy_sl.specs.World.{World, gone, level, walk, step_node, step_entry}
-use Rattle.judy_sl.specs.Worlds.{IsWorld, IsLed, AllLed}
+use Rattle.judy_sl.specs.WorldInvariants.{IsWorld, IsLed, AllLed}
 use Rattle.judy_sl.proofs.lemmas.pieces.Ways.{step-parts, walk-more, walk-behind}
 use Rattle.judy_sl.proofs.lemmas.pieces.OnWay.{inner-more}
 use Rattle.judy_sl.proofs.lemmas.seats.Led.{KeepsEntries}

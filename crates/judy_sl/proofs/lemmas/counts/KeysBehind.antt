@@ -45,9 +45,11 @@ rest-key (piece ∷ front) rest key inner is e = elim (cases_lt (length key) 8) 
 
 -- Functions that answer alike at each key have one table.
 pub table_alike : (one other : List ℕ → Option ℕ) → ((key : List ℕ) → IsStringKey key → one key ≡ other key) → table string_keys one ≡ table string_keys other
-table_alike one other alike = same_map byte_order_total byte_order_same (table string_keys one) (table string_keys other) (λ key. by_get key (get (table string_keys one) key) refl (get (table string_keys other) key) refl)
+table_alike one other alike =
+    same_map byte_order_total byte_order_same (table string_keys one) (table string_keys other) (λ key. by_get key (get (table string_keys one) key) refl (get (table string_keys other) key) refl)
   where
-    by_get : (key : List ℕ) (x : Option ℕ) → get (table string_keys one) key ≡ x → (y : Option ℕ) → get (table string_keys other) key ≡ y → get (table string_keys one) key ≡ get (table string_keys other) key
+    by_get : (key : List ℕ) (x : Option ℕ) → get (table string_keys one) key ≡ x → (y : Option ℕ) → get (table string_keys other) key ≡ y →
+        get (table string_keys one) key ≡ get (table string_keys other) key
     by_get key None e None f = e ∙ sym f
     by_get key (Some v) e y f =
         let is = (table_some string_keys-all one key v e).0 in
@@ -88,12 +90,14 @@ module _ (world other : World) (key : List ℕ) (value : ℕ) (change : IsChange
       let whole : front ++ pieces left.key ≡ pieces key = ap (λ ps. front ++ ps) left.spells ∙ sym parts in
       let absent : get (table string_keys (found_after world front)) left.key ≡ None = get-table string_keys-all (found_after world front) left.key left.is_key ∙ ap (lookup world 0) whole ∙ none in
       let more = len-added (table string_keys (found_after world front)) left.key value absent in
-      ap (λ (m : FinMap byte_order ℕ). len m) (table_insert string_keys-all (found_after world front) (found_after other front) left.key value left.is_key (ap (lookup other 0) whole ∙ change.at_key) (λ r is_r ne. off-key r is_r (λ same. ne (
+      ap (λ (m : FinMap byte_order ℕ). len m) (table_insert string_keys-all (found_after world front) (found_after other front) left.key value left.is_key
+      (ap (lookup other 0) whole ∙ change.at_key) (λ r is_r ne. off-key r is_r (λ same. ne (
       pieces_same r left.key (text_of_key r is_r) (text_of_key left.key left.is_key) (append_cancel_left front (pieces r) (pieces left.key) (same ∙ sym whole))))))
       ∙ more ∙ omega arith
 
 -- Where a key is there, some go on behind its first pieces.
-pub keys-some : (world : World) (front : List ℕ) → AreInner front → (key : List ℕ) → IsStringKey key → (rest : List ℕ) → pieces key ≡ front ++ rest → is_some (lookup world 0 (pieces key)) ≡ true → 1 ≤ keys_after world front
+pub keys-some : (world : World) (front : List ℕ) → AreInner front → (key : List ℕ) → IsStringKey key → (rest : List ℕ) → pieces key ≡ front ++ rest →
+    is_some (lookup world 0 (pieces key)) ≡ true → 1 ≤ keys_after world front
 keys-some world front inner key is rest parts there = elim (cases_lt (keys_after world front) 1) [
   | inl none ↦
       let left = rest-key front rest key inner is parts in
@@ -112,7 +116,8 @@ some-behind [] ps some = some
 some-behind (piece ∷ front) ps some = λ e. cc
 
 -- Behind a part of what a tail holds goes on its key alone.
-module _ (world : World) (front : List ℕ) (seat : ℕ) (way : walk world 0 front ≡ Some seat) (mid rest : List ℕ) (value : ℕ) (is_tail : world seat ≡ tail (mid ++ rest) value) (left : SpellKey rest) where
+module _ (world : World) (front : List ℕ) (seat : ℕ) (way : walk world 0 front ≡ Some seat) (mid rest : List ℕ) (value : ℕ) (is_tail : world seat ≡ tail (mid ++ rest) value)
+    (left : SpellKey rest) where
   tail-found : (r : List ℕ) → found_after world (front ++ mid) r ≡ look_in world (tail (mid ++ rest) value) (mid ++ pieces r)
   tail-found r = by_head (mid ++ pieces r) refl
     where
@@ -135,11 +140,13 @@ module _ (world : World) (front : List ℕ) (seat : ℕ) (way : walk world 0 fro
   others-none : (r : List ℕ) → IsStringKey r → r ≢ left.key → found_after world (front ++ mid) r ≡ None
   others-none r is ne =
       tail-found r
-      ∙ tail-other world (mid ++ rest) (mid ++ pieces r) value (λ same. ne (pieces_same r left.key (text_of_key r is) (text_of_key left.key left.is_key) (append_cancel_left mid (pieces r) rest (sym same) ∙ sym left.spells)))
+      ∙ tail-other world (mid ++ rest) (mid ++ pieces r) value (λ same. ne (pieces_same r left.key (text_of_key r is) (text_of_key left.key left.is_key)
+      (append_cancel_left mid (pieces r) rest (sym same) ∙ sym left.spells)))
 
   pub keys-tail : keys_after world (front ++ mid) ≡ 1
   keys-tail =
       let none : table string_keys (λ r. None) ≡ empty = table_none string_keys-all (λ r. None) (λ r is. refl) in
-      ap (λ (m : FinMap byte_order ℕ). len m) (table_insert string_keys-all (λ r. None) (found_after world (front ++ mid)) left.key value left.is_key held-found others-none ∙ ap (λ (m : FinMap byte_order ℕ). insert m left.key value) none)
+      ap (λ (m : FinMap byte_order ℕ). len m) (table_insert string_keys-all (λ r. None) (found_after world (front ++ mid)) left.key value left.is_key held-found others-none ∙
+      ap (λ (m : FinMap byte_order ℕ). insert m left.key value) none)
       ∙ len-added empty left.key value (get-empty byte_order left.key)
       ∙ ap (λ n. n + 1) (len-empty byte_order ℕ)

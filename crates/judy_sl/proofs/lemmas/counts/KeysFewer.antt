@@ -11,7 +11,7 @@ use Rattle.judy_model.specs.Keys.{word_order}
 use Rattle.judy_model.proofs.lemmas.orders.Orders.{same_from_tie}
 use Rattle.judy_sl.specs.Pieces.{IsInner, piece_bytes}
 use Rattle.judy_sl.specs.World.{World, level}
-use Rattle.judy_sl.specs.Worlds.{IsWorld}
+use Rattle.judy_sl.specs.WorldInvariants.{IsWorld}
 use Rattle.judy_sl.specs.Behind.{map_behind, entry_keys}
 use Rattle.judy_sl.specs.Counted.{keys_behind}
 use Rattle.judy_sl.proofs.lemmas.seats.Behind.{entries_behind}
@@ -21,7 +21,8 @@ found-within : (f : ℕ × ℕ → List (List ℕ × ℕ)) (pairs : List (ℕ ×
 found-within f [] piece at found = absurd (none-some at found)
 found-within f (pair ∷ rest) piece at found =
     let long = ap length (flat_map-cons f pair rest) ∙ length-append (f pair) (flat_map f rest) in
-    elim (eq_by_cmp word_order piece pair.0) as (λ b. eq_by_cmp word_order piece pair.0 ≡ b → cond b (Some pair.1) (find word_order piece rest) ≡ Some at → length (f (piece, at)) ≤ length (flat_map f (pair ∷ rest))) [
+    elim (eq_by_cmp word_order piece pair.0) as (λ b. eq_by_cmp word_order piece pair.0 ≡ b → cond b (Some pair.1) (find word_order piece rest) ≡ Some at →
+    length (f (piece, at)) ≤ length (flat_map f (pair ∷ rest))) [
       | true ↦ λ tied is.
           let key = same_from_tie nat_cmp-IsAntisymmetric piece pair.0 tied in
           let value : pair.1 ≡ at = cc in
@@ -34,12 +35,14 @@ found-within f (pair ∷ rest) piece at found =
 
 inner-length : (world : World) (piece at : ℕ) → IsInner piece → length (entry_keys world (piece, at)) ≡ keys_behind world (suc at)
 inner-length world piece at inner =
-    ap (λ b. length {A = List ℕ × ℕ} (cond b ((piece_bytes piece, at) ∷ []) (map (λ (pair : List ℕ × ℕ). (piece_bytes piece ++ pair.0, pair.1)) (entries (map_behind world (suc at)))))) (ne_eqb (piece % 256) 0 inner)
+    ap (λ b. length {A = List ℕ × ℕ} (cond b ((piece_bytes piece, at) ∷ []) (map (λ (pair : List ℕ × ℕ). (piece_bytes piece ++ pair.0, pair.1)) (entries (map_behind world (suc at))))))
+    (ne_eqb (piece % 256) 0 inner)
     ∙ length-map (entries (map_behind world (suc at))) (λ (pair : List ℕ × ℕ). (piece_bytes piece ++ pair.0, pair.1))
     ∙ sym (len-entries (map_behind world (suc at)))
 
 -- The keys behind an entry's child are some of those behind the level.
-pub fewer-behind : (world : World) (behind : ℕ → List ℕ) → IsWorld world behind → (seat : ℕ) (words : FinMap word_order ℕ) → world seat ≡ level words → (piece at : ℕ) → get words piece ≡ Some at → IsInner piece → keys_behind world (suc at) ≤ keys_behind world seat
+pub fewer-behind : (world : World) (behind : ℕ → List ℕ) → IsWorld world behind → (seat : ℕ) (words : FinMap word_order ℕ) → world seat ≡ level words → (piece at : ℕ) →
+    get words piece ≡ Some at → IsInner piece → keys_behind world (suc at) ≤ keys_behind world seat
 fewer-behind world behind is seat words here piece at entry inner =
     let within = found-within (entry_keys world) (entries words) piece at (sym (get-entries words piece) ∙ entry) in
     let one = inner-length world piece at inner in

@@ -1,5 +1,6 @@
 -- How many keys behind a seat are less than the rest of a key, or, where that itself counts, not above it, by what stands at the seat.
-use Rattle.std.proofs.Common.{◌≡◌, ℕ, suc, ◌+◌, ◌<◌, ◌≤◌, Bool, true, false, cond, List, [], ◌∷◌, ◌++◌, map, length, drop, filter, Option, None, Some, Equal, Greater, refl, sym, ap, ◌∙◌, arith, is_lt, is_le}
+use Rattle.std.proofs.Common.{◌≡◌, ℕ, suc, ◌+◌, ◌<◌, ◌≤◌, Bool, true, false, cond, List, [], ◌∷◌, ◌++◌, map, length, drop, filter, Option, None, Some, Equal, Greater, refl, sym}
+use Rattle.std.proofs.Common.{ap, ◌∙◌, arith, is_lt, is_le}
 use Rattle.std.specs.Ordering.{ordering_then}
 use Rattle.std.specs.Int.{from_bool}
 use Rattle.std.specs.List.{AllByRecursion}
@@ -17,7 +18,7 @@ use Rattle.judy_sums.proofs.Parts.{AreParts, count_parts}
 use Rattle.judy_sl.specs.declared.arena.Arena.{Arena}
 use Rattle.judy_sl.specs.Pieces.{piece_of, pieces, piece_bytes, IsText}
 use Rattle.judy_sl.specs.World.{World, tail, level}
-use Rattle.judy_sl.specs.Worlds.{IsWorld}
+use Rattle.judy_sl.specs.WorldInvariants.{IsWorld}
 use Rattle.judy_sl.specs.Arenas.{world_of, IsArena}
 use Rattle.judy_sl.specs.Behind.{map_behind, entry_keys}
 use Rattle.judy_sl.specs.Counted.{ranked}
@@ -54,7 +55,8 @@ pairs_before itself key pairs = length (filter (before itself key) pairs)
 pub keys_that : (test : List ℕ → Bool) (pairs : List (List ℕ × ℕ)) → length (filter test (map (λ pair. pair.0) pairs)) ≡ length (filter (λ pair. test pair.0) pairs)
 keys_that test [] = refl
 keys_that test (pair ∷ rest) =
-    elim (test pair.0) as (λ b. length (cond b (pair.0 ∷ filter test (map (λ one. one.0) rest)) (filter test (map (λ one. one.0) rest))) ≡ length (cond b (pair ∷ filter (λ one. test one.0) rest) (filter (λ one. test one.0) rest))) [
+    elim (test pair.0) as (λ b. length (cond b (pair.0 ∷ filter test (map (λ one. one.0) rest)) (filter test (map (λ one. one.0) rest))) ≡
+    length (cond b (pair ∷ filter (λ one. test one.0) rest) (filter (λ one. test one.0) rest))) [
       | true ↦ ap suc (keys_that test rest)
       | false ↦ keys_that test rest
     ]
@@ -81,7 +83,8 @@ one_pair pair true = refl
 one_pair pair false = refl
 
 -- At a tail its one key may be.
-pub rank_tail : (itself : Bool) (arena : Arena) → IsArena arena → (at : ℕ) (held : List ℕ) (value : ℕ) → world_of arena (suc at) ≡ tail (pieces held) value → IsText held → (key : List ℕ) → ranked itself (map_behind (world_of arena) (suc at)) key ≡ one_if (is_beyond itself (byte_order held key))
+pub rank_tail : (itself : Bool) (arena : Arena) → IsArena arena → (at : ℕ) (held : List ℕ) (value : ℕ) → world_of arena (suc at) ≡ tail (pieces held) value →
+    IsText held → (key : List ℕ) → ranked itself (map_behind (world_of arena) (suc at)) key ≡ one_if (is_beyond itself (byte_order held key))
 rank_tail itself arena is at held value here text key =
     rank_pairs itself (map_behind (world_of arena) (suc at)) key
     ∙ ap (pairs_before itself key) (tail_entries arena is at held value here text)
@@ -93,8 +96,10 @@ rank_tail itself arena is at held value here text key =
 before_led : (itself : Bool) (front key : List ℕ) (pairs : List (List ℕ × ℕ)) → pairs_before itself (front ++ key) (led_pairs front pairs) ≡ pairs_before itself key pairs
 before_led itself front key [] = refl
 before_led itself front key (pair ∷ rest) =
-    ap (λ b. length (cond b ((front ++ pair.0, pair.1) ∷ filter (before itself (front ++ key)) (led_pairs front rest)) (filter (before itself (front ++ key)) (led_pairs front rest)))) (ap (is_beyond itself) (order-front front pair.0 key))
-    ∙ elim (is_beyond itself (byte_order pair.0 key)) as (λ b. length (cond b ((front ++ pair.0, pair.1) ∷ filter (before itself (front ++ key)) (led_pairs front rest)) (filter (before itself (front ++ key)) (led_pairs front rest))) ≡ length (cond b (pair ∷ filter (before itself key) rest) (filter (before itself key) rest))) [
+    ap (λ b. length (cond b ((front ++ pair.0, pair.1) ∷ filter (before itself (front ++ key)) (led_pairs front rest)) (filter (before itself (front ++ key)) (led_pairs front rest))))
+    (ap (is_beyond itself) (order-front front pair.0 key))
+    ∙ elim (is_beyond itself (byte_order pair.0 key)) as (λ b. length (cond b ((front ++ pair.0, pair.1) ∷ filter (before itself (front ++ key)) (led_pairs front rest))
+    (filter (before itself (front ++ key)) (led_pairs front rest))) ≡ length (cond b (pair ∷ filter (before itself key) rest) (filter (before itself key) rest))) [
       | true ↦ ap suc (before_led itself front key rest)
       | false ↦ before_led itself front key rest
     ]
@@ -130,12 +135,14 @@ module _ (itself : Bool) (key : List ℕ) (text : IsText key) where
 
   module _ {world : World} {behind : ℕ → List ℕ} (is : IsWorld world behind) (seat : ℕ) (words : FinMap word_order ℕ) (here : world seat ≡ level words) where
     -- Those behind entries with lesser pieces count, and what counts behind the entry of the key's own piece.
-    level_split : ranked itself (map_behind world seat) key ≡ keys_below (part_len (entry_keys world)) (entries words) (piece_of key) + pairs_before itself key (part_of (entry_keys world) (piece_of key) (get words (piece_of key)))
+    level_split : ranked itself (map_behind world seat) key ≡ keys_below (part_len (entry_keys world)) (entries words) (piece_of key) + pairs_before itself key
+        (part_of (entry_keys world) (piece_of key) (get words (piece_of key)))
     level_split =
         rank_pairs itself (map_behind world seat) key
         ∙ ap (pairs_before itself key) (entries_behind is seat words here)
         ∙ count_parts (entry_keys world) (before itself key) (piece_of key) (entries words) (entries_sorted words) (parted world (entries words) (all_parts is seat words here))
-        ∙ ap (λ (found : Option ℕ). keys_below (part_len (entry_keys world)) (entries words) (piece_of key) + pairs_before itself key (part_of (entry_keys world) (piece_of key) found)) (sym (get-entries words (piece_of key)))
+        ∙ ap (λ (found : Option ℕ). keys_below (part_len (entry_keys world)) (entries words) (piece_of key) + pairs_before itself key (part_of (entry_keys world) (piece_of key) found))
+        (sym (get-entries words (piece_of key)))
 
     -- Those with lesser pieces are some of those that count.
     pub level_most : keys_below (part_len (entry_keys world)) (entries words) (piece_of key) ≤ ranked itself (map_behind world seat) key
@@ -144,11 +151,13 @@ module _ (itself : Bool) (key : List ℕ) (text : IsText key) where
     -- Where the level has no entry for the key's piece, there is nothing more.
     pub rank_absent : get words (piece_of key) ≡ None → ranked itself (map_behind world seat) key ≡ keys_below (part_len (entry_keys world)) (entries words) (piece_of key)
     rank_absent none =
-        let all = level_split ∙ ap (λ (found : Option ℕ). keys_below (part_len (entry_keys world)) (entries words) (piece_of key) + pairs_before itself key (part_of (entry_keys world) (piece_of key) found)) none in
+        let all = level_split ∙ ap (λ (found : Option ℕ). keys_below (part_len (entry_keys world)) (entries words) (piece_of key) + pairs_before itself key
+        (part_of (entry_keys world) (piece_of key) found)) none in
         omega arith
 
     -- Where the key ends there, it may count itself.
-    pub rank_final : length key < 8 → (value : ℕ) → get words (piece_of key) ≡ Some value → ranked itself (map_behind world seat) key ≡ keys_below (part_len (entry_keys world)) (entries words) (piece_of key) + one_if itself
+    pub rank_final : length key < 8 → (value : ℕ) → get words (piece_of key) ≡ Some value → ranked itself (map_behind world seat) key ≡
+        keys_below (part_len (entry_keys world)) (entries words) (piece_of key) + one_if itself
     rank_final short value some =
         let whole : piece_bytes (piece_of key) ≡ key = bytes-piece key text ∙ take_all 8 key (omega arith) in
         let own : pairs_before itself key (entry_keys world (piece_of key, value)) ≡ one_if itself =
@@ -157,11 +166,13 @@ module _ (itself : Bool) (key : List ℕ) (text : IsText key) where
         ∙ ap (λ bytes. one_if (is_beyond itself (byte_order bytes key))) whole
         ∙ ap (λ r. one_if (is_beyond itself r)) (tied_itself byte_order_total key)
         ∙ ap (λ b. one_if b) (beyond_same itself) in
-        let all = level_split ∙ ap (λ (found : Option ℕ). keys_below (part_len (entry_keys world)) (entries words) (piece_of key) + pairs_before itself key (part_of (entry_keys world) (piece_of key) found)) some in
+        let all = level_split ∙ ap (λ (found : Option ℕ). keys_below (part_len (entry_keys world)) (entries words) (piece_of key) + pairs_before itself key
+        (part_of (entry_keys world) (piece_of key) found)) some in
         omega arith
 
     -- Else what counts behind the child of its entry.
-    pub rank_inner : 8 ≤ length key → (at : ℕ) → get words (piece_of key) ≡ Some at → ranked itself (map_behind world seat) key ≡ keys_below (part_len (entry_keys world)) (entries words) (piece_of key) + ranked itself (map_behind world (suc at)) (drop 8 key)
+    pub rank_inner : 8 ≤ length key → (at : ℕ) → get words (piece_of key) ≡ Some at → ranked itself (map_behind world seat) key ≡
+        keys_below (part_len (entry_keys world)) (entries words) (piece_of key) + ranked itself (map_behind world (suc at)) (drop 8 key)
     rank_inner long at some =
         let front : piece_bytes (piece_of key) ++ drop 8 key ≡ key = ap (λ bytes. bytes ++ drop 8 key) (bytes-piece key text) ∙ take-append-drop 8 key in
         let child = map_behind world (suc at) in
@@ -170,5 +181,6 @@ module _ (itself : Bool) (key : List ℕ) (text : IsText key) where
         ∙ ap (λ k. pairs_before itself k (led_pairs (piece_bytes (piece_of key)) (entries child))) (sym front)
         ∙ before_led itself (piece_bytes (piece_of key)) (drop 8 key) (entries child)
         ∙ sym (rank_pairs itself child (drop 8 key)) in
-        let all = level_split ∙ ap (λ (found : Option ℕ). keys_below (part_len (entry_keys world)) (entries words) (piece_of key) + pairs_before itself key (part_of (entry_keys world) (piece_of key) found)) some in
+        let all = level_split ∙ ap (λ (found : Option ℕ). keys_below (part_len (entry_keys world)) (entries words) (piece_of key) + pairs_before itself key
+        (part_of (entry_keys world) (piece_of key) found)) some in
         omega arith

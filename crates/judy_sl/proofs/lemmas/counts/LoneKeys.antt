@@ -14,7 +14,7 @@ use Rattle.judy_sums.specs.Levels.{keys_below, extras, AreWeighed, part_of, part
 use Rattle.judy_sums.proofs.LevelCounts.{entries_below_is, keys_below_is, keys_are}
 use Rattle.judy_sums.proofs.Parts.{each_found, nth_parts}
 use Rattle.judy_sl.specs.World.{World, level, lookup}
-use Rattle.judy_sl.specs.Worlds.{IsWorld}
+use Rattle.judy_sl.specs.WorldInvariants.{IsWorld}
 use Rattle.judy_sl.specs.Behind.{map_behind, entry_keys}
 use Rattle.judy_sl.specs.Counted.{keys_behind}
 use Rattle.judy_sl.specs.Nth.{IsSpotOf}
@@ -44,7 +44,8 @@ module _ {world : World} {behind : ℕ → List ℕ} (is : IsWorld world behind)
   pub level_some : (piece at : ℕ) → get words piece ≡ Some at → 1 ≤ length (entry_keys world (piece, at))
   level_some piece at entry =
       let begun = begins is seat words piece here (ap (λ (found : Option ℕ). is_some found) entry) in
-      let text = text_behind (behind seat) piece begun.rest begun.spelled.key (text_of_key begun.spelled.key begun.spelled.is_key) begun.spelled.is_key.is_bytes_key.within_limit begun.spelled.spells in
+      let text = text_behind (behind seat) piece begun.rest begun.spelled.key (text_of_key begun.spelled.key begun.spelled.is_key) begun.spelled.is_key.is_bytes_key.within_limit
+      begun.spelled.spells in
       let first = text_begins piece begun.rest text in
       some_found text.bytes begun.value (entry_keys world (piece, at)) (
       ap (λ word. find byte_order text.bytes (entry_keys world (word, at))) (sym first)
@@ -54,7 +55,8 @@ module _ {world : World} {behind : ℕ → List ℕ} (is : IsWorld world behind)
 
   level_weighed : AreWeighed each_leads (part_len (entry_keys world)) (entries words)
   level_weighed =
-      each_found word_order nat_cmp_total nat_cmp-IsAntisymmetric (λ entry. (1 ≤ length (entry_keys world entry)) × (each_leads entry ≡ false → length (entry_keys world entry) ≡ 1)) (entries words) (entries_sorted words)
+      each_found word_order nat_cmp_total nat_cmp-IsAntisymmetric (λ entry. (1 ≤ length (entry_keys world entry)) × (each_leads entry ≡ false → length (entry_keys world entry) ≡ 1))
+      (entries words) (entries_sorted words)
       (λ piece at found. (level_some piece at (get-entries words piece ∙ found), λ never. absurd (true≢false never)))
 
   -- The keys behind the level are those behind its entries.
@@ -77,7 +79,8 @@ module _ {world : World} {behind : ℕ → List ℕ} (is : IsWorld world behind)
     -- So the entry at a place has the key at that place behind it.
     pub lone_spot : (place piece value : ℕ) → by_count words (place + 1) ≡ Some piece → get words piece ≡ Some value → IsSpotOf world words place (record { piece = piece; value = value; place = 0 })
     lone_spot place piece value at held =
-        let own : part_of (entry_keys world) piece (find word_order piece (entries words)) ≡ entry_keys world (piece, value) = ap (part_of (entry_keys world) piece) (sym (get-entries words piece) ∙ held) in
+        let own : part_of (entry_keys world) piece (find word_order piece (entries words)) ≡ entry_keys world (piece, value) = ap (part_of (entry_keys world) piece)
+        (sym (get-entries words piece) ∙ held) in
         let some = level_some piece value held in
         let before = lone_below piece in
         let first = rank_at nat_cmp_total words place piece (sym (nth-slice_get nat_cmp_total words place) ∙ place_at words place piece at) in

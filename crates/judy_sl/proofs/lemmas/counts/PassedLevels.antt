@@ -7,7 +7,7 @@ use Rattle.std.specs.FinMap.{FinMap, get}
 use Rattle.judy_model.specs.Keys.{word_order, IsStringKey}
 use Rattle.judy_sl.specs.Pieces.{pieces, piece_of, ArePieces, AreInner}
 use Rattle.judy_sl.specs.World.{World, Node, gone, tail, level, walk, step_node, step_entry}
-use Rattle.judy_sl.specs.Worlds.{IsWorld}
+use Rattle.judy_sl.specs.WorldInvariants.{IsWorld}
 use Rattle.judy_sl.specs.Ways.{passed_there, passed_under, passed_from, levels_passed}
 use Rattle.judy_sl.specs.Stepped.{entry_under}
 use Rattle.judy_sl.specs.Counted.{IsAmong, AreOnce}
@@ -76,7 +76,8 @@ module _ (world : World) (seat : ℕ) (map : FinMap word_order ℕ) (is : world 
         ∙ ap (λ ps. at ∷ passed_from world (suc at) ps) (sym head.1)
 
     -- The level to which the way goes is noted behind those before it.
-    pub noted-on : (next : FinMap word_order ℕ) → world (suc at) ≡ level next → (noted all : List ℕ) → noted ++ passed_from world seat (pieces rest) ≡ all → (noted ++ at ∷ []) ++ passed_from world (suc at) (pieces (drop 8 rest)) ≡ all
+    pub noted-on : (next : FinMap word_order ℕ) → world (suc at) ≡ level next → (noted all : List ℕ) → noted ++ passed_from world seat (pieces rest) ≡ all →
+        (noted ++ at ∷ []) ++ passed_from world (suc at) (pieces (drop 8 rest)) ≡ all
     noted-on next there noted all so_far = append_assoc noted (at ∷ []) (passed_from world (suc at) (pieces (drop 8 rest))) ∙ ap (λ places. noted ++ places) (sym (goes-on next there)) ∙ so_far
 
     -- All are noted where the way comes to a tail,
@@ -151,7 +152,8 @@ module _ (world : World) where
         is_level = later.is_level;
       }
 
-      by_entry : (found : Option ℕ) → entry_under (world seat) piece ≡ found → ((to : ℕ) → IsAmong (passed_from world (suc to) (next ∷ rest)) at → IsPassed world (suc to) (next ∷ rest) at) → IsPassed world seat (piece ∷ next ∷ rest) at
+      by_entry : (found : Option ℕ) → entry_under (world seat) piece ≡ found → ((to : ℕ) → IsAmong (passed_from world (suc to) (next ∷ rest)) at → IsPassed world (suc to) (next ∷ rest) at) →
+          IsPassed world seat (piece ∷ next ∷ rest) at
       by_entry None entry on_from = absurd (subst (λ places. IsAmong places at) (passed-none world seat piece (next ∷ rest) entry) among)
       by_entry (Some to) entry on_from =
           let there = among-there (world (suc to)) to at (passed_from world (suc to) (next ∷ rest)) (subst (λ places. IsAmong places at) (passed-step world seat piece next rest to entry) among) in
@@ -162,7 +164,8 @@ module _ (world : World) where
 
   -- ---- what is on the way is passed
 
-  passed-first : (seat piece : ℕ) (front : List ℕ) (at next : ℕ) (rest : List ℕ) (map : FinMap word_order ℕ) → walk world seat (piece ∷ front) ≡ Some (suc at) → world (suc at) ≡ level map → (count : ℕ) → length front ≤ count → IsAmong (take (suc count) (passed_from world seat (piece ∷ front ++ next ∷ rest))) at
+  passed-first : (seat piece : ℕ) (front : List ℕ) (at next : ℕ) (rest : List ℕ) (map : FinMap word_order ℕ) → walk world seat (piece ∷ front) ≡ Some (suc at) →
+      world (suc at) ≡ level map → (count : ℕ) → length front ≤ count → IsAmong (take (suc count) (passed_from world seat (piece ∷ front ++ next ∷ rest))) at
   passed-first seat piece [] at next rest map way is count short =
       let step = step-parts (world seat) piece (λ found. walk world (suc found) []) (suc at) way in
       let same : at ≡ step.found = (let goes : Some (suc step.found) ≡ Some (suc at) = step.goes in cc) in
@@ -173,7 +176,8 @@ module _ (world : World) where
       let step = step-parts (world seat) piece (λ found. walk world (suc found) (second ∷ front)) (suc at) way in
       let then = step-parts (world (suc step.found)) second (λ found. walk world (suc found) front) (suc at) step.goes in
       let entry : entry_under (world seat) piece ≡ Some step.found = ap (λ node. entry_under node piece) step.is ∙ step.entry in
-      subst (λ places. IsAmong (take (suc (suc count)) places) at) (sym (passed-level world seat piece second (front ++ next ∷ rest) step.found entry then.map then.is)) (inr (passed-first (suc step.found) second front at next rest map step.goes is count (omega (arith, short))))
+      subst (λ places. IsAmong (take (suc (suc count)) places) at) (sym (passed-level world seat piece second (front ++ next ∷ rest) step.found entry then.map then.is))
+      (inr (passed-first (suc step.found) second front at next rest map step.goes is count (omega (arith, short))))
 
 -- The first of some places are some of them.
 pub among-front : (count : ℕ) (places : List ℕ) (at : ℕ) → IsAmong (take count places) at → IsAmong places at
@@ -203,7 +207,8 @@ passed-short world seat piece (next ∷ rest) = by_entry (entry_under (world sea
     there-short (tail held value) at more = omega arith
     there-short (level map) at more = omega arith
 
-    by_entry : (found : Option ℕ) → entry_under (world seat) piece ≡ found → ((at : ℕ) → length (passed_from world (suc at) (next ∷ rest)) ≤ length rest) → length (passed_from world seat (piece ∷ next ∷ rest)) ≤ length (next ∷ rest)
+    by_entry : (found : Option ℕ) → entry_under (world seat) piece ≡ found → ((at : ℕ) → length (passed_from world (suc at) (next ∷ rest)) ≤ length rest) →
+        length (passed_from world seat (piece ∷ next ∷ rest)) ≤ length (next ∷ rest)
     by_entry None entry short_from = let none = ap length (passed-none world seat piece (next ∷ rest) entry) in omega (arith, none)
     by_entry (Some at) entry short_from =
         let same = ap length (passed-step world seat piece next rest at entry) in
@@ -260,12 +265,14 @@ module _ (world : World) (behind : ℕ → List ℕ) (is : IsWorld world behind)
     among-way at among = among-passed world 0 (pieces key) at are among
 
     -- A level to which first pieces lead is one of the first that are passed, and so of all.
-    pub way-first : (front rest : List ℕ) (at : ℕ) (map : FinMap word_order ℕ) → AreInner front → walk world 0 front ≡ Some (suc at) → pieces key ≡ front ++ rest → world (suc at) ≡ level map → (count : ℕ) → length front ≤ count → IsAmong (take count (levels_passed world key)) at
+    pub way-first : (front rest : List ℕ) (at : ℕ) (map : FinMap word_order ℕ) → AreInner front → walk world 0 front ≡ Some (suc at) → pieces key ≡ front ++ rest →
+        world (suc at) ≡ level map → (count : ℕ) → length front ≤ count → IsAmong (take count (levels_passed world key)) at
     way-first [] rest at map inner way parts is count short = let same : 0 ≡ suc at = cc in cc
     way-first (piece ∷ front) [] at map inner way parts is count short = absurd (not-all (piece ∷ front) inner (subst ArePieces parts are))
     way-first (piece ∷ front) (next ∷ rest) at map inner way parts is zero short = absurd (omega (arith, short))
     way-first (piece ∷ front) (next ∷ rest) at map inner way parts is (suc count) short =
         subst (λ ps. IsAmong (take (suc count) (passed_from world 0 ps)) at) (sym parts) (passed-first world 0 piece front at next rest map way is count (omega (arith, short)))
 
-    pub way-among : (front rest : List ℕ) (at : ℕ) (map : FinMap word_order ℕ) → AreInner front → walk world 0 front ≡ Some (suc at) → pieces key ≡ front ++ rest → world (suc at) ≡ level map → IsAmong (levels_passed world key) at
+    pub way-among : (front rest : List ℕ) (at : ℕ) (map : FinMap word_order ℕ) → AreInner front → walk world 0 front ≡ Some (suc at) → pieces key ≡ front ++ rest →
+        world (suc at) ≡ level map → IsAmong (levels_passed world key) at
     way-among front rest at map inner way parts is = among-front (length front) (levels_passed world key) at (way-first front rest at map inner way parts is (length front) (omega arith))

@@ -7,7 +7,7 @@ use Rattle.judy_sl.specs.Children.{Child, Free, Tail, Level, IsLevelChild}
 use Rattle.judy_sl.specs.declared.arena.Arena.{Arena}
 use Rattle.judy_sl.specs.Pieces.{pieces, AreInner}
 use Rattle.judy_sl.specs.World.{World, Node, lookup, walk}
-use Rattle.judy_sl.specs.Worlds.{IsWorld, AllLed}
+use Rattle.judy_sl.specs.WorldInvariants.{IsWorld, AllLed}
 use Rattle.judy_sl.specs.Arenas.{world_of, node_of, child_at, map_of, HasText, IsArena}
 use Rattle.judy_sl.specs.Places.{with_child}
 use Rattle.judy_sl.specs.Ways.{levels_passed}
@@ -159,7 +159,8 @@ module _ (comes : Bool) (before now : Arena) (at : ℕ) (left places : List ℕ)
 -- ---- a key that is counted in
 
 -- Behind a seat that comes later on a way stand no more keys.
-walk-fewer : (world : World) (behind : ℕ → List ℕ) → IsWorld world behind → (seat : ℕ) (front : List ℕ) (end : ℕ) → AreInner front → walk world seat front ≡ Some end → keys_behind world end ≤ keys_behind world seat
+walk-fewer : (world : World) (behind : ℕ → List ℕ) → IsWorld world behind → (seat : ℕ) (front : List ℕ) (end : ℕ) → AreInner front → walk world seat front ≡ Some end →
+    keys_behind world end ≤ keys_behind world seat
 walk-fewer world behind is seat [] end inner way =
     let same : seat ≡ end = cc in
     let keys = ap (λ s. keys_behind world s) same in
@@ -170,7 +171,8 @@ walk-fewer world behind is seat (piece ∷ front) end inner way =
     let more = walk-fewer world behind is (suc step.found) front end inner.1 step.goes in
     omega (arith, one, more)
 
-few-behind : (arena : Arena) (is : IsArena arena) → AllLed (world_of arena) → (at : ℕ) → IsLevelChild (child_at arena at) → len (map_of arena) ≤ 4294967295 → keys_behind (world_of arena) (suc at) ≤ 4294967295
+few-behind : (arena : Arena) (is : IsArena arena) → AllLed (world_of arena) → (at : ℕ) → IsLevelChild (child_at arena at) → len (map_of arena) ≤ 4294967295 →
+    keys_behind (world_of arena) (suc at) ≤ 4294967295
 few-behind arena is led at level few =
     let reached = all-reached (world_of arena) is.behind is.is_world led at (λ none. level-there (child_at arena at) level none) in
     let fewer = walk-fewer (world_of arena) is.behind is.is_world 0 reached.front (suc at) reached.inner reached.way in
@@ -178,19 +180,24 @@ few-behind arena is led at level few =
 
 module _ (before : Arena) (is : IsArena before) (led : AllLed (world_of before)) (few : len (map_of before) ≤ 4294967295) (places : List ℕ) (counted : AreCountedBut before places) where
   pub can-come : CanStepAt true before places
-  can-come at among = (counted.levels at among, can-come_at (child_at before at) (keys_behind (world_of before) (suc at)) (counted.passed at among) (few-behind before is led at (counted.levels at among) few))
+  can-come at among = (
+    counted.levels at among,
+    can-come_at (child_at before at) (keys_behind (world_of before) (suc at)) (counted.passed at among) (few-behind before is led at (counted.levels at among) few),
+  )
 
   pub come-counted : (after : Arena) → AreStepped true before after places → AreCounted after
   come-counted after stepped at =
       subst (λ (w : World). LevelTells Same (child_at after at) (keys_behind w (suc at))) (sym stepped.world) (
       ⊎_elim
-      (λ among. subst (λ child. LevelTells Same child (keys_behind (world_of before) (suc at))) (sym (stepped.passed at among)) (come-tells (child_at before at) (keys_behind (world_of before) (suc at)) (counted.passed at among)))
+      (λ among. subst (λ child. LevelTells Same child (keys_behind (world_of before) (suc at))) (sym (stepped.passed at among))
+      (come-tells (child_at before at) (keys_behind (world_of before) (suc at)) (counted.passed at among)))
       (λ none. subst (λ child. LevelTells Same child (keys_behind (world_of before) (suc at))) (sym (stepped.others at none)) (counted.others at none))
       (among-cases places at))
 
 -- ---- a key that is counted out
 
-module _ (before : Arena) (is : IsArena before) (counted : AreCounted before) (key : List ℕ) (is_key : IsStringKey key) (there : is_some (lookup (world_of before) 0 (pieces key)) ≡ true) (count : ℕ) where
+module _ (before : Arena) (is : IsArena before) (counted : AreCounted before) (key : List ℕ) (is_key : IsStringKey key) (there : is_some (lookup (world_of before) 0 (pieces key)) ≡ true)
+    (count : ℕ) where
   abbrev places : List ℕ
   places = take count (levels_passed (world_of before) key)
 
@@ -220,7 +227,8 @@ module _ (before : Arena) (is : IsArena before) (counted : AreCounted before) (k
     levels = λ at among. subst IsLevelChild (sym (stepped.passed at among)) (step-level false (child_at before at) (level-at at among));
     passed = λ at among.
         subst (λ (w : World). LevelTells OneLess (child_at after at) (keys_behind w (suc at))) (sym stepped.world) (
-        subst (λ child. LevelTells OneLess child (keys_behind (world_of before) (suc at))) (sym (stepped.passed at among)) (go-tells (child_at before at) (keys_behind (world_of before) (suc at)) (counted at) (some-at at among)));
+        subst (λ child. LevelTells OneLess child (keys_behind (world_of before) (suc at))) (sym (stepped.passed at among))
+        (go-tells (child_at before at) (keys_behind (world_of before) (suc at)) (counted at) (some-at at among)));
     others = λ at none.
         subst (λ (w : World). LevelTells Same (child_at after at) (keys_behind w (suc at))) (sym stepped.world) (
         subst (λ child. LevelTells Same child (keys_behind (world_of before) (suc at))) (sym (stepped.others at none)) (counted at));

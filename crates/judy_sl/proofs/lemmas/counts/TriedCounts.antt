@@ -9,7 +9,7 @@ use Rattle.judy_sl.specs.declared.arena.Place.{Place}
 use Rattle.judy_sl.specs.declared.arena.Place.TheVariants.{Root}
 use Rattle.judy_sl.specs.Children.{Tail}
 use Rattle.judy_sl.specs.Pieces.{piece_of}
-use Rattle.judy_sl.specs.Worlds.{AllLed}
+use Rattle.judy_sl.specs.WorldInvariants.{AllLed}
 use Rattle.judy_sl.specs.Arenas.{world_of, IsArena}
 use Rattle.judy_sl.specs.Ways.{passed_from, levels_passed}
 use Rattle.judy_sl.specs.Counted.{AreCounted, AreCountedBut}
@@ -27,23 +27,28 @@ put-present map word value = elim (contains_key map word) as (λ (held : Bool). 
 ]
 
 -- No level is on the way of a key whose first piece is new, so each tells how many keys stand behind it.
-module _ (arena : Arena) (is : IsArena arena) (led : AllLed (world_of arena)) (counted : AreCounted arena) (key : List ℕ) (is_key : IsStringKey key) (piece : ℕ) (piece_is : piece ≡ piece_of key) (none : get arena.root.map piece ≡ None) where
+module _ (arena : Arena) (is : IsArena arena) (led : AllLed (world_of arena)) (counted : AreCounted arena) (key : List ℕ) (is_key : IsStringKey key) (piece : ℕ)
+    (piece_is : piece ≡ piece_of key) (none : get arena.root.map piece ≡ None) where
   none-passed : levels_passed (world_of arena) key ≡ []
   none-passed =
       let head = pieces-head key in
       ap (passed_from (world_of arena) 0) head.1 ∙ passed-none (world_of arena) 0 (piece_of key) head.0 (ap (get arena.root.map) (sym piece_is) ∙ none)
 
-  pub tried-counted : (words : ArrayOf word_order) (after : Arena) (at : ℕ) (rest : List ℕ × ℕ) (made : Place) → words ≡ with_map arena.root (insert arena.root.map piece at) → IsPut (record arena { root = words }) after (Tail rest) at → IsAdded arena after key made → AreCounted after
+  pub tried-counted : (words : ArrayOf word_order) (after : Arena) (at : ℕ) (rest : List ℕ × ℕ) (made : Place) → words ≡ with_map arena.root (insert arena.root.map piece at) →
+      IsPut (record arena { root = words }) after (Tail rest) at → IsAdded arena after key made → AreCounted after
   tried-counted words after at rest made words_is put added =
       let gap = first-gap arena is key is_key piece piece_is none in
       let but = gap-counted arena is led counted key is_key (Root piece) (length key) gap after made added (
-      grows-tail arena key (Root piece) (length key) gap (record after { root = arena.root }) after at rest (put-first arena is key is_key piece piece_is none words after at rest words_is put) (after-first arena is key is_key piece piece_is none words after at rest words_is put)
+      grows-tail arena key (Root piece) (length key) gap (record after { root = arena.root }) after at rest
+      (put-first arena is key is_key piece piece_is none words after at rest words_is put) (after-first arena is key is_key piece piece_is none words after at rest words_is put)
       ) in
       λ k. (subst (AreCountedBut after) none-passed but).others k (λ among. among)
 
-  pub short-counted : (words : ArrayOf word_order) → words ≡ with_map arena.root (insert arena.root.map piece 0) → IsAdded arena (record arena { root = words }) key (Root piece) → AreCounted (record arena { root = words })
+  pub short-counted : (words : ArrayOf word_order) → words ≡ with_map arena.root (insert arena.root.map piece 0) → IsAdded arena (record arena { root = words }) key (Root piece) →
+      AreCounted (record arena { root = words })
   short-counted words words_is added =
       let gap = first-gap arena is key is_key piece piece_is none in
       let after : Arena = record arena { root = words } in
-      let but = gap-counted arena is led counted key is_key (Root piece) (length key) gap after (Root piece) added (grows-last arena key (Root piece) (length key) gap after (ap (λ (root : ArrayOf word_order). record arena { root = root }) words_is)) in
+      let but = gap-counted arena is led counted key is_key (Root piece) (length key) gap after (Root piece) added
+      (grows-last arena key (Root piece) (length key) gap after (ap (λ (root : ArrayOf word_order). record arena { root = root }) words_is)) in
       λ k. (subst (AreCountedBut after) none-passed but).others k (λ among. among)

@@ -10,7 +10,7 @@ use Rattle.judy_sl.specs.declared.arena.Place.{Place}
 use Rattle.judy_sl.specs.declared.arena.Place.TheVariants.{Root, Below}
 use Rattle.judy_sl.specs.Pieces.{pieces, IsFinal, SpellKey}
 use Rattle.judy_sl.specs.World.{World, Node, gone, level}
-use Rattle.judy_sl.specs.Worlds.{IsWorld, AllLed}
+use Rattle.judy_sl.specs.WorldInvariants.{IsWorld, AllLed}
 use Rattle.judy_sl.specs.Arenas.{world_of, node_of, child_at, IsArena, HasText}
 use Rattle.judy_sl.specs.Children.{IsTaken, IsLevelChild}
 use Rattle.judy_sl.specs.Places.{IsPlace, IsLevelPlace, place_with}
@@ -87,7 +87,11 @@ module _ (arena : Arena) (is : IsArena arena) (key : List ℕ) (is_key : IsStrin
   final = subst IsFinal (sym gap.next) (piece-IsFinal rest_of gap.text short-rest)
 
   spells : SpellKey (is.behind (seat_of place) ++ piece_at place ∷ [])
-  spells = record { key = key; is_key = is_key; spells = parts ∙ ap (λ f. f ++ piece_at place ∷ []) (sym (behind-leads (world_of arena) is.behind is.is_world key (seat_of place) (pieces rest_of) gap.leads)) }
+  spells = record {
+    key = key;
+    is_key = is_key;
+    spells = parts ∙ ap (λ f. f ++ piece_at place ∷ []) (sym (behind-leads (world_of arena) is.behind is.is_world key (seat_of place) (pieces rest_of) gap.leads));
+  }
 
   abbrev node_in : Node
   node_in = node_with (world_of arena (seat_of place)) (piece_at place) 0
@@ -111,13 +115,18 @@ module _ (arena : Arena) (is : IsArena arena) (key : List ℕ) (is_key : IsStrin
   pub fills-last : IsAdded arena (place_with arena place 0) key place
   fills-last = record {
     is_arena = place-with_arena arena is place 0 (level-place arena place gap.map gap.is_level)
-        (subst (NodeFits (world_of arena) is.behind (is.behind (seat_of place))) (sym node-is) (fits-insert (world_of arena) is.behind (is.behind (seat_of place)) gap.map (is.is_world.levels (seat_of place) gap.map gap.is_level) (piece_at place) 0 final spells))
+        (subst (NodeFits (world_of arena) is.behind (is.behind (seat_of place))) (sym node-is) (fits-insert (world_of arena) is.behind (is.behind (seat_of place)) gap.map
+        (is.is_world.levels (seat_of place) gap.map gap.is_level) (piece_at place) 0 final spells))
         (subst (IsUsed (seat_of place)) (sym node-is) (is-used (seat_of place)));
     led = λ all.
-        let keeps : KeepsEntries (world_of arena (seat_of place)) node_in = subst (λ n. KeepsEntries n (node_with n (piece_at place) 0)) (sym gap.is_level) (keeps-insert gap.map (piece_at place) 0 (λ at inner entry. inner final)) in
+        let keeps : KeepsEntries (world_of arena (seat_of place)) node_in = subst (λ n. KeepsEntries n (node_with n (piece_at place) 0)) (sym gap.is_level)
+        (keeps-insert gap.map (piece_at place) 0 (λ at inner entry. inner final)) in
         subst AllLed (sym world-is) (led-set (world_of arena) (seat_of place) node_in keeps (λ none. let g : gone ≡ level gap.map = sym none ∙ gap.is_level in cc) all);
     change = subst (λ ps. IsChange (world_of arena) (world_of (place_with arena place 0)) ps (Some 0)) (sym parts) (
-        changes_value (world_of arena) (world_of (place_with arena place 0)) is.behind is.is_world arena.root.map refl gap.leads.front gap.leads.inner (seat_of place) gap.leads.way apart-after (behind-leads (world_of arena) is.behind is.is_world key (seat_of place) (pieces rest_of) gap.leads) gap.map (insert gap.map (piece_at place) 0) gap.is_level after-seat (piece_at place) (λ p off. get-insert_off gap.map (piece_at place) 0 p off) (Some 0) final (get-insert_here gap.map (piece_at place) 0)
+        changes_value (world_of arena) (world_of (place_with arena place 0)) is.behind is.is_world arena.root.map refl gap.leads.front gap.leads.inner
+        (seat_of place) gap.leads.way apart-after (behind-leads (world_of arena) is.behind is.is_world key (seat_of place) (pieces rest_of) gap.leads) gap.map
+        (insert gap.map (piece_at place) 0) gap.is_level after-seat (piece_at place) (λ p off. get-insert_off gap.map (piece_at place) 0 p off) (Some 0) final
+        (get-insert_here gap.map (piece_at place) 0)
         );
     found = record {
       rest = piece_at place ∷ [];

@@ -11,7 +11,7 @@ use Rattle.judy_sl.specs.declared.arena.Place.{Place}
 use Rattle.judy_sl.specs.declared.branches.Branch.{Branch}
 use Rattle.judy_sl.specs.Pieces.{pieces, ArePieces}
 use Rattle.judy_sl.specs.World.{World, Node, gone, tail, level}
-use Rattle.judy_sl.specs.Worlds.{IsWorld, FitsBehind, IsLed, AllLed}
+use Rattle.judy_sl.specs.WorldInvariants.{IsWorld, FitsBehind, IsLed, AllLed}
 use Rattle.judy_sl.specs.Arenas.{world_of, node_of, child_at, IsArena, HasText}
 use Rattle.judy_sl.specs.Places.{place_with}
 use Rattle.judy_sl.specs.Ways.{IsOnWay, seat_of, piece_at, left_of}
@@ -40,7 +40,9 @@ gone-where gone none = refl
 gone-where (tail held value) none = absurd (none (λ e. cc))
 gone-where (level map) none = absurd (none (λ e. cc))
 
-module _ (before now top after : Arena) (key : List ℕ) (from : Place) (at left : ℕ) (branch : Branch) (graft : IsGraft before key from at left branch) (words : ArrayOf word_order) (is : IsGrafting before now graft.clash.leads.front graft.clash.held (pieces (left_of key left)) graft.clash.value [] words) (to : ℕ) (put_is : IsPut now top (Level 2 words) to) (vacated : IsVacated (place_with top from to) after at) where
+module _ (before now top after : Arena) (key : List ℕ) (from : Place) (at left : ℕ) (branch : Branch) (graft : IsGraft before key from at left branch)
+    (words : ArrayOf word_order) (is : IsGrafting before now graft.clash.leads.front graft.clash.held (pieces (left_of key left)) graft.clash.value [] words)
+    (to : ℕ) (put_is : IsPut now top (Level 2 words) to) (vacated : IsVacated (place_with top from to) after at) where
   abbrev pub front : List ℕ
   front = graft.clash.leads.front
 
@@ -113,10 +115,12 @@ module _ (before now top after : Arena) (key : List ℕ) (from : Place) (at left
       },
     ))
     | inr apart ↦ subst (LevelMade before front held new (behind (suc k)) k) (sym (put_is.elsewhere k apart)) (
-        subst (λ p. LevelMade before front held new p k (child_at now k)) (sym (cond-other is.grafts.is.behind (suc to) (place ++ piece ∷ []) (suc k) (λ e. apart (let same : k ≡ to = cc in same)))) (is.made k))
+        subst (λ p. LevelMade before front held new p k (child_at now k)) (sym (cond-other is.grafts.is.behind (suc to) (place ++ piece ∷ []) (suc k)
+        (λ e. apart (let same : k ≡ to = cc in same)))) (is.made k))
   ]
 
-  further-child : (k : ℕ) (child : Child) (m : FinMap word_order ℕ) → node_of child ≡ level m → LevelMade before front held new (behind (suc k)) k child → (world_of before (suc k) ≢ gone) ⊎ (length (is.grafts.was.behind (seat_of from)) < length (behind (suc k)))
+  further-child : (k : ℕ) (child : Child) (m : FinMap word_order ℕ) → node_of child ≡ level m → LevelMade before front held new (behind (suc k)) k child →
+      (world_of before (suc k) ≢ gone) ⊎ (length (is.grafts.was.behind (seat_of from)) < length (behind (suc k)))
   further-child k Free m e made = absurd (cc)
   further-child k (Tail rest) m e made = absurd (cc)
   further-child k (Level told found) m e (inl was) = inl (λ none. let g : level was.0.map ≡ gone = sym (ap node_of was.1) ∙ none in cc)
@@ -192,13 +196,15 @@ module _ (before now top after : Arena) (key : List ℕ) (from : Place) (at left
   pub after-led : AllLed (world_of after)
   after-led =
       subst AllLed (sym after-is) (
-      replaced-led (world_of before) (world_of top) is.grafts.was.behind behind (seat_of from) piece at to beside graft.led (λ k apart there. top-led k (is.led k (λ none. there (ap node_of (put_is.elsewhere k apart) ∙ none))))
+      replaced-led (world_of before) (world_of top) is.grafts.was.behind behind (seat_of from) piece at to beside graft.led
+      (λ k apart there. top-led k (is.led k (λ none. there (ap node_of (put_is.elsewhere k apart) ∙ none))))
       )
 
   pub after-change : IsChange (world_of before) (world_of after) (pieces key) (Some 0)
   after-change =
       subst (λ w. IsChange (world_of before) w (pieces key) (Some 0)) (sym after-is) (
-      replaced-change (world_of before) (world_of top) is.grafts.was.behind behind (seat_of from) piece at to beside graft.led before.root.map refl key new graft.clash.leads_from (pieces_are key (text_of_key key graft.is_key)) new_are (λ nil. pieces-some graft.bytes (sym graft.held_is ∙ nil))
+      replaced-change (world_of before) (world_of top) is.grafts.was.behind behind (seat_of from) piece at to beside graft.led before.root.map refl key new graft.clash.leads_from
+      (pieces_are key (text_of_key key graft.is_key)) new_are (λ nil. pieces-some graft.bytes (sym graft.held_is ∙ nil))
       (looks held held_are ∙ branch-is.at_held)
       (looks new new_are ∙ branch-is.at_new)
       (λ p more are ne_held ne_new. looks (p ∷ more) are ∙ branch-is.others p more are ne_held ne_new)
@@ -218,7 +224,8 @@ module _ (before now top after : Arena) (key : List ℕ) (from : Place) (at left
       let was_level : world_of before (suc k) ≡ level found.map = ap node_of e in
       let stood = top_grafts.same (suc k) (λ none. let g : level found.map ≡ gone = sym was_level ∙ none in cc) in
       let off : suc k ≢ suc at = (λ same. let g : level found.map ≡ tail held graft.clash.value = sym was_level ∙ ap (world_of before) same ∙ graft.clash.is_tail in cc) in
-      let away = ap (λ (w : World). w (suc k)) after-is ∙ cond-other (led_away (world_of before) (world_of top) is.grafts.was.behind behind (seat_of from) piece at to beside) (suc at) gone (suc k) off in (
+      let away = ap (λ (w : World). w (suc k)) after-is ∙ cond-other (led_away (world_of before) (world_of top) is.grafts.was.behind behind (seat_of from) piece at to beside)
+      (suc at) gone (suc k) off in (
         elim (cases_eq (suc k) (seat_of from)) [
           | inl here ↦ level-child (child_at after k) (insert graft.clash.map piece to) (away ∙ cond-same (world_of top) (seat_of from) (level (insert graft.clash.map piece to)) (suc k) here)
           | inr apart ↦ level-child (child_at after k) found.map (away ∙ cond-other (world_of top) (seat_of from) (level (insert graft.clash.map piece to)) (suc k) apart ∙ stood.0 ∙ was_level)
@@ -231,8 +238,10 @@ module _ (before now top after : Arena) (key : List ℕ) (from : Place) (at left
   top-after : world_of after (suc to) ≡ level words.map
   top-after =
       ap (λ (w : World). w (suc to)) after-is
-      ∙ cond-other (led_away (world_of before) (world_of top) is.grafts.was.behind behind (seat_of from) piece at to beside) (suc at) gone (suc to) (λ e. let g : gone ≡ tail held graft.clash.value = sym beside.free ∙ ap (world_of before) e ∙ graft.clash.is_tail in cc)
-      ∙ cond-other (world_of top) (seat_of from) (level (insert graft.clash.map piece to)) (suc to) (λ e. let g : gone ≡ level graft.clash.map = sym beside.free ∙ ap (world_of before) e ∙ graft.clash.is_level in cc)
+      ∙ cond-other (led_away (world_of before) (world_of top) is.grafts.was.behind behind (seat_of from) piece at to beside) (suc at) gone (suc to)
+      (λ e. let g : gone ≡ tail held graft.clash.value = sym beside.free ∙ ap (world_of before) e ∙ graft.clash.is_tail in cc)
+      ∙ cond-other (world_of top) (seat_of from) (level (insert graft.clash.map piece to)) (suc to) (λ e. let g : gone ≡ level graft.clash.map = sym beside.free ∙
+      ap (world_of before) e ∙ graft.clash.is_level in cc)
       ∙ top-there.0
 
   top-reached : IsReached (world_of after) (suc to)

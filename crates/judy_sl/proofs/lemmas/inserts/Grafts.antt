@@ -11,7 +11,7 @@ use Rattle.judy_sl.specs.Children.{Child, Level}
 use Rattle.judy_sl.specs.declared.arena.Arena.{Arena}
 use Rattle.judy_sl.specs.Pieces.{IsInner, IsFinal, SpellKey, ArePieces}
 use Rattle.judy_sl.specs.World.{World, gone, tail, level, lookup, at_entry}
-use Rattle.judy_sl.specs.Worlds.{IsWorld, FitsBehind}
+use Rattle.judy_sl.specs.WorldInvariants.{IsWorld, FitsBehind}
 use Rattle.judy_sl.specs.Arenas.{world_of, node_of, child_at, IsArena, HasText}
 use Rattle.judy_sl.specs.Grown.{IsPut}
 use Rattle.judy_sl.proofs.lemmas.pieces.Ways.{look_in, tail-same, tail-other}
@@ -39,7 +39,8 @@ module _ (now after : Arena) (is : IsArena now) (child : Child) (to : ℕ) (put_
     put-arena = record {
       behind = behind_put;
       is_world = subst (λ w. IsWorld w behind_put) (sym (world-put now after child to put_is)) (
-          keeps (world_of now) behind_put (put (world_of now) is.behind is.is_world to put_is.was_free place) (suc to) (node_of child) (subst (λ p. NodeFits (world_of now) behind_put p (node_of child)) (sym (cond-same is.behind (suc to) place (suc to) refl)) fits) used
+          keeps (world_of now) behind_put (put (world_of now) is.behind is.is_world to put_is.was_free place) (suc to) (node_of child)
+          (subst (λ p. NodeFits (world_of now) behind_put p (node_of child)) (sym (cond-same is.behind (suc to) place (suc to) refl)) fits) used
           );
       texts = λ k. elim (cases_eq k to) [
         | inl e ↦ subst HasText (sym (ap (child_at after) e ∙ put_is.here)) text
@@ -57,11 +58,13 @@ module _ (now after : Arena) (is : IsArena now) (child : Child) (to : ℕ) (put_
     put-here = (ap node_of put_is.here, cond-same is.behind (suc to) place (suc to) refl)
 
     -- A level that fits finds the same.
-    pub put-look : (front : List ℕ) (map : FinMap word_order ℕ) → FitsBehind (world_of now) is.behind front map → (piece : ℕ) (rest : List ℕ) → ArePieces (piece ∷ rest) → look_in (world_of after) (level map) (piece ∷ rest) ≡ look_in (world_of now) (level map) (piece ∷ rest)
+    pub put-look : (front : List ℕ) (map : FinMap word_order ℕ) → FitsBehind (world_of now) is.behind front map → (piece : ℕ) (rest : List ℕ) → ArePieces (piece ∷ rest) →
+        look_in (world_of after) (level map) (piece ∷ rest) ≡ look_in (world_of now) (level map) (piece ∷ rest)
     put-look front map has piece rest are =
         frame-below (world_of now) (world_of after) is.behind is.is_world (λ p. ⊥) (λ seat some off. (put-same seat some).0) front map has piece rest are (λ some more e hit. hit)
 
-    abbrev pub put-grafts : (before : Arena) (was : IsArena before) → ((seat : ℕ) → world_of before seat ≢ gone → (world_of now seat ≡ world_of before seat) × (is.behind seat ≡ was.behind seat)) → Grafts before after
+    abbrev pub put-grafts : (before : Arena) (was : IsArena before) → ((seat : ℕ) → world_of before seat ≢ gone →
+        (world_of now seat ≡ world_of before seat) × (is.behind seat ≡ was.behind seat)) → Grafts before after
     put-grafts before was same = record {
       was = was;
       is = put-arena;
@@ -79,7 +82,8 @@ IsSide world behind place [] value entry = ⊥
 IsSide world behind place (piece ∷ []) value entry = IsFinal piece × (entry ≡ value) × SpellKey (place ++ piece ∷ [])
 IsSide world behind place (piece ∷ next ∷ rest) value entry = IsInner piece × (world (suc entry) ≡ tail (next ∷ rest) value) × (behind (suc entry) ≡ place ++ piece ∷ [])
 
-pub side-stays : (world other : World) (behind beyond : ℕ → List ℕ) → ((seat : ℕ) → world seat ≢ gone → (other seat ≡ world seat) × (beyond seat ≡ behind seat)) → (place ps : List ℕ) (value entry : ℕ) → IsSide world behind place ps value entry → IsSide other beyond place ps value entry
+pub side-stays : (world other : World) (behind beyond : ℕ → List ℕ) → ((seat : ℕ) → world seat ≢ gone → (other seat ≡ world seat) × (beyond seat ≡ behind seat)) →
+    (place ps : List ℕ) (value entry : ℕ) → IsSide world behind place ps value entry → IsSide other beyond place ps value entry
 side-stays world other behind beyond same place [] value entry is = is
 side-stays world other behind beyond same place (piece ∷ []) value entry is = is
 side-stays world other behind beyond same place (piece ∷ next ∷ rest) value entry is =
@@ -87,14 +91,16 @@ side-stays world other behind beyond same place (piece ∷ next ∷ rest) value 
     (is.0, there.0 ∙ is.1, there.1 ∙ is.2)
 
 -- What a level with an entry to the rest of a key finds.
-side-finds : (world : World) (behind : ℕ → List ℕ) (place : List ℕ) (map : FinMap word_order ℕ) (piece : ℕ) (ps : List ℕ) (value entry : ℕ) → IsSide world behind place (piece ∷ ps) value entry → get map piece ≡ Some entry → look_in world (level map) (piece ∷ ps) ≡ Some value
+side-finds : (world : World) (behind : ℕ → List ℕ) (place : List ℕ) (map : FinMap word_order ℕ) (piece : ℕ) (ps : List ℕ) (value entry : ℕ) →
+    IsSide world behind place (piece ∷ ps) value entry → get map piece ≡ Some entry → look_in world (level map) (piece ∷ ps) ≡ Some value
 side-finds world behind place map piece [] value entry is e = ap (λ o. at_entry o [] (λ at. lookup world (suc at) [])) e ∙ ap (λ n. Some n) is.1
 side-finds world behind place map piece (next ∷ rest) value entry is e =
     ap (λ o. at_entry o (next ∷ rest) (λ at. lookup world (suc at) (next ∷ rest))) e
     ∙ ap (λ n. look_in world n (next ∷ rest)) is.1
     ∙ tail-same world (next ∷ rest) value (λ nil. cc)
 
-side-others : (world : World) (behind : ℕ → List ℕ) (place : List ℕ) (map : FinMap word_order ℕ) (piece : ℕ) (ps : List ℕ) (value entry : ℕ) → IsSide world behind place (piece ∷ ps) value entry → get map piece ≡ Some entry → (other : List ℕ) → ArePieces (piece ∷ other) → other ≢ ps → look_in world (level map) (piece ∷ other) ≡ None
+side-others : (world : World) (behind : ℕ → List ℕ) (place : List ℕ) (map : FinMap word_order ℕ) (piece : ℕ) (ps : List ℕ) (value entry : ℕ) →
+    IsSide world behind place (piece ∷ ps) value entry → get map piece ≡ Some entry → (other : List ℕ) → ArePieces (piece ∷ other) → other ≢ ps → look_in world (level map) (piece ∷ other) ≡ None
 side-others world behind place map piece [] value entry is e [] are ne = absurd (ne refl)
 side-others world behind place map piece [] value entry is e (p ∷ other) are ne = absurd (are.0 is.0)
 side-others world behind place map piece (next ∷ rest) value entry is e [] are ne = absurd (is.0 are)
@@ -103,11 +109,13 @@ side-others world behind place map piece (next ∷ rest) value entry is e (p ∷
     ∙ ap (λ n. look_in world n (p ∷ other)) is.1
     ∙ tail-other world (next ∷ rest) (p ∷ other) value (λ same. ne (sym same))
 
-side-leads : (world : World) (behind : ℕ → List ℕ) (place : List ℕ) (piece : ℕ) (ps : List ℕ) (value entry : ℕ) → IsSide world behind place (piece ∷ ps) value entry → IsInner piece → (behind (suc entry) ≡ place ++ piece ∷ []) × (world (suc entry) ≢ gone)
+side-leads : (world : World) (behind : ℕ → List ℕ) (place : List ℕ) (piece : ℕ) (ps : List ℕ) (value entry : ℕ) → IsSide world behind place (piece ∷ ps) value entry →
+    IsInner piece → (behind (suc entry) ≡ place ++ piece ∷ []) × (world (suc entry) ≢ gone)
 side-leads world behind place piece [] value entry is inner = absurd (inner is.0)
 side-leads world behind place piece (next ∷ rest) value entry is inner = (is.2, (λ none. let g : tail (next ∷ rest) value ≡ gone = sym is.1 ∙ none in cc))
 
-side-ends : (world : World) (behind : ℕ → List ℕ) (place : List ℕ) (piece : ℕ) (ps : List ℕ) (value entry : ℕ) → IsSide world behind place (piece ∷ ps) value entry → IsFinal piece → SpellKey (place ++ piece ∷ [])
+side-ends : (world : World) (behind : ℕ → List ℕ) (place : List ℕ) (piece : ℕ) (ps : List ℕ) (value entry : ℕ) → IsSide world behind place (piece ∷ ps) value entry →
+    IsFinal piece → SpellKey (place ++ piece ∷ [])
 side-ends world behind place piece [] value entry is final = is.2
 side-ends world behind place piece (next ∷ rest) value entry is final = absurd (is.0 final)
 
@@ -124,18 +132,22 @@ entry-some : (map : FinMap word_order ℕ) (piece entry : ℕ) → get map piece
 entry-some map piece entry there e = none-some entry (sym (get-empty word_order piece) ∙ sym (ap (λ (m : FinMap word_order ℕ). get m piece) e) ∙ there)
 
 -- A fork: two entries, one to each.
-module _ (world : World) (behind : ℕ → List ℕ) (place : List ℕ) (map : FinMap word_order ℕ) (one two : ℕ) (held new : List ℕ) (value one_at two_at : ℕ) (apart : one ≢ two) (one_is : IsSide world behind place (one ∷ held) value one_at) (two_is : IsSide world behind place (two ∷ new) 0 two_at) (one_get : get map one ≡ Some one_at) (two_get : get map two ≡ Some two_at) (others_get : (p : ℕ) → p ≢ one → p ≢ two → get map p ≡ None) (short : 8 * length place ≤ LONGEST_KEY) where
+module _ (world : World) (behind : ℕ → List ℕ) (place : List ℕ) (map : FinMap word_order ℕ) (one two : ℕ) (held new : List ℕ) (value one_at two_at : ℕ)
+    (apart : one ≢ two) (one_is : IsSide world behind place (one ∷ held) value one_at) (two_is : IsSide world behind place (two ∷ new) 0 two_at)
+    (one_get : get map one ≡ Some one_at) (two_get : get map two ≡ Some two_at) (others_get : (p : ℕ) → p ≢ one → p ≢ two → get map p ≡ None) (short : 8 * length place ≤ LONGEST_KEY) where
   pub fork-branch : IsBranch world behind place map (one ∷ held) (two ∷ new) value
   fork-branch = record {
     fits = record {
       leads = λ p found entry inner. elim (cases_eq p one) [
         | inl e ↦
             let at : one_at ≡ found = same_Some one_at found (sym (ap (get map) e ∙ one_get) ∙ entry) in
-            subst (λ q. (behind (suc found) ≡ place ++ q ∷ []) × (world (suc found) ≢ gone)) (sym e) (subst (λ f. (behind (suc f) ≡ place ++ one ∷ []) × (world (suc f) ≢ gone)) at (side-leads world behind place one held value one_at one_is (subst IsInner e inner)))
+            subst (λ q. (behind (suc found) ≡ place ++ q ∷ []) × (world (suc found) ≢ gone)) (sym e)
+            (subst (λ f. (behind (suc f) ≡ place ++ one ∷ []) × (world (suc f) ≢ gone)) at (side-leads world behind place one held value one_at one_is (subst IsInner e inner)))
         | inr off ↦ elim (cases_eq p two) [
           | inl e ↦
               let at : two_at ≡ found = same_Some two_at found (sym (ap (get map) e ∙ two_get) ∙ entry) in
-              subst (λ q. (behind (suc found) ≡ place ++ q ∷ []) × (world (suc found) ≢ gone)) (sym e) (subst (λ f. (behind (suc f) ≡ place ++ two ∷ []) × (world (suc f) ≢ gone)) at (side-leads world behind place two new 0 two_at two_is (subst IsInner e inner)))
+              subst (λ q. (behind (suc found) ≡ place ++ q ∷ []) × (world (suc found) ≢ gone)) (sym e)
+              (subst (λ f. (behind (suc f) ≡ place ++ two ∷ []) × (world (suc f) ≢ gone)) at (side-leads world behind place two new 0 two_at two_is (subst IsInner e inner)))
           | inr away ↦ absurd (none-some found (sym (others_get p off away) ∙ entry))
         ]
       ];
@@ -166,7 +178,8 @@ module _ (world : World) (behind : ℕ → List ℕ) (place : List ℕ) (map : F
 
 -- ---- one level more above it
 
-module _ (now after : Arena) (is : IsArena now) (words : ArrayOf word_order) (to : ℕ) (put_is : IsPut now after (Level 2 words) to) (place : List ℕ) (piece : ℕ) (inner : IsInner piece) (held new : List ℕ) (value : ℕ) (branch : IsBranch (world_of now) is.behind (place ++ piece ∷ []) words.map held new value) (held_are : ArePieces held) (new_are : ArePieces new) where
+module _ (now after : Arena) (is : IsArena now) (words : ArrayOf word_order) (to : ℕ) (put_is : IsPut now after (Level 2 words) to) (place : List ℕ) (piece : ℕ) (inner : IsInner piece)
+    (held new : List ℕ) (value : ℕ) (branch : IsBranch (world_of now) is.behind (place ++ piece ∷ []) words.map held new value) (held_are : ArePieces held) (new_are : ArePieces new) where
   abbrev front : List ℕ
   front = place ++ piece ∷ []
 
@@ -180,7 +193,9 @@ module _ (now after : Arena) (is : IsArena now) (words : ArrayOf word_order) (to
   }
 
   abbrev pub up-grafts : (before : Arena) (grafts : Grafts before now) → grafts.is ≡ is → Grafts before after
-  up-grafts before grafts e = put-grafts now after is (Level 2 words) to put_is front tt up-fits branch.used before grafts.was (subst (λ (a : IsArena now). (seat : ℕ) → world_of before seat ≢ gone → (world_of now seat ≡ world_of before seat) × (a.behind seat ≡ grafts.was.behind seat)) e grafts.same)
+  up-grafts before grafts e =
+      put-grafts now after is (Level 2 words) to put_is front tt up-fits branch.used before grafts.was
+      (subst (λ (a : IsArena now). (seat : ℕ) → world_of before seat ≢ gone → (world_of now seat ≡ world_of before seat) × (a.behind seat ≡ grafts.was.behind seat)) e grafts.same)
 
   module _ (map : FinMap word_order ℕ) (here : get map piece ≡ Some to) (off : (p : ℕ) → p ≢ piece → get map p ≡ None) where
     seat-here : world_of after (suc to) ≡ level words.map
@@ -212,7 +227,8 @@ module _ (now after : Arena) (is : IsArena now) (words : ArrayOf word_order) (to
         leads = λ p found entry p_inner. elim (cases_eq p piece) [
           | inl e ↦
               let at : to ≡ found = same_Some to found (sym (ap (get map) e ∙ here) ∙ entry) in
-              subst (λ f. (behind_put now after is (Level 2 words) to put_is front tt (suc f) ≡ place ++ p ∷ []) × (world_of after (suc f) ≢ gone)) at (behind-here ∙ ap (λ q. place ++ q ∷ []) (sym e), (λ none. let g : level words.map ≡ gone = sym seat-here ∙ none in cc))
+              subst (λ f. (behind_put now after is (Level 2 words) to put_is front tt (suc f) ≡ place ++ p ∷ []) × (world_of after (suc f) ≢ gone)) at
+              (behind-here ∙ ap (λ q. place ++ q ∷ []) (sym e), (λ none. let g : level words.map ≡ gone = sym seat-here ∙ none in cc))
           | inr apart ↦ absurd (none-some found (sym (off p apart) ∙ entry))
         ];
         ends = λ p v entry final. elim (cases_eq p piece) [

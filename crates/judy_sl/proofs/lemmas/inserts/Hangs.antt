@@ -40,7 +40,8 @@ stands-put before now after child to stands put = record {
       put.elsewhere at (λ e. taken-some (child_at now at) (subst IsTaken (sym stood) there) (ap (λ k. node_of (child_at now k)) e ∙ put.was_free)) ∙ stood;
 }
 
-stands-hung : (before now after : Arena) (words linked : ArrayOf word_order) (twig : Option Twig) (at : Option ℕ) → StandsStill before now → IsHung now after words linked twig at → StandsStill before after
+stands-hung : (before now after : Arena) (words linked : ArrayOf word_order) (twig : Option Twig) (at : Option ℕ) → StandsStill before now →
+    IsHung now after words linked twig at → StandsStill before after
 stands-hung before now after words linked None None stands is = subst (StandsStill before) (sym is.0) stands
 stands-hung before now after words linked None (Some at) stands is = absurd is
 stands-hung before now after words linked (Some twig) None stands is = absurd is

@@ -13,7 +13,7 @@ use Rattle.judy_sl.specs.declared.arena.Way.{Way}
 use Rattle.judy_sl.specs.declared.arena.Way.TheVariants.{At, Gap, Clash}
 use Rattle.judy_sl.specs.Pieces.{pieces}
 use Rattle.judy_sl.specs.World.{World, lookup}
-use Rattle.judy_sl.specs.Worlds.{AllLed}
+use Rattle.judy_sl.specs.WorldInvariants.{AllLed}
 use Rattle.judy_sl.specs.Arenas.{world_of, map_of, array_of, IsStrings}
 use Rattle.judy_sl.specs.Places.{place_with, place_value}
 use Rattle.judy_sl.specs.Ways.{IsWay, IsNew, IsFound}
@@ -50,7 +50,8 @@ module _ (limit count : ℕ) (arena : Arena) (is : IsStrings limit count arena) 
     pub there-value : place_value arena place ≡ get (ins (map_of arena) key) key
     there-value =
         value-there arena is.is_arena key place found
-        ∙ sym (ap (λ (m : FinMap byte_order ℕ). get m key) (ins_present (map_of arena) key found.value (get-there limit count arena is key is_key place found)) ∙ get-there limit count arena is key is_key place found)
+        ∙ sym (ap (λ (m : FinMap byte_order ℕ). get m key) (ins_present (map_of arena) key found.value (get-there limit count arena is key is_key place found)) ∙
+        get-there limit count arena is key is_key place found)
 
   -- Where it isn't.
   module _ (none : get (map_of arena) key ≡ None) where

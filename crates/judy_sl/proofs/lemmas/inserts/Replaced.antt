@@ -8,7 +8,7 @@ use Rattle.std.specs.FinMap.{FinMap, get, insert}
 use Rattle.judy_model.specs.Keys.{word_order, byte_order}
 use Rattle.judy_sl.specs.Pieces.{pieces, IsInner, IsFinal, ArePieces}
 use Rattle.judy_sl.specs.World.{World, gone, tail, level, lookup, at_entry}
-use Rattle.judy_sl.specs.Worlds.{IsWorld, FitsBehind, IsLed, AllLed}
+use Rattle.judy_sl.specs.WorldInvariants.{IsWorld, FitsBehind, IsLed, AllLed}
 use Rattle.judy_sl.specs.Ways.{LeadsTo}
 use Rattle.judy_sl.specs.Grown.{IsChange}
 use Rattle.judy_sl.specs.Shrunk.{IsUnled}
@@ -138,7 +138,8 @@ module _ (world now : World) (was_behind behind : ℕ → List ℕ) (here piece 
       | inr off ↦
           let stood : now seat ≡ level m = sym (cond-other now here (level changed) seat off) ∙ e in
           elim (beside.further seat m stood) [
-            | inl some ↦ off (led-once world was_behind beside.was all seat here m beside.map p piece at (sym (beside.same seat some).0 ∙ stood) m_entry p_inner beside.is_level beside.entry beside.inner)
+            | inl some ↦ off (led-once world was_behind beside.was all seat here m beside.map p piece at
+                (sym (beside.same seat some).0 ∙ stood) m_entry p_inner beside.is_level beside.entry beside.inner)
             | inr deep ↦
                 let leads = (beside.is.levels seat m stood).leads p at m_entry p_inner in
                 let same = (last-same (behind seat) (was_behind here) p piece (sym leads.0 ∙ (beside.same (suc at) at-some).1 ∙ was-at)).0 in
@@ -199,13 +200,17 @@ module _ (world now : World) (was_behind behind : ℕ → List ℕ) (here piece 
 
     -- ---- what is found
 
-    module _ (root : FinMap word_order ℕ) (root_is : world 0 ≡ level root) (key : List ℕ) (rest : List ℕ) (leads : LeadsTo world key here (piece ∷ rest)) (key_are : ArePieces (pieces key)) (rest_are : ArePieces rest) (held_some : beside.held ≢ []) (at_held : look_in now (level beside.words) beside.held ≡ Some beside.value) (at_new : look_in now (level beside.words) rest ≡ Some 0) (others : (p : ℕ) (more : List ℕ) → ArePieces (p ∷ more) → p ∷ more ≢ beside.held → p ∷ more ≢ rest → look_in now (level beside.words) (p ∷ more) ≡ None) where
+    module _ (root : FinMap word_order ℕ) (root_is : world 0 ≡ level root) (key : List ℕ) (rest : List ℕ) (leads : LeadsTo world key here (piece ∷ rest))
+        (key_are : ArePieces (pieces key)) (rest_are : ArePieces rest) (held_some : beside.held ≢ []) (at_held : look_in now (level beside.words) beside.held ≡ Some beside.value)
+        (at_new : look_in now (level beside.words) rest ≡ Some 0) (others : (p : ℕ) (more : List ℕ) → ArePieces (p ∷ more) → p ∷ more ≢ beside.held → p ∷ more ≢ rest →
+        look_in now (level beside.words) (p ∷ more) ≡ None) where
       -- Behind the entry the new level is looked into,
       through : (next : ℕ) (more : List ℕ) → ArePieces (next ∷ more) → look_in led_away (level changed) (piece ∷ next ∷ more) ≡ look_in now (level beside.words) (next ∷ more)
       through next more are =
           ap (λ o. at_entry o (next ∷ more) (λ f. lookup led_away (suc f) (next ∷ more))) (get-insert_here beside.map piece to)
           ∙ ap (λ n. look_in led_away n (next ∷ more)) (cond-other now here (level changed) (suc to) to-off ∙ beside.there)
-          ∙ frame-below now led_away behind beside.is (λ place. place ≡ behind here) (λ seat some off. cond-other now here (level changed) seat (λ e. off (ap behind e))) (behind (suc to)) beside.words (beside.is.levels (suc to) beside.words beside.there) next more are (λ front last e hit.
+          ∙ frame-below now led_away behind beside.is (λ place. place ≡ behind here) (λ seat some off. cond-other now here (level changed) seat (λ e. off (ap behind e)))
+          (behind (suc to)) beside.words (beside.is.levels (suc to) beside.words beside.there) next more are (λ front last e hit.
           let l = ap (λ (ps : List ℕ). length ps) hit in
           let one = length-append (behind (suc to) ++ next ∷ []) front in
           let two = length-append (behind (suc to)) (next ∷ []) in

@@ -12,7 +12,7 @@ use Rattle.judy_sl.specs.declared.arena.Place.TheVariants.{Root, Below}
 use Rattle.judy_sl.specs.declared.branches.Branch.{Branch}
 use Rattle.judy_sl.specs.Pieces.{pieces, SpellKey}
 use Rattle.judy_sl.specs.World.{World, gone, tail, level, lookup}
-use Rattle.judy_sl.specs.Worlds.{AllLed}
+use Rattle.judy_sl.specs.WorldInvariants.{AllLed}
 use Rattle.judy_sl.specs.Arenas.{world_of, node_of, child_at, IsArena, HasText}
 use Rattle.judy_sl.specs.Places.{place_value}
 use Rattle.judy_sl.specs.Ways.{IsFound, IsGap, IsClash, seat_of, piece_at, left_of, levels_passed}
@@ -73,7 +73,8 @@ module _ (arena : Arena) (key : List ℕ) (from : Place) (at left : ℕ) (clash 
     tail-short : (rest : List ℕ × ℕ) → child_at arena at ≡ Tail rest → length rest.0 ≤ LONGEST_KEY
     tail-short rest e =
         let spells = is.is_world.tails (suc at) (pieces rest.0) rest.1 (ap node_of e) in
-        let more : SpellKey (pieces rest.0) = rest-key clash.leads.front (pieces rest.0) spells.key clash.leads.inner spells.is_key (spells.spells ∙ ap (λ f. f ++ pieces rest.0) (behind-leads (world_of arena) is.behind is.is_world key (suc at) (pieces (left_of key left)) clash.leads)) in
+        let more : SpellKey (pieces rest.0) = rest-key clash.leads.front (pieces rest.0) spells.key clash.leads.inner spells.is_key
+        (spells.spells ∙ ap (λ f. f ++ pieces rest.0) (behind-leads (world_of arena) is.behind is.is_world key (suc at) (pieces (left_of key left)) clash.leads)) in
         let same : more.key ≡ rest.0 = pieces_same more.key rest.0 (text_of_key more.key more.is_key) (subst HasText e (is.texts at)) more.spells in
         subst (λ (bytes : List ℕ). length bytes ≤ LONGEST_KEY) same more.is_key.is_bytes_key.within_limit
 
@@ -84,7 +85,9 @@ module _ (arena : Arena) (key : List ℕ) (from : Place) (at left : ℕ) (clash 
 
 -- ---- the branch that takes its place
 
-module _ (arena : Arena) (is : IsArena arena) (led : AllLed (world_of arena)) (counted : AreCounted arena) (key : List ℕ) (is_key : IsStringKey key) (from : Place) (at left : ℕ) (clash : IsClash (world_of arena) key from at left) (items bytes : List ℕ) (value : ℕ) (read : child_at arena at ≡ Tail ((items, value))) (same_bytes : bytes ≡ items) (made : Branch) (built : IsBuilt bytes value (take (length key - (length key - left)) (drop (length key - left) key)) made) where
+module _ (arena : Arena) (is : IsArena arena) (led : AllLed (world_of arena)) (counted : AreCounted arena) (key : List ℕ) (is_key : IsStringKey key) (from : Place)
+    (at left : ℕ) (clash : IsClash (world_of arena) key from at left) (items bytes : List ℕ) (value : ℕ) (read : child_at arena at ≡ Tail ((items, value)))
+    (same_bytes : bytes ≡ items) (made : Branch) (built : IsBuilt bytes value (take (length key - (length key - left)) (drop (length key - left) key)) made) where
   there-read : child_at arena at ≡ Tail ((bytes, value))
   there-read = read ∙ ap (λ (b : List ℕ). Tail ((b, value))) (sym same_bytes)
 

@@ -12,7 +12,7 @@ use Rattle.judy_sl.specs.declared.arena.Place.{Place}
 use Rattle.judy_sl.specs.declared.arena.Place.TheVariants.{Below}
 use Rattle.judy_sl.specs.Pieces.{pieces, IsText, IsInner, IsFinal, SpellKey, ArePieces}
 use Rattle.judy_sl.specs.World.{World, Node, gone, tail, level, lookup, at_entry}
-use Rattle.judy_sl.specs.Worlds.{IsWorld, FitsBehind, AllLed}
+use Rattle.judy_sl.specs.WorldInvariants.{IsWorld, FitsBehind, AllLed}
 use Rattle.judy_sl.specs.Arenas.{world_of, node_of, child_at, IsArena, HasText}
 use Rattle.judy_sl.specs.Places.{place_with}
 use Rattle.judy_sl.specs.Ways.{seat_of, piece_at, LeadsTo, IsFound, IsGap, HasValue, left_of}
@@ -51,7 +51,9 @@ module _ (before after : Arena) (child : Child) (at : ℕ) (put_is : IsPut befor
       ∙ is_level
 
 -- An entry that leads to a new tail, over the seats alone.
-module _ (world : World) (behind : ℕ → List ℕ) (is : IsWorld world behind) (root : FinMap word_order ℕ) (root_is : world 0 ≡ level root) (key : List ℕ) (is_key : IsStringKey key) (seat : ℕ) (piece : ℕ) (held : List ℕ) (some : held ≢ []) (inner : IsInner piece) (leads : LeadsTo world key seat (piece ∷ held)) (map : FinMap word_order ℕ) (is_level : world seat ≡ level map) (absent : get map piece ≡ None) (at : ℕ) (free : world (suc at) ≡ gone) where
+module _ (world : World) (behind : ℕ → List ℕ) (is : IsWorld world behind) (root : FinMap word_order ℕ) (root_is : world 0 ≡ level root) (key : List ℕ)
+    (is_key : IsStringKey key) (seat : ℕ) (piece : ℕ) (held : List ℕ) (some : held ≢ []) (inner : IsInner piece) (leads : LeadsTo world key seat (piece ∷ held))
+    (map : FinMap word_order ℕ) (is_level : world seat ≡ level map) (absent : get map piece ≡ None) (at : ℕ) (free : world (suc at) ≡ gone) where
   abbrev new : Node
   new = tail held 0
 
@@ -99,7 +101,8 @@ module _ (world : World) (behind : ℕ → List ℕ) (is : IsWorld world behind)
     leads = λ p found entry p_inner. elim (cases_eq p piece) [
       | inl e ↦
           let here : at ≡ found = same_Some at found (sym (ap (get changed) e ∙ get-insert_here map piece at) ∙ entry) in
-          subst (λ f. (behind_after (suc f) ≡ behind seat ++ p ∷ []) × (tailed (suc f) ≢ gone)) here (behind-new ∙ ap (λ q. behind seat ++ q ∷ []) (sym e), (λ none. let g : new ≡ gone = sym new-there ∙ none in cc))
+          subst (λ f. (behind_after (suc f) ≡ behind seat ++ p ∷ []) × (tailed (suc f) ≢ gone)) here
+          (behind-new ∙ ap (λ q. behind seat ++ q ∷ []) (sym e), (λ none. let g : new ≡ gone = sym new-there ∙ none in cc))
       | inr apart ↦ old-fits.leads p found (sym (get-insert_off map piece at p apart) ∙ entry) p_inner
     ];
     ends = λ p value entry final. elim (cases_eq p piece) [
@@ -143,7 +146,8 @@ module _ (world : World) (behind : ℕ → List ℕ) (is : IsWorld world behind)
 
   pub tail-change : IsChange world tailed_after (leads.front ++ piece ∷ held) (Some 0)
   tail-change =
-      changes_behind world tailed_after behind is root root_is leads.front leads.inner seat leads.way apart-after behind-front map changed is_level after-seat piece (λ p off. get-insert_off map piece at p off) held (Some 0) some (at-new held some ∙ tail-same tailed_after held 0 some) others
+      changes_behind world tailed_after behind is root root_is leads.front leads.inner seat leads.way apart-after behind-front map changed is_level after-seat piece
+      (λ p off. get-insert_off map piece at p off) held (Some 0) some (at-new held some ∙ tail-same tailed_after held 0 some) others
 
   pub tail-found : IsFound tailed_after key (Below at 0)
   tail-found = record {
@@ -151,7 +155,9 @@ module _ (world : World) (behind : ℕ → List ℕ) (is : IsWorld world behind)
     leads = record {
       front = leads.front ++ piece ∷ [];
       inner = inner-more leads.front piece leads.inner inner;
-      way = walk-more tailed_after 0 leads.front seat changed piece at (way-stays world tailed_after behind is root root_is leads.front leads.inner seat leads.way apart-after) after-seat (get-insert_here map piece at);
+      way =
+          walk-more tailed_after 0 leads.front seat changed piece at (way-stays world tailed_after behind is root root_is leads.front leads.inner seat leads.way apart-after) after-seat
+          (get-insert_here map piece at);
       parts = leads.parts ∙ sym (append_assoc leads.front (piece ∷ []) held);
     };
     value = 0;
@@ -159,7 +165,8 @@ module _ (world : World) (behind : ℕ → List ℕ) (is : IsWorld world behind)
   }
 
 -- The same over arenas: the tail is put in, and then the entry.
-module _ (arena : Arena) (is : IsArena arena) (key : List ℕ) (is_key : IsStringKey key) (place : Place) (left : ℕ) (gap : IsGap (world_of arena) key place left) (long : 8 ≤ left) (placed : Arena) (at : ℕ) (rest : List ℕ × ℕ) (put_is : IsPut arena placed (Tail rest) at) (bytes : rest.0 ≡ drop 8 (left_of key left)) (zero_is : rest.1 ≡ 0) where
+module _ (arena : Arena) (is : IsArena arena) (key : List ℕ) (is_key : IsStringKey key) (place : Place) (left : ℕ) (gap : IsGap (world_of arena) key place left)
+    (long : 8 ≤ left) (placed : Arena) (at : ℕ) (rest : List ℕ × ℕ) (put_is : IsPut arena placed (Tail rest) at) (bytes : rest.0 ≡ drop 8 (left_of key left)) (zero_is : rest.1 ≡ 0) where
   abbrev rest_of : List ℕ
   rest_of = left_of key left
 
@@ -201,17 +208,33 @@ module _ (arena : Arena) (is : IsArena arena) (key : List ℕ) (is_key : IsStrin
       let world = world_of arena in
       record {
         is_arena = record {
-          behind = behind_after world is.behind is.is_world arena.root.map refl key is_key (seat_of place) (piece_at place) held_of (pieces-some (drop 8 rest_of)) inner-is leads-is gap.map gap.is_level gap.absent at put_is.was_free;
-          is_world = subst (λ w. IsWorld w (behind_after world is.behind is.is_world arena.root.map refl key is_key (seat_of place) (piece_at place) held_of (pieces-some (drop 8 rest_of)) inner-is leads-is gap.map gap.is_level gap.absent at put_is.was_free)) (sym after-is) (after-world world is.behind is.is_world arena.root.map refl key is_key (seat_of place) (piece_at place) held_of (pieces-some (drop 8 rest_of)) inner-is leads-is gap.map gap.is_level gap.absent at put_is.was_free);
+          behind =
+              behind_after world is.behind is.is_world arena.root.map refl key is_key (seat_of place) (piece_at place) held_of
+              (pieces-some (drop 8 rest_of)) inner-is leads-is gap.map gap.is_level gap.absent at put_is.was_free;
+          is_world =
+              subst (λ w. IsWorld w (behind_after world is.behind is.is_world arena.root.map refl key is_key (seat_of place) (piece_at place) held_of
+              (pieces-some (drop 8 rest_of)) inner-is leads-is gap.map gap.is_level gap.absent at put_is.was_free)) (sym after-is)
+              (after-world world is.behind is.is_world arena.root.map refl key is_key (seat_of place) (piece_at place) held_of
+              (pieces-some (drop 8 rest_of)) inner-is leads-is gap.map gap.is_level gap.absent at put_is.was_free);
           texts = texts-place placed at place there (texts-placed text);
         };
-        led = λ all. subst AllLed (sym after-is) (led-put world at (tail held_of 0) (seat_of place) gap.map (piece_at place) put_is.was_free gap.is_level inner-is (λ to entry. none-some to (sym gap.absent ∙ entry)) (get-insert_here gap.map (piece_at place) at) all);
-        change = subst (λ w. IsChange world w (pieces key) (Some 0)) (sym after-is) (subst (λ ps. IsChange world (tailed_after world is.behind is.is_world arena.root.map refl key is_key (seat_of place) (piece_at place) held_of (pieces-some (drop 8 rest_of)) inner-is leads-is gap.map gap.is_level gap.absent at put_is.was_free) ps (Some 0)) (sym leads-is.parts) (tail-change world is.behind is.is_world arena.root.map refl key is_key (seat_of place) (piece_at place) held_of (pieces-some (drop 8 rest_of)) inner-is leads-is gap.map gap.is_level gap.absent at put_is.was_free));
-        found = subst (λ w. IsFound w key (Below at 0)) (sym after-is) (tail-found world is.behind is.is_world arena.root.map refl key is_key (seat_of place) (piece_at place) held_of (pieces-some (drop 8 rest_of)) inner-is leads-is gap.map gap.is_level gap.absent at put_is.was_free);
+        led =
+            λ all. subst AllLed (sym after-is) (led-put world at (tail held_of 0) (seat_of place) gap.map (piece_at place) put_is.was_free gap.is_level inner-is
+            (λ to entry. none-some to (sym gap.absent ∙ entry)) (get-insert_here gap.map (piece_at place) at) all);
+        change =
+            subst (λ w. IsChange world w (pieces key) (Some 0)) (sym after-is) (subst (λ ps. IsChange world
+            (tailed_after world is.behind is.is_world arena.root.map refl key is_key (seat_of place) (piece_at place) held_of
+            (pieces-some (drop 8 rest_of)) inner-is leads-is gap.map gap.is_level gap.absent at put_is.was_free) ps (Some 0)) (sym leads-is.parts)
+            (tail-change world is.behind is.is_world arena.root.map refl key is_key (seat_of place) (piece_at place) held_of
+            (pieces-some (drop 8 rest_of)) inner-is leads-is gap.map gap.is_level gap.absent at put_is.was_free));
+        found =
+            subst (λ w. IsFound w key (Below at 0)) (sym after-is) (tail-found world is.behind is.is_world arena.root.map refl key is_key (seat_of place)
+            (piece_at place) held_of (pieces-some (drop 8 rest_of)) inner-is leads-is gap.map gap.is_level gap.absent at put_is.was_free);
       }
 
 -- The whole of it, as the steps of the code come.
-pub filled-tail : (before placed after : Arena) (key : List ℕ) (place : Place) (left at : ℕ) (rest : List ℕ × ℕ) → IsArena before → IsStringKey key → IsGap (world_of before) key place left → 8 ≤ left → IsPut before placed (Tail rest) at → after ≡ place_with placed place at → rest.0 ≡ drop 8 (left_of key left) → rest.1 ≡ 0 → IsAdded before after key (Below at 0)
+pub filled-tail : (before placed after : Arena) (key : List ℕ) (place : Place) (left at : ℕ) (rest : List ℕ × ℕ) → IsArena before → IsStringKey key → IsGap (world_of before) key place left →
+    8 ≤ left → IsPut before placed (Tail rest) at → after ≡ place_with placed place at → rest.0 ≡ drop 8 (left_of key left) → rest.1 ≡ 0 → IsAdded before after key (Below at 0)
 filled-tail before placed after key place left at rest is is_key gap long put_is after_is bytes value =
     subst (λ a. IsAdded before a key (Below at 0)) (sym after_is)
     (fills-tail before is key is_key place left gap long placed at rest put_is bytes value (subst IsText (sym bytes) (text-drop 8 (left_of key left) gap.text)))

@@ -41,7 +41,8 @@ module _ (arena : Arena) (is : IsArena arena) (key : List ℕ) (is_key : IsStrin
       (fills-last arena is key is_key (Root piece) (length key) first-gap short)
 
   -- or with the piece and its tail. The piece came first, but the order is free: the tail could have been put in before it.
-  module _ (words : ArrayOf word_order) (after : Arena) (at : ℕ) (rest : List ℕ × ℕ) (words_is : words ≡ with_map arena.root (insert arena.root.map piece at)) (put : IsPut (record arena { root = words }) after (Tail rest) at) where
+  module _ (words : ArrayOf word_order) (after : Arena) (at : ℕ) (rest : List ℕ × ℕ) (words_is : words ≡ with_map arena.root (insert arena.root.map piece at))
+      (put : IsPut (record arena { root = words }) after (Tail rest) at) where
     abbrev pub placed : Arena
     placed = record after { root = arena.root }
 

@@ -7,7 +7,7 @@ use Rattle.judy_sl.specs.declared.arena.Place.{Place}
 use Rattle.judy_sl.specs.declared.arena.Place.TheVariants.{Root, Below}
 use Rattle.judy_sl.specs.Pieces.{pieces}
 use Rattle.judy_sl.specs.World.{World, Node, gone, tail, level, lookup, at_entry, walk}
-use Rattle.judy_sl.specs.Worlds.{IsWorld, AllLed}
+use Rattle.judy_sl.specs.WorldInvariants.{IsWorld, AllLed}
 use Rattle.judy_sl.specs.Arenas.{world_of, node_of, child_at, IsArena}
 use Rattle.judy_sl.specs.Children.{value_at, IsTaken}
 use Rattle.judy_sl.specs.Places.{IsPlace, place_with, place_value}
@@ -25,7 +25,8 @@ behind-leads world behind is key seat rest leads =
     walk-behind world behind is 0 leads.front seat leads.inner leads.way ∙ ap (λ place. place ++ leads.front) is.first
 
 -- Another node at the seat of a key leaves the seats that have other pieces behind them.
-pub apart-leads : (world : World) (behind : ℕ → List ℕ) → IsWorld world behind → (key : List ℕ) (seat : ℕ) (rest : List ℕ) (leads : LeadsTo world key seat rest) (node : Node) (at : ℕ) → world at ≢ gone → behind at ≢ leads.front → set_node world seat node at ≡ world at
+pub apart-leads : (world : World) (behind : ℕ → List ℕ) → IsWorld world behind → (key : List ℕ) (seat : ℕ) (rest : List ℕ) (leads : LeadsTo world key seat rest) (node : Node) (at : ℕ) →
+    world at ≢ gone → behind at ≢ leads.front → set_node world seat node at ≡ world at
 apart-leads world behind is key seat rest leads node at some off =
     cond-other world seat node at (λ e. off (ap behind e ∙ behind-leads world behind is key seat rest leads))
 
@@ -65,7 +66,10 @@ module _ (arena : Arena) (is : IsArena arena) (key : List ℕ) (place : Place) (
   found-node : (node : Node) (piece : ℕ) (rest : List ℕ) (value : ℕ) → HasValue node piece rest value → (rest ≢ []) × (look_in (world_of arena) node rest ≡ Some value)
   found-node gone piece rest value has = absurd has
   found-node (tail held v) piece rest value has = (has.1, ap (λ l. look_in (world_of arena) (tail l v) rest) has.0 ∙ tail-same (world_of arena) rest v has.1 ∙ ap (λ n. Some n) has.2)
-  found-node (level map) piece rest value has = ((λ e. let g : piece ∷ [] ≡ [] = sym has.0 ∙ e in cc), ap (look_in (world_of arena) (level map)) has.0 ∙ ap (λ o. at_entry o [] (λ at. lookup (world_of arena) (suc at) [])) has.2)
+  found-node (level map) piece rest value has = (
+    (λ e. let g : piece ∷ [] ≡ [] = sym has.0 ∙ e in cc),
+    ap (look_in (world_of arena) (level map)) has.0 ∙ ap (λ o. at_entry o [] (λ at. lookup (world_of arena) (suc at) [])) has.2,
+  )
 
   at-seat : (front rest : List ℕ) → rest ≢ [] → (seat : ℕ) → walk (world_of arena) 0 front ≡ Some seat → lookup (world_of arena) 0 (front ++ rest) ≡ look_in (world_of arena) (world_of arena seat) rest
   at-seat front [] some seat way = absurd (some refl)
@@ -80,7 +84,8 @@ module _ (arena : Arena) (is : IsArena arena) (key : List ℕ) (place : Place) (
     abbrev other : World
     other = set_node (world_of arena) (seat_of place) (node_with (world_of arena (seat_of place)) (piece_at place) value)
 
-    fits-node : (node : Node) → world_of arena (seat_of place) ≡ node → HasValue node (piece_at place) found.rest found.value → NodeFits (world_of arena) is.behind (is.behind (seat_of place)) (node_with node (piece_at place) value)
+    fits-node : (node : Node) → world_of arena (seat_of place) ≡ node → HasValue node (piece_at place) found.rest found.value →
+        NodeFits (world_of arena) is.behind (is.behind (seat_of place)) (node_with node (piece_at place) value)
     fits-node gone e has = absurd has
     fits-node (tail held v) e has = is.is_world.tails (seat_of place) held v e
     fits-node (level map) e has =
@@ -106,23 +111,32 @@ module _ (arena : Arena) (is : IsArena arena) (key : List ℕ) (place : Place) (
     pub written-led : AllLed (world_of arena) → AllLed (world_of (place_with arena place value))
     written-led all =
         let node = world_of arena (seat_of place) in
-        subst AllLed (sym (world-with_place arena place value place-there)) (led-set (world_of arena) (seat_of place) (node_with node (piece_at place) value) (keeps-node node found.has) (some-node node (piece_at place) found.rest found.value found.has) all)
+        subst AllLed (sym (world-with_place arena place value place-there)) (led-set (world_of arena) (seat_of place) (node_with node (piece_at place) value)
+        (keeps-node node found.has) (some-node node (piece_at place) found.rest found.value found.has) all)
 
-    change-node : (node : Node) → world_of arena (seat_of place) ≡ node → HasValue node (piece_at place) found.rest found.value → IsChange (world_of arena) (set_node (world_of arena) (seat_of place) (node_with node (piece_at place) value)) (found.leads.front ++ found.rest) (Some value)
+    change-node : (node : Node) → world_of arena (seat_of place) ≡ node → HasValue node (piece_at place) found.rest found.value →
+        IsChange (world_of arena) (set_node (world_of arena) (seat_of place) (node_with node (piece_at place) value)) (found.leads.front ++ found.rest) (Some value)
     change-node gone e has = absurd has
     change-node (tail [] v) e has = absurd (has.1 (sym has.0))
     change-node (tail (first ∷ held) v) e has =
         let node = tail (first ∷ held) value in
         subst (λ l. IsChange (world_of arena) (set_node (world_of arena) (seat_of place) node) (found.leads.front ++ l) (Some value)) has.0 (
-        changes_tail (world_of arena) (set_node (world_of arena) (seat_of place) node) is.behind is.is_world arena.root.map refl found.leads.front found.leads.inner (seat_of place) found.leads.way (apart-leads (world_of arena) is.behind is.is_world key (seat_of place) found.rest found.leads node) first held v value e (cond-same (world_of arena) (seat_of place) node (seat_of place) refl)
+        changes_tail (world_of arena) (set_node (world_of arena) (seat_of place) node) is.behind is.is_world arena.root.map refl found.leads.front found.leads.inner
+        (seat_of place) found.leads.way (apart-leads (world_of arena) is.behind is.is_world key (seat_of place) found.rest found.leads node) first held v value e
+        (cond-same (world_of arena) (seat_of place) node (seat_of place) refl)
         )
     change-node (level map) e has =
         let node = level (insert map (piece_at place) value) in
         subst (λ l. IsChange (world_of arena) (set_node (world_of arena) (seat_of place) node) (found.leads.front ++ l) (Some value)) (sym has.0) (
-        changes_value (world_of arena) (set_node (world_of arena) (seat_of place) node) is.behind is.is_world arena.root.map refl found.leads.front found.leads.inner (seat_of place) found.leads.way (apart-leads (world_of arena) is.behind is.is_world key (seat_of place) found.rest found.leads node) (behind-leads (world_of arena) is.behind is.is_world key (seat_of place) found.rest found.leads) map (insert map (piece_at place) value) e (cond-same (world_of arena) (seat_of place) node (seat_of place) refl) (piece_at place) (λ p off. get-insert_off map (piece_at place) value p off) (Some value) has.1 (get-insert_here map (piece_at place) value)
+        changes_value (world_of arena) (set_node (world_of arena) (seat_of place) node) is.behind is.is_world arena.root.map refl found.leads.front found.leads.inner
+        (seat_of place) found.leads.way (apart-leads (world_of arena) is.behind is.is_world key (seat_of place) found.rest found.leads node)
+        (behind-leads (world_of arena) is.behind is.is_world key (seat_of place) found.rest found.leads) map (insert map (piece_at place) value) e
+        (cond-same (world_of arena) (seat_of place) node (seat_of place) refl) (piece_at place) (λ p off. get-insert_off map (piece_at place) value p off)
+        (Some value) has.1 (get-insert_here map (piece_at place) value)
         )
 
     -- And the key has the value.
     pub written-change : IsChange (world_of arena) (world_of (place_with arena place value)) (pieces key) (Some value)
     written-change =
-        subst (λ w. IsChange (world_of arena) w (pieces key) (Some value)) (sym (world-with_place arena place value place-there)) (subst (λ l. IsChange (world_of arena) other l (Some value)) (sym found.leads.parts) (change-node (world_of arena (seat_of place)) refl found.has))
+        subst (λ w. IsChange (world_of arena) w (pieces key) (Some value)) (sym (world-with_place arena place value place-there))
+        (subst (λ l. IsChange (world_of arena) other l (Some value)) (sym found.leads.parts) (change-node (world_of arena (seat_of place)) refl found.has))

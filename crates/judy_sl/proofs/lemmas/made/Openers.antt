@@ -1,5 +1,6 @@
 -- The pairs whose strings open a first piece, and the others: all there are.
-use Rattle.std.proofs.Common.{◌≡◌, ℕ, ◌+◌, ◌<◌, nat_le, nat_lt, ltb-true, Bool, true, false, ◌&&◌, true≢false, if◌then◌else◌, List, [], ◌∷◌, ◌++◌, length, get_or, drop, ◌⊎◌, inl, inr, ⊎_elim, refl, sym, ap, ◌∙◌}
+use Rattle.std.proofs.Common.{◌≡◌, ℕ, ◌+◌, ◌<◌, nat_le, nat_lt, ltb-true, Bool, true, false, ◌&&◌, true≢false, if◌then◌else◌, List, [], ◌∷◌, ◌++◌, length, get_or, drop, ◌⊎◌, inl}
+use Rattle.std.proofs.Common.{inr, ⊎_elim, refl, sym, ap, ◌∙◌}
 use Rattle.std.specs.Borrow.{Bor}
 use Rattle.std.proofs.lemmas.List.{at_drop_more}
 use Rattle.std.specs.FinMap.{FinMap, insert}
@@ -28,7 +29,8 @@ among_either (x ∷ xs) ys pair here = ⊎_elim (λ e. inl (inl e)) (λ later. �
 pub opens_or_follows : (pairs : List Pair) (low : ℕ) (pair : Pair) → Among pairs pair → Among (openers low pairs ++ followers low pairs) pair
 opens_or_follows [] low pair here = absurd here
 opens_or_follows (one ∷ pairs) low pair here =
-    elim (opens low one.0) as (λ b. Among ((if b then one ∷ openers (piece_of one.0) pairs else openers low pairs) ++ (if b then followers (piece_of one.0) pairs else one ∷ followers low pairs)) pair) [
+    elim (opens low one.0) as (λ b. Among ((if b then one ∷ openers (piece_of one.0) pairs else openers low pairs) ++
+    (if b then followers (piece_of one.0) pairs else one ∷ followers low pairs)) pair) [
       | true ↦ ⊎_elim (λ e. inl e) (λ later. inr (opens_or_follows pairs (piece_of one.0) pair later)) here
       | false ↦ ⊎_elim
           (λ e. among_back (openers low pairs) (one ∷ followers low pairs) pair (inl e))
@@ -43,7 +45,8 @@ opens_or_follows (one ∷ pairs) low pair here =
 pub opener_or_follower : (pairs : List Pair) (low : ℕ) (pair : Pair) → Among (openers low pairs ++ followers low pairs) pair → Among pairs pair
 opener_or_follower [] low pair here = here
 opener_or_follower (one ∷ pairs) low pair here =
-    elim (opens low one.0) as (λ b. Among ((if b then one ∷ openers (piece_of one.0) pairs else openers low pairs) ++ (if b then followers (piece_of one.0) pairs else one ∷ followers low pairs)) pair → Among (one ∷ pairs) pair) [
+    elim (opens low one.0) as (λ b. Among ((if b then one ∷ openers (piece_of one.0) pairs else openers low pairs) ++
+    (if b then followers (piece_of one.0) pairs else one ∷ followers low pairs)) pair → Among (one ∷ pairs) pair) [
       | true ↦ λ among. ⊎_elim (λ e. inl e) (λ later. inr (opener_or_follower pairs (piece_of one.0) pair later)) among
       | false ↦ λ among. ⊎_elim
           (λ front. inr (opener_or_follower pairs low pair (among_front (openers low pairs) (followers low pairs) pair front)))
@@ -84,13 +87,6 @@ module _ (pairs : List (Bor (List ℕ) × ℕ)) (at : ℕ) (default : Bor (List 
         ∙ ap (λ b. if b then (one.0.now, one.1) ∷ openers (piece_of one.0.now) rest else openers low rest) is
         ))
 
-    pub skipped : followers (piece_of one.0.now) rest ≡ followers low (pairs_in (drop at pairs))
-    skipped =
-        sym (
-        at_drop_more (λ (left : List (Bor (List ℕ) × ℕ)). followers low (pairs_in left)) pairs at default within
-        ∙ ap (λ b. if b then followers (piece_of one.0.now) rest else (one.0.now, one.1) ∷ followers low rest) is
-        )
-
   -- or is another one.
   module _ (is : opens low one.0.now ≡ false) where
     pub passed : openers low rest ≡ openers low (pairs_in (drop at pairs))
@@ -99,10 +95,3 @@ module _ (pairs : List (Bor (List ℕ) × ℕ)) (at : ℕ) (default : Bor (List 
         at_drop_more (λ (left : List (Bor (List ℕ) × ℕ)). openers low (pairs_in left)) pairs at default within
         ∙ ap (λ b. if b then (one.0.now, one.1) ∷ openers (piece_of one.0.now) rest else openers low rest) is
         )
-
-    pub followed : (map : FinMap byte_order ℕ) → with_pairs (insert map one.0.now one.1) (followers low rest) ≡ with_pairs map (followers low (pairs_in (drop at pairs)))
-    followed map =
-        sym (ap (with_pairs map) (
-        at_drop_more (λ (left : List (Bor (List ℕ) × ℕ)). followers low (pairs_in left)) pairs at default within
-        ∙ ap (λ b. if b then followers (piece_of one.0.now) rest else (one.0.now, one.1) ∷ followers low rest) is
-        ))

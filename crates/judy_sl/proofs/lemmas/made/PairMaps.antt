@@ -60,7 +60,8 @@ written-only [] map key value is = inr is
 written-only (pair ∷ pairs) map key value is = ⊎_elim
     (λ later. inl (inr later))
     (λ held.
-    elim (eq_by_cmp byte_order key pair.0) as (λ b. eq_by_cmp byte_order key pair.0 ≡ b → cond b (Some pair.1) (get map key) ≡ Some value → Among (pair ∷ pairs) (key, value) ⊎ (get map key ≡ Some value)) [
+    elim (eq_by_cmp byte_order key pair.0) as (λ b. eq_by_cmp byte_order key pair.0 ≡ b → cond b (Some pair.1) (get map key) ≡ Some value →
+    Among (pair ∷ pairs) (key, value) ⊎ (get map key ≡ Some value)) [
       | true ↦ λ tied found. let keys = same_from_tie byte_order_same key pair.0 tied in let values = same_Some pair.1 value found in inl (inl (λ i. (keys i, sym values i)))
       | false ↦ λ apart found. inr found
     ] refl (sym (get-insert byte_order_total map pair.0 pair.1 key) ∙ held))
@@ -68,7 +69,8 @@ written-only (pair ∷ pairs) map key value is = ⊎_elim
 
 module _ (all : List (List ℕ × ℕ)) (sorted : T (is_sorted byte_order all)) where
   -- A pair of a list in order stays where others of it are written,
-  written-kept : (pairs : List (List ℕ × ℕ)) → ((pair : List ℕ × ℕ) → Among pairs pair → Among all pair) → (map : FinMap byte_order ℕ) (key : List ℕ) (value : ℕ) → Among all (key, value) → get map key ≡ Some value → get (with_pairs map pairs) key ≡ Some value
+  written-kept : (pairs : List (List ℕ × ℕ)) → ((pair : List ℕ × ℕ) → Among pairs pair → Among all pair) → (map : FinMap byte_order ℕ) (key : List ℕ) (value : ℕ) →
+      Among all (key, value) → get map key ≡ Some value → get (with_pairs map pairs) key ≡ Some value
   written-kept [] inside map key value here is = is
   written-kept (pair ∷ pairs) inside map key value here is =
       written-kept pairs (λ other later. inside other (inr later)) (insert map pair.0 pair.1) key value here
@@ -81,7 +83,8 @@ module _ (all : List (List ℕ × ℕ)) (sorted : T (is_sorted byte_order all)) 
       ] refl)
 
   -- and those that are written are there.
-  written-there : (pairs : List (List ℕ × ℕ)) → ((pair : List ℕ × ℕ) → Among pairs pair → Among all pair) → (map : FinMap byte_order ℕ) (key : List ℕ) (value : ℕ) → Among pairs (key, value) → get (with_pairs map pairs) key ≡ Some value
+  written-there : (pairs : List (List ℕ × ℕ)) → ((pair : List ℕ × ℕ) → Among pairs pair → Among all pair) → (map : FinMap byte_order ℕ) (key : List ℕ) (value : ℕ) →
+      Among pairs (key, value) → get (with_pairs map pairs) key ≡ Some value
   written-there [] inside map key value here = absurd here
   written-there (pair ∷ pairs) inside map key value here = ⊎_elim
       (λ e.
@@ -91,7 +94,8 @@ module _ (all : List (List ℕ × ℕ)) (sorted : T (is_sorted byte_order all)) 
       here
 
   -- Where all pairs of a list in order are written, and no others, they are the entries.
-  pub entries-written : (pairs : List (List ℕ × ℕ)) → ((pair : List ℕ × ℕ) → Among all pair → Among pairs pair) → ((pair : List ℕ × ℕ) → Among pairs pair → Among all pair) → entries (with_pairs empty pairs) ≡ all
+  pub entries-written : (pairs : List (List ℕ × ℕ)) → ((pair : List ℕ × ℕ) → Among all pair → Among pairs pair) → ((pair : List ℕ × ℕ) → Among pairs pair → Among all pair) →
+      entries (with_pairs empty pairs) ≡ all
   entries-written pairs each inside =
       ap entries (same_map byte_order_total byte_order_same (with_pairs empty pairs) (from_sorted all) (λ key. by key (find byte_order key all) refl ∙ sym (get-from_sorted byte_order all key sorted)))
       ∙ entries-from_sorted byte_order all sorted

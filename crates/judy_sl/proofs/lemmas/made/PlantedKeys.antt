@@ -3,7 +3,8 @@ use Rattle.std.proofs.Common.{◌≡◌, ℕ, ◌+◌, ◌<◌, ◌≤◌, cond,
 use Rattle.std.proofs.lemmas.List.{length_push}
 use Rattle.std.specs.Ordering.{is_lt, is_eq, eq_by_cmp, ordering_reverse}
 use Rattle.std.specs.Cmp.{nat_cmp_total}
-use Rattle.std.specs.FinMap.{FinMap, empty, insert, get, len, len-empty, find, from_sorted, is_sorted, nat_cmp-IsAntisymmetric, get-from_sorted, get-insert, entries-from_sorted, same_map, same_entries_map}
+use Rattle.std.specs.FinMap.{FinMap, empty, insert, get, len, len-empty, find, from_sorted, is_sorted, nat_cmp-IsAntisymmetric, get-from_sorted, get-insert, entries-from_sorted}
+use Rattle.std.specs.FinMap.{same_map, same_entries_map}
 use Rattle.std.specs.FinMap as finmap
 use Rattle.std.specs.FinMap.Entries.{below_all, find-append}
 use Rattle.judy_model.specs.Keys.{word_order, byte_order, IsStringKey}
@@ -16,7 +17,7 @@ use Rattle.judy_sl.specs.declared.arena.Arena.{Arena}
 use Rattle.judy_sl.specs.declared.arena.Place.TheVariants.{Below}
 use Rattle.judy_sl.specs.Children.{Child, Free, Tail, Level, child_with}
 use Rattle.judy_sl.specs.Pieces.{pieces, piece_of}
-use Rattle.judy_sl.specs.Worlds.{AllLed}
+use Rattle.judy_sl.specs.WorldInvariants.{AllLed}
 use Rattle.judy_sl.specs.Arenas.{world_of, child_at, map_of, IsArena, IsStrings}
 use Rattle.judy_sl.specs.Places.{place_with, with_child}
 use Rattle.judy_sl.specs.Grown.{IsPut, IsAdded, IsChange}
@@ -36,17 +37,20 @@ use Rattle.judy_sl.proofs.lemmas.counts.FirstWays.{unrooted, added_first, firsts
 below-push : (word : ℕ) (entries : List (ℕ × ℕ)) (piece at : ℕ) → word < piece → T (below_all word_order word entries) → T (below_all word_order word (entries ++ (piece, at) ∷ []))
 below-push word [] piece at less below = both _ _ (subst (λ r. T (is_lt r)) (sym (less_word word piece less)) tt) tt
 below-push word (entry ∷ entries) piece at less below =
-    both _ _ (left_of (is_lt (word_order word entry.0)) (below_all word_order word entries) below) (below-push word entries piece at less (right_of (is_lt (word_order word entry.0)) (below_all word_order word entries) below))
+    both _ _ (left_of (is_lt (word_order word entry.0)) (below_all word_order word entries) below) (below-push word entries piece at less
+    (right_of (is_lt (word_order word entry.0)) (below_all word_order word entries) below))
 
 sorted-push : (entries : List (ℕ × ℕ)) (piece at : ℕ) → AreBelow piece entries → T (is_sorted word_order entries) → T (is_sorted word_order (entries ++ (piece, at) ∷ []))
 sorted-push [] piece at under sorted = tt
 sorted-push (entry ∷ entries) piece at under sorted =
-    both _ _ (below-push entry.0 entries piece at under.0 (left_of (below_all word_order entry.0 entries) (is_sorted word_order entries) sorted)) (sorted-push entries piece at under.1 (right_of (below_all word_order entry.0 entries) (is_sorted word_order entries) sorted))
+    both _ _ (below-push entry.0 entries piece at under.0 (left_of (below_all word_order entry.0 entries) (is_sorted word_order entries) sorted))
+    (sorted-push entries piece at under.1 (right_of (below_all word_order entry.0 entries) (is_sorted word_order entries) sorted))
 
 find-none : (entries : List (ℕ × ℕ)) (piece : ℕ) → AreBelow piece entries → find word_order piece entries ≡ None
 find-none [] piece under = refl
 find-none (entry ∷ entries) piece under =
-    ap (λ r. cond (is_eq r) (Some entry.1) (find word_order piece entries)) (nat_cmp_total.antisymm piece entry.0 ∙ ap ordering_reverse (less_word entry.0 piece under.0)) ∙ find-none entries piece under.1
+    ap (λ r. cond (is_eq r) (Some entry.1) (find word_order piece entries)) (nat_cmp_total.antisymm piece entry.0 ∙ ap ordering_reverse (less_word entry.0 piece under.0)) ∙
+    find-none entries piece under.1
 
 -- Entries stay below what a further one is below too.
 pub below-more : (entries : List (ℕ × ℕ)) (piece at word : ℕ) → AreBelow word entries → piece < word → AreBelow word (entries ++ (piece, at) ∷ [])
@@ -61,7 +65,8 @@ root-over arena root at Free = refl
 root-over arena root at (Tail rest) = refl
 root-over arena root at (Level keys words) = refl
 
-module _ (arena : Arena) (entries : List (ℕ × ℕ)) (is : IsPlanted arena entries) (key : List ℕ) (is_key : IsStringKey key) (long : 8 ≤ length key) (above : AreBelow (piece_of key) entries) (placed : Arena) (at : ℕ) (rest : List ℕ) (rest_is : rest ≡ drop 8 key) (put : IsPut arena placed (Tail (rest, 0)) at) (value : ℕ) where
+module _ (arena : Arena) (entries : List (ℕ × ℕ)) (is : IsPlanted arena entries) (key : List ℕ) (is_key : IsStringKey key) (long : 8 ≤ length key)
+    (above : AreBelow (piece_of key) entries) (placed : Arena) (at : ℕ) (rest : List ℕ) (rest_is : rest ≡ drop 8 key) (put : IsPut arena placed (Tail (rest, 0)) at) (value : ℕ) where
   abbrev piece : ℕ
   piece = piece_of key
 
@@ -132,7 +137,8 @@ module _ (arena : Arena) (entries : List (ℕ × ℕ)) (is : IsPlanted arena ent
     led = subst (λ (all : Arena). AllLed (world_of all)) after-is (written-led middle added.is_arena key (Below at 0) added.found value (added.led is.led));
     counted = subst AreCounted after-is (counted_written middle added.is_arena key (Below at 0) added.found value middle-counted);
     firsts = subst (λ (all : Arena). AreFirsts (map_of all) empty) after-is
-        (subst (λ (all : FinMap byte_order ℕ). AreFirsts all empty) (sym written-is) (firsts_written (map_of middle) key added.found.value value empty (get-map middle key is_key ∙ found-there middle added.is_arena key (Below at 0) added.found) middle-firsts));
+        (subst (λ (all : FinMap byte_order ℕ). AreFirsts all empty) (sym written-is) (firsts_written (map_of middle) key added.found.value value empty
+        (get-map middle key is_key ∙ found-there middle added.is_arena key (Below at 0) added.found) middle-firsts));
     number =
         ap (λ (map : FinMap byte_order ℕ). len map) planted-map
         ∙ len-added (map_of before) key value absent
@@ -145,7 +151,9 @@ module _ (arena : Arena) (entries : List (ℕ × ℕ)) (is : IsPlanted arena ent
 -- An arena without an entry,
 module _ (arena : Arena) (no_levels : arena.levels.slots ≡ []) (nothing : arena.tails ≡ no_tails) (no_root : arena.root ≡ empty_array 18446744073709551615) where
   itself : arena ≡ planted arena []
-  itself = ap (λ (words : ArrayOf word_order). record arena { root = words }) (no_root ∙ ap (λ (map : FinMap word_order ℕ). record { limit = 18446744073709551615; map = map }) (sym (from_sorted-nil word_order)))
+  itself =
+      ap (λ (words : ArrayOf word_order). record arena { root = words }) (no_root ∙ ap (λ (map : FinMap word_order ℕ). record { limit = 18446744073709551615; map = map })
+      (sym (from_sorted-nil word_order)))
 
   pub planted-none : map_of (planted arena []) ≡ empty
   planted-none = ap map_of (sym itself) ∙ empty-map arena no_levels nothing no_root
@@ -161,7 +169,8 @@ module _ (arena : Arena) (no_levels : arena.levels.slots ≡ []) (nothing : aren
   }
 
 -- and one whose first level is made of the entries.
-module _ (arena : Arena) (entries : List (ℕ × ℕ)) (is : IsPlanted arena entries) (root : ArrayOf word_order) (limit_is : root.limit ≡ 18446744073709551615) (entries_are : finmap.entries root.map ≡ entries) where
+module _ (arena : Arena) (entries : List (ℕ × ℕ)) (is : IsPlanted arena entries) (root : ArrayOf word_order) (limit_is : root.limit ≡ 18446744073709551615)
+    (entries_are : finmap.entries root.map ≡ entries) where
   map-is : from_sorted entries ≡ root.map
   map-is = same_entries_map (from_sorted entries) root.map (entries-from_sorted word_order entries is.sorted ∙ sym entries_are)
 

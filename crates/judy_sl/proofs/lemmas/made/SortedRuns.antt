@@ -1,5 +1,6 @@
 -- Lists of strings that ascend as far as they were read.
-use Rattle.std.proofs.Common.{◌≡◌, ◌≢◌, ℕ, zero, suc, ◌+◌, ◌<◌, ◌≤◌, ⊎_elim, true, false, List, [], ◌∷◌, length, drop, get_or, slice_get, option_map, Option, Some, Ordering, Less, Equal, Greater, nat_cmp, nat_lt, lt-ltb, refl, sym, ap, subst, ◌∙◌, arith}
+use Rattle.std.proofs.Common.{◌≡◌, ◌≢◌, ℕ, zero, suc, ◌+◌, ◌<◌, ◌≤◌, ⊎_elim, true, false, List, [], ◌∷◌, length, drop, get_or, slice_get, option_map, Option, Some, Ordering, Less}
+use Rattle.std.proofs.Common.{Equal, Greater, nat_cmp, nat_lt, lt-ltb, refl, sym, ap, subst, ◌∙◌, arith}
 use Rattle.std.specs.Cmp.{nat_cmp_is}
 use Rattle.std.specs.Ordering.{is_lt, ordering_then}
 use Rattle.std.proofs.lemmas.Bool.{cases_lt, le-ltb}
@@ -18,7 +19,8 @@ Run before keys zero last = before ≡ last
 Run before [] (suc count) last = ⊥
 Run before (key ∷ keys) (suc count) last = GoesOn before key × Run (Some key) keys count last
 
-run-suc : (before : Option (List ℕ)) (keys : List (List ℕ)) (count : ℕ) (last : Option (List ℕ)) (key : List ℕ) → Run before keys count last → slice_get keys count ≡ Some key → GoesOn last key → Run before keys (suc count) (Some key)
+run-suc : (before : Option (List ℕ)) (keys : List (List ℕ)) (count : ℕ) (last : Option (List ℕ)) (key : List ℕ) → Run before keys count last → slice_get keys count ≡ Some key →
+    GoesOn last key → Run before keys (suc count) (Some key)
 run-suc before [] zero last key run there goes = cc
 run-suc before (one ∷ keys) zero last key run there goes =
     (subst (λ first. GoesOn first one) (sym run) (subst (GoesOn last) (sym (same_Some one key there)) goes), there)
@@ -26,13 +28,15 @@ run-suc before [] (suc count) last key run there goes = absurd run
 run-suc before (one ∷ keys) (suc count) last key run there goes = (run.0, run-suc (Some one) keys count last key run.1 there goes)
 
 -- The next one goes on.
-pub run-more : (before : Option (List ℕ)) (keys : List (List ℕ)) (count : ℕ) (last : Option (List ℕ)) (key : List ℕ) → Run before keys count last → slice_get keys count ≡ Some key → GoesOn last key → Run before keys (count + 1) (Some key)
+pub run-more : (before : Option (List ℕ)) (keys : List (List ℕ)) (count : ℕ) (last : Option (List ℕ)) (key : List ℕ) → Run before keys count last →
+    slice_get keys count ≡ Some key → GoesOn last key → Run before keys (count + 1) (Some key)
 run-more before keys count last key run there goes =
     let one_more : suc count ≡ count + 1 = omega arith in
     subst (λ more. Run before keys more (Some key)) one_more (run-suc before keys count last key run there goes)
 
 -- The next one is so to the last.
-pub run-to : (Is : Option (List ℕ) → List ℕ → Type 0) (before : Option (List ℕ)) (keys : List (List ℕ)) (count : ℕ) (last : Option (List ℕ)) (key : List ℕ) → Run before keys count last → slice_get keys count ≡ Some key → Is last key → AscendTo Is before keys count
+pub run-to : (Is : Option (List ℕ) → List ℕ → Type 0) (before : Option (List ℕ)) (keys : List (List ℕ)) (count : ℕ) (last : Option (List ℕ)) (key : List ℕ) →
+    Run before keys count last → slice_get keys count ≡ Some key → Is last key → AscendTo Is before keys count
 run-to Is before [] zero last key run there is = cc
 run-to Is before (one ∷ keys) zero last key run there is =
     subst (λ first. Is first one) (sym run) (subst (Is last) (sym (same_Some one key there)) is)
@@ -57,7 +61,8 @@ pairs-ascend before [] up = tt
 pairs-ascend before (pair ∷ pairs) up = (up.0.1, pairs-ascend (Some pair.0.now) pairs up.1)
 
 -- Each of their strings is a key.
-pub each-key : (before : Option (List ℕ)) (pairs : List (Bor (List ℕ) × ℕ)) → Ascend before (strings_in pairs) → (at : ℕ) (default : Bor (List ℕ) × ℕ) → at < length pairs → IsStringKey (get_or pairs at default).0.now
+pub each-key : (before : Option (List ℕ)) (pairs : List (Bor (List ℕ) × ℕ)) → Ascend before (strings_in pairs) → (at : ℕ) (default : Bor (List ℕ) × ℕ) →
+    at < length pairs → IsStringKey (get_or pairs at default).0.now
 each-key before [] up at default within = absurd (omega (arith, within))
 each-key before (pair ∷ pairs) up zero default within = up.0.0
 each-key before (pair ∷ pairs) up (suc at) default within = each-key (Some pair.0.now) pairs up.1 at default (omega (arith, within))

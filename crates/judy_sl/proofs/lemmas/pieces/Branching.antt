@@ -47,15 +47,20 @@ module _ (tail key : List ℕ) (upper : List (ℕ × ArrayOf word_order)) (held 
   pub common-long : (8 ≤ length held) × (8 ≤ length rest)
   common-long = both-long held rest is.held_text is.rest_text is.differ same
 
-  pub common-more : (after : List (ℕ × ArrayOf word_order)) (piece : ℕ) (level : ArrayOf word_order) → piece ≡ piece_of rest → level ≡ single piece → after ≡ upper ++ (piece, level) ∷ [] → IsCommon tail key after (drop 8 held) (drop 8 rest)
+  pub common-more : (after : List (ℕ × ArrayOf word_order)) (piece : ℕ) (level : ArrayOf word_order) → piece ≡ piece_of rest → level ≡ single piece →
+      after ≡ upper ++ (piece, level) ∷ [] → IsCommon tail key after (drop 8 held) (drop 8 rest)
   common-more after piece level piece_is level_is after_is =
       let long = common-long in
       let keys : keys_of (upper ++ (piece, level) ∷ []) ≡ keys_of upper ++ piece ∷ [] = keys-more upper piece level in
       subst (λ u. IsCommon tail key u (drop 8 held) (drop 8 rest)) (sym after_is) (record {
         singles = singles-more upper piece level is.singles level_is;
         inner = subst AreInner (sym keys) (inner-more (keys_of upper) piece is.inner (subst IsInner (sym piece_is) (piece-IsInner rest is.rest_text long.1)));
-        held_parts = is.held_parts ∙ ap (λ ps. keys_of upper ++ ps) (pieces_long held long.0 ∙ ap (λ p. p ∷ pieces (drop 8 held)) (same ∙ sym piece_is)) ∙ sym (ap (λ ps. ps ++ pieces (drop 8 held)) keys ∙ append_assoc (keys_of upper) (piece ∷ []) (pieces (drop 8 held)));
-        rest_parts = is.rest_parts ∙ ap (λ ps. keys_of upper ++ ps) (pieces_long rest long.1 ∙ ap (λ p. p ∷ pieces (drop 8 rest)) (sym piece_is)) ∙ sym (ap (λ ps. ps ++ pieces (drop 8 rest)) keys ∙ append_assoc (keys_of upper) (piece ∷ []) (pieces (drop 8 rest)));
+        held_parts =
+            is.held_parts ∙ ap (λ ps. keys_of upper ++ ps) (pieces_long held long.0 ∙ ap (λ p. p ∷ pieces (drop 8 held)) (same ∙ sym piece_is)) ∙
+            sym (ap (λ ps. ps ++ pieces (drop 8 held)) keys ∙ append_assoc (keys_of upper) (piece ∷ []) (pieces (drop 8 held)));
+        rest_parts =
+            is.rest_parts ∙ ap (λ ps. keys_of upper ++ ps) (pieces_long rest long.1 ∙ ap (λ p. p ∷ pieces (drop 8 rest)) (sym piece_is)) ∙
+            sym (ap (λ ps. ps ++ pieces (drop 8 rest)) keys ∙ append_assoc (keys_of upper) (piece ∷ []) (pieces (drop 8 rest)));
         held_text = text-drop 8 held is.held_text;
         rest_text = text-drop 8 rest is.rest_text;
         held_short = (let l = length-drop 8 held in let h = is.held_short in omega (arith, l, h));

@@ -33,9 +33,11 @@ module _ (world : World) (key : List ℕ) (seat : ℕ) (map : FinMap word_order 
   pub ends-on : EndsWell key → EndsWell (drop 8 rest)
   ends-on ends = ends-drop 8 rest (subst EndsWell (sym on.is_left) (ends-drop (length key - length rest) key ends))
 
-module _ (arena : Arena) (is : IsArena arena) (key : List ℕ) (small : AreBytes key) (ends : EndsWell key) (seat : ℕ) (map : FinMap word_order ℕ) (rest : List ℕ) (on : IsOnWay (world_of arena) key seat map rest) where
+module _ (arena : Arena) (is : IsArena arena) (key : List ℕ) (small : AreBytes key) (ends : EndsWell key) (seat : ℕ) (map : FinMap word_order ℕ) (rest : List ℕ)
+    (on : IsOnWay (world_of arena) key seat map rest) where
   -- What a tail's key is found for is that key,
-  pub key-tail : 8 ≤ length rest → IsInner (piece_of rest) → (at : ℕ) → get map (piece_of rest) ≡ Some at → (held : List ℕ) (value : ℕ) → world_of arena (suc at) ≡ tail (pieces held) value → held ≡ drop 8 rest → IsStringKey key
+  pub key-tail : 8 ≤ length rest → IsInner (piece_of rest) → (at : ℕ) → get map (piece_of rest) ≡ Some at → (held : List ℕ) (value : ℕ) →
+      world_of arena (suc at) ≡ tail (pieces held) value → held ≡ drop 8 rest → IsStringKey key
   key-tail long whole at entry held value tailed e = exact key small ends (spelled-tail (world_of arena) is.behind is.is_world key seat map rest on long whole at entry held value tailed e)
 
   -- and so is what has an entry under its last piece.

@@ -9,7 +9,7 @@ use Rattle.judy_sl.specs.declared.arena.Place.{Place}
 use Rattle.judy_sl.specs.declared.arena.Place.TheVariants.{Below}
 use Rattle.judy_sl.specs.Pieces.{pieces, pieces_in, piece_of, IsText, IsInner, IsFinal, AreInner, SpellKey}
 use Rattle.judy_sl.specs.World.{World, tail, level, lookup, at_entry}
-use Rattle.judy_sl.specs.Worlds.{IsWorld}
+use Rattle.judy_sl.specs.WorldInvariants.{IsWorld}
 use Rattle.judy_sl.specs.Arenas.{world_of, child_at, IsArena}
 use Rattle.judy_sl.specs.Ways.{IsOnWay, LeadsTo, HasValue, IsFound, IsGap, IsClash, place_in, seat_in, seat_of, piece_at, left_of}
 use Rattle.judy_sl.proofs.lemmas.pieces.PieceLemmas.{text-drop, pieces_same}
@@ -62,7 +62,8 @@ module _ (world : World) (key : List ℕ) (seat : ℕ) (map : FinMap word_order 
       let e : (length key - length rest) + 8 ≡ length key - length (drop 8 rest) = omega (arith, l, on.within) in
       ap (drop 8) on.is_left ∙ drop-drop 8 (length key - length rest) key ∙ ap (λ n. drop n key) e
 
-  pub on-moved : (at : ℕ) (next : FinMap word_order ℕ) → 8 ≤ length rest → IsInner (piece_of rest) → get map (piece_of rest) ≡ Some at → world (suc at) ≡ level next → IsOnWay world key (suc at) next (drop 8 rest)
+  pub on-moved : (at : ℕ) (next : FinMap word_order ℕ) → 8 ≤ length rest → IsInner (piece_of rest) → get map (piece_of rest) ≡ Some at → world (suc at) ≡ level next →
+      IsOnWay world key (suc at) next (drop 8 rest)
   on-moved at next long whole entry is = record {
     leads = leads-on at long whole entry;
     is_level = is;
@@ -72,7 +73,8 @@ module _ (world : World) (key : List ℕ) (seat : ℕ) (map : FinMap word_order 
   }
 
   -- It is one piece deeper then.
-  pub moved-deep : (at : ℕ) (next : FinMap word_order ℕ) (long : 8 ≤ length rest) (whole : IsInner (piece_of rest)) (entry : get map (piece_of rest) ≡ Some at) (is : world (suc at) ≡ level next) → length (on-moved at next long whole entry is).leads.front ≡ suc (length on.leads.front)
+  pub moved-deep : (at : ℕ) (next : FinMap word_order ℕ) (long : 8 ≤ length rest) (whole : IsInner (piece_of rest)) (entry : get map (piece_of rest) ≡ Some at)
+      (is : world (suc at) ≡ level next) → length (on-moved at next long whole entry is).leads.front ≡ suc (length on.leads.front)
   unfolding on-moved leads-on
   moved-deep at next long whole entry is = let sum = length-append on.leads.front (piece_of rest ∷ []) in omega (arith, sum)
 
@@ -91,7 +93,8 @@ at-place None piece place e = (ap seat_of (sym e), ap piece_at (sym e))
 at-place (Some at) piece place e = (ap seat_of (sym e), ap piece_at (sym e))
 
 -- The level has no entry.
-pub on-gap : (world : World) (key : List ℕ) (map : FinMap word_order ℕ) (rest : List ℕ) (child : Option ℕ) (piece : ℕ) (place : Place) → IsOnWay world key (seat_in child) map rest → place ≡ place_in child piece → piece ≡ piece_of rest → get map piece ≡ None → IsText key → IsGap world key place (length rest)
+pub on-gap : (world : World) (key : List ℕ) (map : FinMap word_order ℕ) (rest : List ℕ) (child : Option ℕ) (piece : ℕ) (place : Place) → IsOnWay world key (seat_in child) map rest →
+    place ≡ place_in child piece → piece ≡ piece_of rest → get map piece ≡ None → IsText key → IsGap world key place (length rest)
 on-gap world key map rest child piece place on e is none is_text =
     let here = at-place child piece place e in
     record {
@@ -113,20 +116,24 @@ short-IsFinal bytes short =
     omega arith
 
 -- The level has the last piece.
-pub on-last : (world : World) (key : List ℕ) (map : FinMap word_order ℕ) (rest : List ℕ) (child : Option ℕ) (piece : ℕ) (place : Place) → IsOnWay world key (seat_in child) map rest → place ≡ place_in child piece → piece ≡ piece_of rest → length rest < 8 → (value : ℕ) → get map piece ≡ Some value → IsFound world key place
+pub on-last : (world : World) (key : List ℕ) (map : FinMap word_order ℕ) (rest : List ℕ) (child : Option ℕ) (piece : ℕ) (place : Place) → IsOnWay world key (seat_in child) map rest →
+    place ≡ place_in child piece → piece ≡ piece_of rest → length rest < 8 → (value : ℕ) → get map piece ≡ Some value → IsFound world key place
 on-last world key map rest child piece place on e is short value entry =
     let here = at-place child piece place e in
     record {
       rest = pieces rest;
       leads = subst (λ seat. LeadsTo world key seat (pieces rest)) here.0 on.leads;
       value = value;
-      has = subst (λ p. HasValue (world (seat_of place)) p (pieces rest) value) here.1 (subst (λ node. HasValue node piece (pieces rest) value) (sym (ap world (sym here.0) ∙ on.is_level)) (pieces_short rest short ∙ ap (λ p. p ∷ []) (sym is), subst IsFinal (sym is) (short-IsFinal rest short), entry));
+      has =
+          subst (λ p. HasValue (world (seat_of place)) p (pieces rest) value) here.1 (subst (λ node. HasValue node piece (pieces rest) value)
+          (sym (ap world (sym here.0) ∙ on.is_level)) (pieces_short rest short ∙ ap (λ p. p ∷ []) (sym is), subst IsFinal (sym is) (short-IsFinal rest short), entry));
     }
 
 pub pieces-some : (bytes : List ℕ) → pieces bytes ≢ []
 pieces-some bytes e = let h = pieces-head bytes in (let g : piece_of bytes ∷ h.0 ≡ [] = sym h.1 ∙ e in cc)
 
-module _ (world : World) (key : List ℕ) (seat : ℕ) (map : FinMap word_order ℕ) (rest : List ℕ) (on : IsOnWay world key seat map rest) (long : 8 ≤ length rest) (whole : IsInner (piece_of rest)) (at : ℕ) (entry : get map (piece_of rest) ≡ Some at) (held : List ℕ) (value : ℕ) (is : world (suc at) ≡ tail (pieces held) value) where
+module _ (world : World) (key : List ℕ) (seat : ℕ) (map : FinMap word_order ℕ) (rest : List ℕ) (on : IsOnWay world key seat map rest) (long : 8 ≤ length rest)
+    (whole : IsInner (piece_of rest)) (at : ℕ) (entry : get map (piece_of rest) ≡ Some at) (held : List ℕ) (value : ℕ) (is : world (suc at) ≡ tail (pieces held) value) where
   -- The way comes to the key's own tail.
   pub on-tail : held ≡ drop 8 rest → IsFound world key (Below at 0)
   on-tail e = record {
@@ -145,7 +152,9 @@ module _ (world : World) (key : List ℕ) (seat : ℕ) (map : FinMap word_order 
         is_level = ap world (sym here.0) ∙ on.is_level;
         inner = subst IsInner here.1 whole;
         entry = ap (get map) (sym here.1) ∙ entry;
-        leads_from = subst (λ r. LeadsTo world key (seat_of from) (piece_at from ∷ pieces r)) left (subst (λ ps. LeadsTo world key (seat_of from) ps) (pieces_long rest long ∙ ap (λ p. p ∷ pieces (drop 8 rest)) here.1) (subst (λ s. LeadsTo world key s (pieces rest)) here.0 on.leads));
+        leads_from =
+            subst (λ r. LeadsTo world key (seat_of from) (piece_at from ∷ pieces r)) left (subst (λ ps. LeadsTo world key (seat_of from) ps)
+            (pieces_long rest long ∙ ap (λ p. p ∷ pieces (drop 8 rest)) here.1) (subst (λ s. LeadsTo world key s (pieces rest)) here.0 on.leads));
         within = omega (arith, length-drop 8 rest, on.within);
         leads = subst (λ r. LeadsTo world key (suc at) (pieces r)) left (leads-on world key seat map rest on at long whole entry);
         text = subst IsText left (text-drop 8 rest (on.text is_text));
@@ -208,10 +217,13 @@ module _ (world : World) (behind : ℕ → List ℕ) (is : IsWorld world behind)
   leads-behind end ps leads =
       ap (λ place. place ++ ps) (walk-behind world behind is 0 leads.front end leads.inner leads.way ∙ ap (λ place. place ++ leads.front) is.first) ∙ sym leads.parts
 
-  pub spelled-tail : 8 ≤ length rest → IsInner (piece_of rest) → (at : ℕ) → get map (piece_of rest) ≡ Some at → (held : List ℕ) (value : ℕ) → world (suc at) ≡ tail (pieces held) value → held ≡ drop 8 rest → SpellKey (pieces key)
+  pub spelled-tail : 8 ≤ length rest → IsInner (piece_of rest) → (at : ℕ) → get map (piece_of rest) ≡ Some at → (held : List ℕ) (value : ℕ) →
+      world (suc at) ≡ tail (pieces held) value → held ≡ drop 8 rest → SpellKey (pieces key)
   spelled-tail long whole at entry held value tailed e =
-      subst SpellKey (ap (λ bytes. behind (suc at) ++ pieces bytes) e ∙ leads-behind (suc at) (pieces (drop 8 rest)) (leads-on world key seat map rest on at long whole entry)) (is.tails (suc at) (pieces held) value tailed)
+      subst SpellKey (ap (λ bytes. behind (suc at) ++ pieces bytes) e ∙ leads-behind (suc at) (pieces (drop 8 rest)) (leads-on world key seat map rest on at long whole entry))
+      (is.tails (suc at) (pieces held) value tailed)
 
   pub spelled-last : length rest < 8 → (value : ℕ) → get map (piece_of rest) ≡ Some value → SpellKey (pieces key)
   spelled-last short value entry =
-      subst SpellKey (ap (λ ps. behind seat ++ ps) (sym (pieces_short rest short)) ∙ leads-behind seat (pieces rest) on.leads) ((is.levels seat map on.is_level).ends (piece_of rest) value entry (short-IsFinal rest short))
+      subst SpellKey (ap (λ ps. behind seat ++ ps) (sym (pieces_short rest short)) ∙ leads-behind seat (pieces rest) on.leads)
+      ((is.levels seat map on.is_level).ends (piece_of rest) value entry (short-IsFinal rest short))

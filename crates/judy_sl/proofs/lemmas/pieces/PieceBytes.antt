@@ -1,5 +1,6 @@
 -- The bytes of pieces: the pieces of a text spell it.
-use Rattle.std.proofs.Common.{◌≡◌, ◌≢◌, ◌==◌, Bool, ◌&&◌, not, true, false, ℕ, zero, suc, ◌+◌, ◌*◌, ◌/◌, ◌%◌, ◌^◌, ◌<◌, cond, nat_lt, inl, inr, List, [], ◌∷◌, ◌++◌, length, take, drop, filter, sym, refl, ap, ◌∙◌, arith, lt-ltb}
+use Rattle.std.proofs.Common.{◌≡◌, ◌≢◌, ◌==◌, Bool, ◌&&◌, not, true, false, ℕ, zero, suc, ◌+◌, ◌*◌, ◌/◌, ◌%◌, ◌^◌, ◌<◌, cond, nat_lt, inl, inr, List, [], ◌∷◌, ◌++◌, length, take}
+use Rattle.std.proofs.Common.{drop, filter, sym, refl, ap, ◌∙◌, arith, lt-ltb}
 use Rattle.std.specs.Int.{to_be_bytes, w64}
 use Rattle.std.specs.List.{list_all}
 use Rattle.std.proofs.Math.Nat.{mod-eq_of_lt}
@@ -19,7 +20,9 @@ none unit some = let e : 0 ≡ 0 * unit + 0 = omega arith in ap (λ n. n / unit)
 
 zero_bytes : (width : ℕ) → filter (λ byte. nat_lt 0 byte) (low_bytes width 0) ≡ []
 zero_bytes zero = refl
-zero_bytes (suc width) = ap (λ byte. cond (nat_lt 0 byte) (byte ∷ filter (λ b. nat_lt 0 b) (low_bytes width 0)) (filter (λ b. nat_lt 0 b) (low_bytes width 0))) (ap (λ n. n % 256) (none (256 ^ width) (unit_pos width))) ∙ zero_bytes width
+zero_bytes (suc width) =
+    ap (λ byte. cond (nat_lt 0 byte) (byte ∷ filter (λ b. nat_lt 0 b) (low_bytes width 0)) (filter (λ b. nat_lt 0 b) (low_bytes width 0)))
+    (ap (λ n. n % 256) (none (256 ^ width) (unit_pos width))) ∙ zero_bytes width
 
 -- The bytes that aren't zero of the number that a text spells are its first bytes.
 bytes-spelled : (width : ℕ) (bytes : List ℕ) → IsText bytes → filter (λ byte. nat_lt 0 byte) (low_bytes width (spelled width bytes)) ≡ take width bytes
@@ -30,7 +33,8 @@ bytes-spelled (suc width) (byte ∷ bytes) text =
     let later = All-tail (λ b. (b < 256) × (b ≢ 0)) byte bytes text in
     let unit = 256 ^ width in
     let first : (byte * unit + spelled width bytes) / unit % 256 ≡ byte = ap (λ n. n % 256) (div-mul-add byte unit (spelled width bytes) (spelled-lt width bytes later)) ∙ mod-eq_of_lt here.0 in
-    let rest : filter (λ b. nat_lt 0 b) (low_bytes width (byte * unit + spelled width bytes)) ≡ take width bytes = ap (filter (λ b. nat_lt 0 b)) (low_bytes-above width byte (spelled width bytes)) ∙ bytes-spelled width bytes later in
+    let rest : filter (λ b. nat_lt 0 b) (low_bytes width (byte * unit + spelled width bytes)) ≡ take width bytes = ap (filter (λ b. nat_lt 0 b))
+    (low_bytes-above width byte (spelled width bytes)) ∙ bytes-spelled width bytes later in
     (λ t. cond (nat_lt 0 (first t)) (first t ∷ rest t) (rest t)) ∙ ap (λ b. cond b (byte ∷ take width bytes) (take width bytes)) (lt-ltb 0 byte (omega (arith, here.1)))
 
 -- The bytes of the piece with which a text begins are its first eight.
@@ -66,12 +70,16 @@ some_length (first ∷ rest) byte here = omega arith
 -- So an inner piece has a byte.
 pub inner_bytes : (piece : ℕ) → IsInner piece → 0 < length (piece_bytes piece)
 unfolding piece_bytes
-inner_bytes piece inner = some_length (filter (λ byte. nat_lt 0 byte) (low_bytes 8 piece)) (piece % 256) (Among-filter (λ byte. nat_lt 0 byte) (low_bytes 8 piece) (piece % 256) (lowest_among 7 piece) (lt-ltb 0 (piece % 256) (omega (arith, inner))))
+inner_bytes piece inner =
+    some_length (filter (λ byte. nat_lt 0 byte) (low_bytes 8 piece)) (piece % 256) (Among-filter (λ byte. nat_lt 0 byte) (low_bytes 8 piece) (piece % 256)
+    (lowest_among 7 piece) (lt-ltb 0 (piece % 256) (omega (arith, inner))))
 
 -- The bytes of a piece as it stands in memory, the highest first.
 pub piece_bytes-be : (piece : ℕ) → piece_bytes piece ≡ filter (λ byte. nat_lt 0 byte) (to_be_bytes w64 piece)
 unfolding piece_bytes
-piece_bytes-be piece = let lowest : piece / 1 ≡ piece = omega arith in ap (λ low. filter (λ byte. nat_lt 0 byte) (piece / 72057594037927936 % 256 ∷ piece / 281474976710656 % 256 ∷ piece / 1099511627776 % 256 ∷ piece / 4294967296 % 256 ∷ piece / 16777216 % 256 ∷ piece / 65536 % 256 ∷ piece / 256 % 256 ∷ low % 256 ∷ [])) lowest
+piece_bytes-be piece =
+    let lowest : piece / 1 ≡ piece = omega arith in ap (λ low. filter (λ byte. nat_lt 0 byte) (piece / 72057594037927936 % 256 ∷ piece / 281474976710656 %
+    256 ∷ piece / 1099511627776 % 256 ∷ piece / 4294967296 % 256 ∷ piece / 16777216 % 256 ∷ piece / 65536 % 256 ∷ piece / 256 % 256 ∷ low % 256 ∷ [])) lowest
 
 both-right : (a b : Bool) → (a && b) ≡ true → b ≡ true
 both-right true b are = are

@@ -1,6 +1,7 @@
 -- The pieces of strings without zeros: exactly the last is final, they are of one string alone, and the order of
 -- strings is the order of their pieces.
-use Rattle.std.proofs.Common.{Fits, w8, ◌≡◌, ◌≢◌, ℕ, zero, suc, ◌+◌, ◌*◌, ◌/◌, ◌%◌, ◌^◌, ◌<◌, ◌≤◌, ⊎_elim, List, [], ◌∷◌, length, drop, get_or, All, sym, refl, ap, ◌∙◌, subst, arith, Ordering, Less, Equal, Greater, nat_cmp}
+use Rattle.std.proofs.Common.{Fits, w8, ◌≡◌, ◌≢◌, ℕ, zero, suc, ◌+◌, ◌*◌, ◌/◌, ◌%◌, ◌^◌, ◌<◌, ◌≤◌, ⊎_elim, List, [], ◌∷◌, length, drop, get_or, All, sym, refl, ap, ◌∙◌, subst}
+use Rattle.std.proofs.Common.{arith, Ordering, Less, Equal, Greater, nat_cmp}
 use Rattle.std.specs.Cmp.{tied_itself}
 use Rattle.std.specs.Cmp.Lexicographic.{nat_list_cmp_total}
 use Rattle.std.specs.Ordering.{ordering_then}
@@ -115,13 +116,15 @@ both_short one two short also p q =
 short_long : (one two : List ℕ) → length one < 8 → 8 ≤ length two → IsText one → IsText two → byte_order (pieces one) (pieces two) ≡ byte_order one two
 short_long one two short long p q =
     (λ t. byte_order (pieces_short one short t) (pieces_long two long t))
-    ∙ first_decides (piece_of one) (piece_of two) (byte_order [] (pieces (drop 8 two))) (byte_order (drop 8 one) (drop 8 two)) (final-not_inner (piece_of one) (piece_of two) (piece-IsFinal one p short) (piece-IsInner two q long))
+    ∙ first_decides (piece_of one) (piece_of two) (byte_order [] (pieces (drop 8 two))) (byte_order (drop 8 one) (drop 8 two))
+    (final-not_inner (piece_of one) (piece_of two) (piece-IsFinal one p short) (piece-IsInner two q long))
     ∙ sym (order-piece one two p q)
 
 long_short : (one two : List ℕ) → 8 ≤ length one → length two < 8 → IsText one → IsText two → byte_order (pieces one) (pieces two) ≡ byte_order one two
 long_short one two long short p q =
     (λ t. byte_order (pieces_long one long t) (pieces_short two short t))
-    ∙ first_decides (piece_of one) (piece_of two) (byte_order (pieces (drop 8 one)) []) (byte_order (drop 8 one) (drop 8 two)) (λ e. final-not_inner (piece_of two) (piece_of one) (piece-IsFinal two q short) (piece-IsInner one p long) (sym e))
+    ∙ first_decides (piece_of one) (piece_of two) (byte_order (pieces (drop 8 one)) []) (byte_order (drop 8 one) (drop 8 two))
+    (λ e. final-not_inner (piece_of two) (piece_of one) (piece-IsFinal two q short) (piece-IsInner one p long) (sym e))
     ∙ sym (order-piece one two p q)
 
 order-pieces_within : (most : ℕ) (one two : List ℕ) → length one ≤ most → IsText one → IsText two → byte_order (pieces one) (pieces two) ≡ byte_order one two

@@ -10,7 +10,7 @@ use Rattle.std.specs.declared.cmp.Ordering.TheVariants.{Less, Equal, Greater}
 use Rattle.judy_model.specs.Keys.{word_order, byte_order}
 use Rattle.judy_model.proofs.lemmas.maps.TableLemmas.{byte_order_total, byte_order_same}
 use Rattle.judy_sl.specs.Pieces.{pieces, pieces_in, piece_of, AreInner}
-use Rattle.judy_sl.specs.Worlds.{IsWorld}
+use Rattle.judy_sl.specs.WorldInvariants.{IsWorld}
 use Rattle.judy_sl.specs.World.{World, Node, gone, tail, level, at_node, at_entry, lookup, step_node, step_entry, walk}
 
 -- Fewer than eight bytes are one piece.
@@ -65,12 +65,14 @@ tail-other world held [] value apart = refl
 tail-other world held (piece ∷ rest) value apart = ap (λ b. cond b (Some value) None) (eq_by_cmp-other held (piece ∷ rest) apart)
 
 -- A step of a way is a step of a look-up.
-entry-step : (entry : Option ℕ) (ps : List ℕ) (on find : ℕ → Option ℕ) (end : ℕ) (found : Option ℕ) → ps ≢ [] → ((at : ℕ) → on at ≡ Some end → find at ≡ found) → step_entry entry on ≡ Some end → at_entry entry ps find ≡ found
+entry-step : (entry : Option ℕ) (ps : List ℕ) (on find : ℕ → Option ℕ) (end : ℕ) (found : Option ℕ) → ps ≢ [] → ((at : ℕ) → on at ≡ Some end → find at ≡ found) →
+    step_entry entry on ≡ Some end → at_entry entry ps find ≡ found
 entry-step None ps on find end found some goes way = absurd (none-some end way)
 entry-step (Some at) [] on find end found some goes way = absurd (some refl)
 entry-step (Some at) (next ∷ ps) on find end found some goes way = goes at way
 
-walk-step : (node : Node) (piece : ℕ) (ps : List ℕ) (on find : ℕ → Option ℕ) (end : ℕ) (found : Option ℕ) → ps ≢ [] → ((at : ℕ) → on at ≡ Some end → find at ≡ found) → step_node node piece on ≡ Some end → at_node node piece ps find ≡ found
+walk-step : (node : Node) (piece : ℕ) (ps : List ℕ) (on find : ℕ → Option ℕ) (end : ℕ) (found : Option ℕ) → ps ≢ [] → ((at : ℕ) → on at ≡ Some end → find at ≡ found) →
+    step_node node piece on ≡ Some end → at_node node piece ps find ≡ found
 walk-step gone piece ps on find end found some goes way = absurd (none-some end way)
 walk-step (tail held value) piece ps on find end found some goes way = absurd (none-some end way)
 walk-step (level map) piece ps on find end found some goes way = entry-step (get map piece) ps on find end found some goes way
@@ -80,12 +82,14 @@ more-some [] piece rest e = cc
 more-some (first ∷ front) piece rest e = cc
 
 -- What is found behind a way of levels is found from its end.
-pub lookup-walk : (world : World) (seat : ℕ) (front : List ℕ) (end piece : ℕ) (rest : List ℕ) → walk world seat front ≡ Some end → lookup world seat (front ++ piece ∷ rest) ≡ lookup world end (piece ∷ rest)
+pub lookup-walk : (world : World) (seat : ℕ) (front : List ℕ) (end piece : ℕ) (rest : List ℕ) → walk world seat front ≡ Some end →
+    lookup world seat (front ++ piece ∷ rest) ≡ lookup world end (piece ∷ rest)
 lookup-walk world seat [] end piece rest way =
     let e : seat ≡ end = cc in
     ap (λ s. lookup world s (piece ∷ rest)) e
 lookup-walk world seat (first ∷ front) end piece rest way =
-    walk-step (world seat) first (front ++ piece ∷ rest) (λ at. walk world (suc at) front) (λ at. lookup world (suc at) (front ++ piece ∷ rest)) end (lookup world end (piece ∷ rest)) (more-some front piece rest) (λ at on. lookup-walk world (suc at) front end piece rest on) way
+    walk-step (world seat) first (front ++ piece ∷ rest) (λ at. walk world (suc at) front) (λ at. lookup world (suc at) (front ++ piece ∷ rest)) end
+    (lookup world end (piece ∷ rest)) (more-some front piece rest) (λ at on. lookup-walk world (suc at) front end piece rest on) way
 
 -- What a step of a way goes through: an entry of a level.
 pub record IsStep (node : Node) (piece : ℕ) (on : ℕ → Option ℕ) (end : ℕ) : Type 0 where
@@ -109,7 +113,8 @@ entry-on : (entry : Option ℕ) (on more : ℕ → Option ℕ) (end : ℕ) (foun
 entry-on None on more end found goes way = absurd (none-some end way)
 entry-on (Some at) on more end found goes way = goes at way
 
-node-on : (node : Node) (piece : ℕ) (on more : ℕ → Option ℕ) (end : ℕ) (found : Option ℕ) → ((at : ℕ) → on at ≡ Some end → more at ≡ found) → step_node node piece on ≡ Some end → step_node node piece more ≡ found
+node-on : (node : Node) (piece : ℕ) (on more : ℕ → Option ℕ) (end : ℕ) (found : Option ℕ) → ((at : ℕ) → on at ≡ Some end → more at ≡ found) → step_node node piece on ≡ Some end →
+    step_node node piece more ≡ found
 node-on gone piece on more end found goes way = absurd (none-some end way)
 node-on (tail held value) piece on more end found goes way = absurd (none-some end way)
 node-on (level map) piece on more end found goes way = entry-on (get map piece) on more end found goes way
@@ -123,7 +128,8 @@ walk-append world seat (first ∷ front) more end way =
     node-on (world seat) first (λ at. walk world (suc at) front) (λ at. walk world (suc at) (front ++ more)) end (walk world end more) (λ at on. walk-append world (suc at) front more end on) way
 
 -- One level more.
-pub walk-more : (world : World) (seat : ℕ) (front : List ℕ) (end : ℕ) (map : FinMap word_order ℕ) (piece found : ℕ) → walk world seat front ≡ Some end → world end ≡ level map → get map piece ≡ Some found → walk world seat (front ++ piece ∷ []) ≡ Some (suc found)
+pub walk-more : (world : World) (seat : ℕ) (front : List ℕ) (end : ℕ) (map : FinMap word_order ℕ) (piece found : ℕ) → walk world seat front ≡ Some end →
+    world end ≡ level map → get map piece ≡ Some found → walk world seat (front ++ piece ∷ []) ≡ Some (suc found)
 walk-more world seat front end map piece found way is entry =
     walk-append world seat front (piece ∷ []) end way
     ∙ ap (λ node. step_node node piece (λ at. Some (suc at))) is
@@ -134,7 +140,8 @@ pub lookup-level : (world : World) (seat : ℕ) (map : FinMap word_order ℕ) (p
 lookup-level world seat map ps is = lookup-in world seat ps ∙ ap (λ node. look_in world node ps) is
 
 -- A way leads to the seat behind its pieces.
-pub walk-behind : (world : World) (behind : ℕ → List ℕ) → IsWorld world behind → (seat : ℕ) (front : List ℕ) (end : ℕ) → AreInner front → walk world seat front ≡ Some end → behind end ≡ behind seat ++ front
+pub walk-behind : (world : World) (behind : ℕ → List ℕ) → IsWorld world behind → (seat : ℕ) (front : List ℕ) (end : ℕ) → AreInner front → walk world seat front ≡ Some end →
+    behind end ≡ behind seat ++ front
 walk-behind world behind is seat [] end inner way =
     let e : seat ≡ end = cc in
     ap behind (sym e) ∙ sym (append-nil (behind seat))

@@ -155,7 +155,8 @@ module _ (arena : Arena) (is : IsArena arena) (firsts : FinMap word_order ℕ) (
 
   -- ---- the one that is chosen
 
-  module _ (place : ℕ) (inside : place < len (map_of arena)) (mark : Mark) (chosen : IsChosen words firsts place mark) (piece value : ℕ) (at : by_count words (mark.place + 1) ≡ Some piece) (held : get words piece ≡ Some value) where
+  module _ (place : ℕ) (inside : place < len (map_of arena)) (mark : Mark) (chosen : IsChosen words firsts place mark) (piece value : ℕ)
+      (at : by_count words (mark.place + 1) ≡ Some piece) (held : get words piece ≡ Some value) where
     own_at : slice_get (entries words) mark.place ≡ Some (piece, value)
     own_at =
         let found = entry_at mark.place chosen.within in
@@ -222,7 +223,8 @@ module _ (arena : Arena) (is : IsArena arena) (firsts : FinMap word_order ℕ) (
         let its = ap length same in
         omega arith
 
-    pub own_inner : IsInner piece → (bytes after : List ℕ) (result : Option ℕ) → bytes ≡ piece_bytes piece → (there : IsNthBehind W (suc value) (place - mark.before) bytes after result) → slice_get (entries (map_of arena)) place ≡ Some (after, there.value)
+    pub own_inner : IsInner piece → (bytes after : List ℕ) (result : Option ℕ) → bytes ≡ piece_bytes piece → (there : IsNthBehind W (suc value) (place - mark.before) bytes after result) →
+        slice_get (entries (map_of arena)) place ≡ Some (after, there.value)
     own_inner inner bytes after result same there =
         let led : List ℕ × ℕ → List ℕ × ℕ = λ pair. (piece_bytes piece ++ pair.0, pair.1) in
         own_part

@@ -10,7 +10,7 @@ use Rattle.judy_model.specs.Keys.{word_order}
 use Rattle.judy_model.specs.Counts.{by_count}
 use Rattle.judy_model.proofs.lemmas.queries.RankLemmas.{nth-slice_get}
 use Rattle.judy_sums.proofs.Parts.{each_found}
-use Rattle.judy_sl.specs.declared.nth.Spot.{Spot}
+use Rattle.judy_sl.specs.declared.nth.EntryPlace.{EntryPlace}
 use Rattle.judy_sl.specs.World.{World}
 use Rattle.judy_sl.specs.Behind.{entry_keys}
 use Rattle.judy_sl.specs.Counted.{keys_behind_all}
@@ -26,17 +26,21 @@ slice_get-front (key ∷ front) back (suc place) inside = slice_get-front front 
 pub slice_get-back : {X : Type 0} (front back : List X) (place : ℕ) → length front ≤ place → slice_get (front ++ back) place ≡ slice_get back (place - length front)
 slice_get-back [] back place past = ap (slice_get back) (let e : place ≡ place - 0 = omega arith in e)
 slice_get-back (key ∷ front) back zero past = absurd (let never : ⊥ = omega arith in never)
-slice_get-back (key ∷ front) back (suc place) past = slice_get-back front back place (omega arith) ∙ ap (slice_get back) (let e : place - length front ≡ suc place - suc (length front) = omega arith in e)
+slice_get-back (key ∷ front) back (suc place) past =
+    slice_get-back front back place (omega arith) ∙ ap (slice_get back) (let e : place - length front ≡ suc place - suc (length front) = omega arith in e)
 
 -- Each entry of a level is found there.
 abbrev pub AreOf : FinMap word_order ℕ → List (ℕ × ℕ) → Type 0
 AreOf words pairs = AllByRecursion (λ (entry : ℕ × ℕ). get words entry.0 ≡ Some entry.1) pairs
 
 pub all_of : (words : FinMap word_order ℕ) → AreOf words (entries words)
-all_of words = each_found word_order nat_cmp_total nat_cmp-IsAntisymmetric (λ (entry : ℕ × ℕ). get words entry.0 ≡ Some entry.1) (entries words) (entries_sorted words) (λ piece value found. get-entries words piece ∙ found)
+all_of words =
+    each_found word_order nat_cmp_total nat_cmp-IsAntisymmetric (λ (entry : ℕ × ℕ). get words entry.0 ≡ Some entry.1) (entries words) (entries_sorted words)
+    (λ piece value found. get-entries words piece ∙ found)
 
 -- Where a level has one entry, it is the one that is found.
-only_one : (words : FinMap word_order ℕ) (piece value : ℕ) → get words piece ≡ Some value → (pairs : List (ℕ × ℕ)) → length pairs ≡ 1 → AreOf words pairs → slice_get (map (λ (pair : ℕ × ℕ). pair.0) pairs) 0 ≡ Some piece → pairs ≡ (piece, value) ∷ []
+only_one : (words : FinMap word_order ℕ) (piece value : ℕ) → get words piece ≡ Some value → (pairs : List (ℕ × ℕ)) → length pairs ≡ 1 → AreOf words pairs →
+    slice_get (map (λ (pair : ℕ × ℕ). pair.0) pairs) 0 ≡ Some piece → pairs ≡ (piece, value) ∷ []
 only_one words piece value held [] one are at = absurd (let never : ⊥ = omega arith in never)
 only_one words piece value held (entry ∷ []) one are at =
     let first : entry.0 ≡ piece = same_Some entry.0 piece at in
@@ -50,7 +54,7 @@ one_of words [] entry back are = are.0
 one_of words (first ∷ front) entry back are = one_of words front entry back are.1
 
 -- What is found among a level's entries is found in the level.
-pub spot_of : (world : World) (words : FinMap word_order ℕ) (place : ℕ) (spot : Spot) → IsSpotIn world (entries words) place spot → IsSpotOf world words place spot
+pub spot_of : (world : World) (words : FinMap word_order ℕ) (place : ℕ) (spot : EntryPlace) → IsSpotIn world (entries words) place spot → IsSpotOf world words place spot
 spot_of world words place spot is =
     let entry : ℕ × ℕ = (spot.piece, spot.value) in
     let keys = entry_keys world in
@@ -66,7 +70,8 @@ spot_of world words place spot is =
     }
 
 -- Where a level has one entry, each key stands behind it.
-pub only_spot : (world : World) (words : FinMap word_order ℕ) (place piece value : ℕ) → len words ≡ 1 → by_count words 1 ≡ Some piece → get words piece ≡ Some value → place < keys_behind_all world (entries words) → IsSpotOf world words place (record { piece = piece; value = value; place = place })
+pub only_spot : (world : World) (words : FinMap word_order ℕ) (place piece value : ℕ) → len words ≡ 1 → by_count words 1 ≡ Some piece → get words piece ≡ Some value →
+    place < keys_behind_all world (entries words) → IsSpotOf world words place (record { piece = piece; value = value; place = place })
 only_spot world words place piece value one at held within =
     let only = only_one words piece value held (entries words) (sym (len-entries words) ∙ one) (all_of words) (sym (nth-slice_get nat_cmp_total words 0) ∙ place_at words 0 piece at) in
     let all = ap (keys_behind_all world) only ∙ length-append (entry_keys world (piece, value)) [] in

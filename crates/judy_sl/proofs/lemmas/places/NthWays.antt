@@ -11,7 +11,7 @@ use Rattle.judy_model.specs.declared.keys.TheConstants.{LONGEST_KEY}
 use Rattle.judy_model.proofs.lemmas.maps.TableLemmas.{byte_order_total, byte_order_same}
 use Rattle.judy_sums.proofs.Parts.{each_found}
 use Rattle.judy_sl.specs.declared.arena.Arena.{Arena}
-use Rattle.judy_sl.specs.declared.nth.Spot.{Spot}
+use Rattle.judy_sl.specs.declared.nth.EntryPlace.{EntryPlace}
 use Rattle.judy_sl.specs.Pieces.{pieces, piece_bytes, IsFinal, IsInner, IsText}
 use Rattle.judy_sl.specs.World.{World, gone, tail, level}
 use Rattle.judy_sl.specs.Arenas.{world_of, IsArena}
@@ -31,7 +31,8 @@ all_at P (first ∷ rest) (suc place) one each at = all_at P rest place one each
 pub held_at : (all : FinMap byte_order ℕ) (place : ℕ) (key : List ℕ) (value : ℕ) → slice_get (entries all) place ≡ Some (key, value) → get all key ≡ Some value
 held_at all place key value at =
     all_at (λ (pair : List ℕ × ℕ). get all pair.0 ≡ Some pair.1) (entries all) place (key, value)
-    (each_found byte_order byte_order_total byte_order_same (λ (pair : List ℕ × ℕ). get all pair.0 ≡ Some pair.1) (entries all) (entries_sorted all) (λ key value found. get-entries all key ∙ found)) at
+    (each_found byte_order byte_order_total byte_order_same (λ (pair : List ℕ × ℕ). get all pair.0 ≡ Some pair.1) (entries all) (entries_sorted all)
+    (λ key value found. get-entries all key ∙ found)) at
 
 -- ---- the keys behind an entry
 
@@ -48,10 +49,21 @@ led_at front pairs place key value at = by (slice_get pairs place) refl
     led pair = (front ++ pair.0, pair.1)
 
     by : (found : Option (List ℕ × ℕ)) → slice_get pairs place ≡ found → LedAt front pairs place key value
-    by None is = let none : None ≡ Some (key, value) = sym (slice_get-map (λ (pair : List ℕ × ℕ). (front ++ pair.0, pair.1)) pairs place ∙ ap (option_map (λ (pair : List ℕ × ℕ). (front ++ pair.0, pair.1))) is) ∙ at in absurd (none-some (key, value) none)
+    by None is =
+        let none : None ≡ Some (key, value) = sym (slice_get-map (λ (pair : List ℕ × ℕ). (front ++ pair.0, pair.1)) pairs place ∙
+        ap (option_map (λ (pair : List ℕ × ℕ). (front ++ pair.0, pair.1))) is) ∙ at in absurd (none-some (key, value) none)
     by (Some pair) is =
-        let same = same_Some (front ++ pair.0, pair.1) (key, value) (sym (slice_get-map (λ (pair : List ℕ × ℕ). (front ++ pair.0, pair.1)) pairs place ∙ ap (option_map (λ (pair : List ℕ × ℕ). (front ++ pair.0, pair.1))) is) ∙ at) in
+        let same = same_Some (front ++ pair.0, pair.1) (key, value) (sym (slice_get-map (λ (pair : List ℕ × ℕ). (front ++ pair.0, pair.1)) pairs place ∙
+        ap (option_map (λ (pair : List ℕ × ℕ). (front ++ pair.0, pair.1))) is) ∙ at) in
         record { rest = pair.0; is = ap (λ (p : List ℕ × ℕ). p.0) (sym same); at = is ∙ ap (λ v. Some (pair.0, v)) (ap (λ (p : List ℕ × ℕ). p.1) same) }
+
+-- A key that was put behind bytes for which each has room is short.
+pub nth_fits : (world : World) (seat place : ℕ) (before after : List ℕ) (found : Option ℕ) → KeysFit world seat before → IsNthBehind world seat place before after found → length after ≤ LONGEST_KEY
+nth_fits world seat place before after found fits is =
+    let room = fits is.rest is.value (held_at (map_behind world seat) place is.rest is.value is.stands) in
+    let long = length-append before is.rest in
+    let same = ap length is.bytes in
+    omega (arith, room, long, same)
 
 -- ---- the way
 
@@ -131,7 +143,7 @@ module _ (arena : Arena) (is_arena : IsArena arena) (child place : ℕ) (before 
     pub nth_within : left < length (flat_map (entry_keys W) (entries words))
     nth_within = slice_get_within (flat_map (entry_keys W) (entries words)) left (on.later, on.value) nth_level
 
-    module _ (spot : Spot) (is : IsSpotOf W words left spot) where
+    module _ (spot : EntryPlace) (is : IsSpotOf W words left spot) where
       nth_entry : slice_get (entry_keys W (spot.piece, spot.value)) spot.place ≡ Some (on.later, on.value)
       nth_entry = sym is.same ∙ nth_level
 
@@ -144,7 +156,9 @@ module _ (arena : Arena) (is_arena : IsArena arena) (child place : ℕ) (before 
           only (suc place) e = cc
 
       nth_goes : IsInner spot.piece → LedAt (piece_bytes spot.piece) (entries (map_behind W (suc spot.value))) spot.place on.later on.value
-      nth_goes inner = led_at (piece_bytes spot.piece) (entries (map_behind W (suc spot.value))) spot.place on.later on.value (ap (λ pairs. slice_get pairs spot.place) (sym (inner_keys W (spot.piece, spot.value) inner)) ∙ nth_entry)
+      nth_goes inner =
+          led_at (piece_bytes spot.piece) (entries (map_behind W (suc spot.value))) spot.place on.later on.value
+          (ap (λ pairs. slice_get pairs spot.place) (sym (inner_keys W (spot.piece, spot.value) inner)) ∙ nth_entry)
 
       -- The buffer has room for the piece.
       pub nth_room : length bytes + length (piece_bytes spot.piece) ≤ LONGEST_KEY

@@ -14,7 +14,7 @@ use Rattle.judy_sums.specs.Levels.{keys_below, part_len}
 use Rattle.judy_sums.proofs.LevelCounts.{entries_below_is}
 use Rattle.judy_sums.proofs.Parts.{each_found}
 use Rattle.judy_sl.specs.World.{World, level}
-use Rattle.judy_sl.specs.Worlds.{IsWorld}
+use Rattle.judy_sl.specs.WorldInvariants.{IsWorld}
 use Rattle.judy_sl.specs.Behind.{entry_keys}
 use Rattle.judy_sl.specs.Counted.{LeadsOn, keys_behind_all}
 use Rattle.judy_sl.proofs.lemmas.counts.EntryCounts.{below_front}
@@ -37,7 +37,8 @@ page_is left out page told within is =
     ∙ take_at (take told left) (drop told out) told (length-take-le told left within)
 
 -- Where there are enough to fill it, it is these.
-pub page_full : (left out page : Pairs) (told : ℕ) → length out ≤ length left → told ≡ length out → length page ≡ length out → page ≡ take told (map (λ (entry : ℕ × ℕ). (entry.0, entry.1)) left) ++ drop told out → page ≡ take (length out) left
+pub page_full : (left out page : Pairs) (told : ℕ) → length out ≤ length left → told ≡ length out → length page ≡ length out →
+    page ≡ take told (map (λ (entry : ℕ × ℕ). (entry.0, entry.1)) left) ++ drop told out → page ≡ take (length out) left
 page_full left out page told within all same is =
     sym (take_all told page (omega arith)) ∙ page_is left out page told (omega arith) is ∙ ap (λ n. take n left) all
 
@@ -51,9 +52,11 @@ module _ (world : World) where
       omega arith
 
   -- Those behind the entries up to one place are those up to an earlier one, and those from there on.
-  pub front_more : (entries : Pairs) (start end : ℕ) → start ≤ end → keys_behind_all world (take end entries) ≡ keys_behind_all world (take start entries) + keys_behind_all world (take (end - start) (drop start entries))
+  pub front_more : (entries : Pairs) (start end : ℕ) → start ≤ end → keys_behind_all world (take end entries) ≡
+      keys_behind_all world (take start entries) + keys_behind_all world (take (end - start) (drop start entries))
   front_more entries start end less =
-      let split : take end entries ≡ take start entries ++ take (end - start) (drop start entries) = ap (λ n. take n entries) (let e : end ≡ start + (end - start) = omega arith in e) ∙ take-add start (end - start) entries in
+      let split : take end entries ≡ take start entries ++ take (end - start) (drop start entries) = ap (λ n. take n entries) (let e : end ≡ start + (end - start) = omega arith in e) ∙
+      take-add start (end - start) entries in
       let all = ap (keys_behind_all world) split in
       let both = ap length (flat_map-append (entry_keys world) (take start entries) (take (end - start) (drop start entries))) in
       let long = length-append (flat_map (entry_keys world) (take start entries)) (flat_map (entry_keys world) (take (end - start) (drop start entries))) in
@@ -65,7 +68,8 @@ module _ (world : World) where
   front_some entries (suc end) some = omega arith
 
   -- So with one entry more.
-  pub front_one : (entries : Pairs) (place : ℕ) → place < length entries → keys_behind_all world (take (place + 1) entries) ≡ keys_behind_all world (take place entries) + length (entry_keys world (get_or entries place (0, 0)))
+  pub front_one : (entries : Pairs) (place : ℕ) → place < length entries → keys_behind_all world (take (place + 1) entries) ≡
+      keys_behind_all world (take place entries) + length (entry_keys world (get_or entries place (0, 0)))
   front_one entries place within =
       let all = ap (keys_behind_all world) (take_more entries place (0, 0) within) ∙ ap length (flat_map-append (entry_keys world) (take place entries) (get_or entries place (0, 0) ∷ [])) in
       let both = length-append (flat_map (entry_keys world) (take place entries)) (flat_map (entry_keys world) (get_or entries place (0, 0) ∷ [])) in

@@ -3,7 +3,7 @@ use Rattle.std.proofs.Common.{◌≡◌, ℕ, ◌+◌, ◌<◌, ◌≤◌, List,
 use Rattle.std.specs.List.{flat_map}
 use Rattle.std.proofs.lemmas.List.{length-append, take-append-drop, drop_more}
 use Rattle.std.proofs.lemmas.List.Concat.{flat_map-append}
-use Rattle.judy_sl.specs.declared.nth.Spot.{Spot}
+use Rattle.judy_sl.specs.declared.nth.EntryPlace.{EntryPlace}
 use Rattle.judy_sl.specs.World.{World}
 use Rattle.judy_sl.specs.Behind.{entry_keys}
 use Rattle.judy_sl.specs.Counted.{keys_behind_all}
@@ -26,7 +26,8 @@ module _ (world : World) where
     pub within : left < keys_behind_all world rest
 
   -- What is found behind some entries is found behind all.
-  pub spot_behind : (all seen rest : List (ℕ × ℕ)) (place left : ℕ) (spot : Spot) → all ≡ seen ++ rest → place ≡ keys_behind_all world seen + left → IsSpotIn world rest left spot → IsSpotIn world all place spot
+  pub spot_behind : (all seen rest : List (ℕ × ℕ)) (place left : ℕ) (spot : EntryPlace) → all ≡ seen ++ rest → place ≡ keys_behind_all world seen + left →
+      IsSpotIn world rest left spot → IsSpotIn world all place spot
   spot_behind all seen rest place left spot split passed is =
       let entry : ℕ × ℕ = (spot.piece, spot.value) in
       let front = keys_both seen is.front in
@@ -40,7 +41,7 @@ module _ (world : World) where
       }
 
   -- What is found in front is found among all.
-  spot_front : (front back : List (ℕ × ℕ)) (place : ℕ) (spot : Spot) → IsSpotIn world front place spot → IsSpotIn world (front ++ back) place spot
+  spot_front : (front back : List (ℕ × ℕ)) (place : ℕ) (spot : EntryPlace) → IsSpotIn world front place spot → IsSpotIn world (front ++ back) place spot
   spot_front front back place spot is =
       let entry : ℕ × ℕ = (spot.piece, spot.value) in
       record {
@@ -76,6 +77,7 @@ module _ (world : World) where
         }
 
     -- or behind one of the page.
-    pub reading_spot : (spot : Spot) → IsSpotIn world (take told rest) left spot → IsSpotIn world all place spot
+    pub reading_spot : (spot : EntryPlace) → IsSpotIn world (take told rest) left spot → IsSpotIn world all place spot
     reading_spot spot found =
-        spot_behind all on.seen rest place left spot on.split on.passed (subst (λ pairs. IsSpotIn world pairs left spot) (take-append-drop told rest) (spot_front (take told rest) (drop told rest) left spot found))
+        spot_behind all on.seen rest place left spot on.split on.passed (subst (λ pairs. IsSpotIn world pairs left spot) (take-append-drop told rest)
+        (spot_front (take told rest) (drop told rest) left spot found))

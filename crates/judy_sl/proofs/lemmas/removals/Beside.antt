@@ -33,7 +33,8 @@ module _ (before mid after : Arena) (is : IsArena before) (key : List ℕ) (left
       ap (get after.root.map) one ∙ first-left (Root piece) mid_is piece ∙ get-remove_here before.root.map piece
 
   -- With another entry the first level stays, which has one for that piece.
-  place-left : (place : Place) (rest : List ℕ) → LeadsTo (world_of before) key (seat_of place) (piece_at place ∷ rest) → mid ≡ place_without before place → is_below place ≡ is_some (get after.root.map (piece_of key))
+  place-left : (place : Place) (rest : List ℕ) → LeadsTo (world_of before) key (seat_of place) (piece_at place ∷ rest) → mid ≡ place_without before place →
+      is_below place ≡ is_some (get after.root.map (piece_of key))
   place-left (Root piece) rest leads mid_is = sym (ap (λ (found : Option ℕ). is_some found) (root-left piece rest leads mid_is))
   place-left (Below at piece) rest leads mid_is =
       let same = ap (λ (words : ArrayOf word_order). get words.map (piece_of key)) (root-with_child before at (child_without (child_at before at) piece)) in

@@ -7,7 +7,7 @@ use Rattle.std.specs.FinMap.{FinMap, get, remove}
 use Rattle.judy_model.specs.Keys.{word_order}
 use Rattle.judy_sl.specs.Pieces.{ArePieces, IsInner, IsFinal}
 use Rattle.judy_sl.specs.World.{World, Node, gone, tail, level, lookup, at_entry}
-use Rattle.judy_sl.specs.Worlds.{IsWorld, FitsBehind, IsLed, AllLed}
+use Rattle.judy_sl.specs.WorldInvariants.{IsWorld, FitsBehind, IsLed, AllLed}
 use Rattle.judy_sl.specs.Ways.{LeadsTo}
 use Rattle.judy_sl.specs.Grown.{IsChange}
 use Rattle.judy_sl.specs.Shrunk.{OnlyEntry, IsLone, IsWide, IsUnled, IsLedOnce, IsOrphan}
@@ -62,12 +62,15 @@ module _ (world : World) (at : ℕ) where
     }
 
     -- What is found stays.
-    on-entry : (seat : ℕ) (map : FinMap word_order ℕ) (piece : ℕ) (rest : List ℕ) (entry : Option ℕ) → world seat ≡ level map → get map piece ≡ entry → ArePieces (piece ∷ rest) → ((found : ℕ) → found ≢ at → ArePieces rest → lookup freed (suc found) rest ≡ lookup world (suc found) rest) → at_entry entry rest (λ found. lookup freed (suc found) rest) ≡ at_entry entry rest (λ found. lookup world (suc found) rest)
+    on-entry : (seat : ℕ) (map : FinMap word_order ℕ) (piece : ℕ) (rest : List ℕ) (entry : Option ℕ) → world seat ≡ level map → get map piece ≡ entry →
+        ArePieces (piece ∷ rest) → ((found : ℕ) → found ≢ at → ArePieces rest → lookup freed (suc found) rest ≡ lookup world (suc found) rest) →
+        at_entry entry rest (λ found. lookup freed (suc found) rest) ≡ at_entry entry rest (λ found. lookup world (suc found) rest)
     on-entry seat map piece rest None e entry are goes = refl
     on-entry seat map piece [] (Some found) e entry are goes = refl
     on-entry seat map piece (next ∷ rest) (Some found) e entry are goes = goes found (led-other seat map piece found e entry are.0) are.1
 
-    on-node : (seat : ℕ) (piece : ℕ) (rest : List ℕ) (node : Node) → world seat ≡ node → ArePieces (piece ∷ rest) → ((found : ℕ) → found ≢ at → ArePieces rest → lookup freed (suc found) rest ≡ lookup world (suc found) rest) → look_in freed node (piece ∷ rest) ≡ look_in world node (piece ∷ rest)
+    on-node : (seat : ℕ) (piece : ℕ) (rest : List ℕ) (node : Node) → world seat ≡ node → ArePieces (piece ∷ rest) →
+        ((found : ℕ) → found ≢ at → ArePieces rest → lookup freed (suc found) rest ≡ lookup world (suc found) rest) → look_in freed node (piece ∷ rest) ≡ look_in world node (piece ∷ rest)
     on-node seat piece rest gone e are goes = refl
     on-node seat piece rest (tail held value) e are goes = refl
     on-node seat piece rest (level map) e are goes = on-entry seat map piece rest (get map piece) e refl are goes
@@ -115,12 +118,15 @@ module _ (world : World) (at : ℕ) where
             let led = loose.led to some.0 some.1 in
             led-on to led (λ here. off (same_Some to next (sym (entry-of to led here).1 ∙ entry)));
         once = λ seat other m more p q to e m_entry p_inner f more_entry q_inner. loose.once seat other m more p q to (was-freed seat m e) m_entry p_inner (was-freed other more f) more_entry q_inner;
-        lone = lone-moves world freed (λ to. to ≢ at) (λ to keep. cond-other world (suc at) gone (suc to) (suc-other loose.unled to keep)) (λ to m p found keep e m_entry p_inner. led-other loose.unled (suc to) m p found e m_entry p_inner) next rest (led-other loose.unled (suc at) map piece next is entry inner) are lone;
+        lone =
+            lone-moves world freed (λ to. to ≢ at) (λ to keep. cond-other world (suc at) gone (suc to) (suc-other loose.unled to keep))
+            (λ to m p found keep e m_entry p_inner. led-other loose.unled (suc to) m p found e m_entry p_inner) next rest (led-other loose.unled (suc at) map piece next is entry inner) are lone;
       }
 
 -- ---- an entry is taken out
 
-module _ (world : World) (behind : ℕ → List ℕ) (is : IsWorld world behind) (all : AllLed world) (root : FinMap word_order ℕ) (root_is : world 0 ≡ level root) (key : List ℕ) (here piece : ℕ) (rest : List ℕ) (leads : LeadsTo world key here (piece ∷ rest)) (map : FinMap word_order ℕ) (is_level : world here ≡ level map) where
+module _ (world : World) (behind : ℕ → List ℕ) (is : IsWorld world behind) (all : AllLed world) (root : FinMap word_order ℕ) (root_is : world 0 ≡ level root)
+    (key : List ℕ) (here piece : ℕ) (rest : List ℕ) (leads : LeadsTo world key here (piece ∷ rest)) (map : FinMap word_order ℕ) (is_level : world here ≡ level map) where
   abbrev changed : FinMap word_order ℕ
   changed = remove map piece
 
@@ -166,7 +172,8 @@ module _ (world : World) (behind : ℕ → List ℕ) (is : IsWorld world behind)
   pub ends-change : rest ≡ [] → IsFinal piece → IsChange world taken_out (leads.front ++ piece ∷ rest) None
   ends-change nil final =
       subst (λ ps. IsChange world taken_out (leads.front ++ piece ∷ ps) None) (sym nil) (
-      changes_value world taken_out behind is root root_is leads.front leads.inner here leads.way apart-here behind-here map changed is_level there-level piece (λ p off. get-remove_off map piece p off) None final (get-remove_here map piece)
+      changes_value world taken_out behind is root root_is leads.front leads.inner here leads.way apart-here behind-here map changed is_level there-level piece
+      (λ p off. get-remove_off map piece p off) None final (get-remove_here map piece)
       )
 
   pub ends-led : IsFinal piece → AllLed taken_out
@@ -192,10 +199,12 @@ module _ (world : World) (behind : ℕ → List ℕ) (is : IsWorld world behind)
 
     pub on-change : IsChange world taken_out (leads.front ++ piece ∷ rest) None
     on-change =
-        changes_behind world taken_out behind is root root_is leads.front leads.inner here leads.way apart-here behind-here map changed is_level there-level piece (λ p off. get-remove_off map piece p off) rest None rest-some (not-there rest) (λ other are ne. not-there other ∙ sym (nothing-else other are ne))
+        changes_behind world taken_out behind is root root_is leads.front leads.inner here leads.way apart-here behind-here map changed is_level there-level piece
+        (λ p off. get-remove_off map piece p off) rest None rest-some (not-there rest) (λ other are ne. not-there other ∙ sym (nothing-else other are ne))
 
     -- A level that is left, and what it was.
-    was-level : (seat : ℕ) (m : FinMap word_order ℕ) (p to : ℕ) → taken_out seat ≡ level m → get m p ≡ Some to → (was : FinMap word_order ℕ) × (world seat ≡ level was) × (get was p ≡ Some to) × (seat ≡ here → p ≢ piece)
+    was-level : (seat : ℕ) (m : FinMap word_order ℕ) (p to : ℕ) → taken_out seat ≡ level m → get m p ≡ Some to →
+        (was : FinMap word_order ℕ) × (world seat ≡ level was) × (get was p ≡ Some to) × (seat ≡ here → p ≢ piece)
     was-level seat m p to e m_entry = elim (cases_eq seat here) [
       | inl same ↦
           let maps : level changed ≡ level m = sym (cond-same world here (level changed) seat same) ∙ e in

@@ -12,7 +12,7 @@ use Rattle.judy_sl.specs.declared.arena.Place.TheVariants.{Root, Below}
 use Rattle.judy_sl.specs.declared.shrink.Cut.{Cut}
 use Rattle.judy_sl.specs.Pieces.{pieces, piece_of, IsText, ArePieces}
 use Rattle.judy_sl.specs.World.{World, Node, gone, tail, level, lookup, at_entry}
-use Rattle.judy_sl.specs.Worlds.{IsWorld, FitsBehind, AllLed}
+use Rattle.judy_sl.specs.WorldInvariants.{IsWorld, FitsBehind, AllLed}
 use Rattle.judy_sl.specs.Arenas.{world_of, node_of, child_at, IsArena, HasText}
 use Rattle.judy_sl.specs.Ways.{seat_of, piece_at, left_of}
 use Rattle.judy_sl.specs.Grown.{IsChange}
@@ -138,12 +138,15 @@ module _ (before now after : Arena) (at : ℕ) (rest : List ℕ) (is : IsClearin
     clearing-on long next entry =
         let h = pieces-head (drop 8 rest) in
         let lone = lone-is (piece_of (drop 8 rest) ∷ h.0) (pieces_long rest long ∙ ap (λ ps. piece_of rest ∷ ps) h.1) in
-        let on : IsLone (world_of now) next (piece_of (drop 8 rest) ∷ h.0) = subst (λ o. EntryLone o (piece_of (drop 8 rest) ∷ h.0) (λ found. IsLone (world_of now) found (piece_of (drop 8 rest) ∷ h.0))) entry lone.1 in
+        let on : IsLone (world_of now) next (piece_of (drop 8 rest) ∷ h.0) = subst (λ o. EntryLone o (piece_of (drop 8 rest) ∷ h.0)
+        (λ found. IsLone (world_of now) found (piece_of (drop 8 rest) ∷ h.0))) entry lone.1 in
         let text = text-drop 8 rest is.text in
         record {
           is_arena = after-arena;
           text = text;
-          loose = subst (λ w. IsOrphan w next (pieces (drop 8 rest))) (sym after-world) (freed-on (world_of now) at (pieces rest) is.loose words.map level-is (piece_of rest) lone.0 next (pieces (drop 8 rest)) entry (piece-IsInner rest is.text long) (pieces_are (drop 8 rest) text) (subst (IsLone (world_of now) next) (sym h.1) on));
+          loose =
+              subst (λ w. IsOrphan w next (pieces (drop 8 rest))) (sym after-world) (freed-on (world_of now) at (pieces rest) is.loose words.map level-is
+              (piece_of rest) lone.0 next (pieces (drop 8 rest)) entry (piece-IsInner rest is.text long) (pieces_are (drop 8 rest) text) (subst (IsLone (world_of now) next) (sym h.1) on));
           same = after-same;
           left = after-left;
         }
@@ -178,7 +181,8 @@ module _ (arena : Arena) (map : FinMap word_order ℕ) where
   can-at : (at piece : ℕ) → world_of arena (suc at) ≡ level map → CanHold arena at (child_without (child_at arena at) piece)
   can-at at piece is = can-without arena at piece (level-stands arena (Below at piece) map is)
 
-  pub world-without : (place : Place) → world_of arena (seat_of place) ≡ level map → world_of (place_without arena place) ≡ set_node (world_of arena) (seat_of place) (level (remove map (piece_at place)))
+  pub world-without : (place : Place) → world_of arena (seat_of place) ≡ level map → world_of (place_without arena place) ≡
+      set_node (world_of arena) (seat_of place) (level (remove map (piece_at place)))
   world-without (Root piece) is =
       let same : arena.root.map ≡ map = cc in
       world-with_root arena (without arena.root piece) ∙ ap (λ (m : FinMap word_order ℕ). set_node (world_of arena) 0 (level (remove m piece))) same
@@ -186,19 +190,26 @@ module _ (arena : Arena) (map : FinMap word_order ℕ) where
       world-with_child arena at (child_without (child_at arena at) piece) (can-at at piece is)
       ∙ ap (set_node (world_of arena) (suc at)) (node-without (child_at arena at) piece map is)
 
-  pub arena-without : (is : IsArena arena) (place : Place) → world_of arena (seat_of place) ≡ level map → FitsBehind (world_of arena) is.behind (is.behind (seat_of place)) (remove map (piece_at place)) → IsUsed (seat_of place) (level (remove map (piece_at place))) → IsArena (place_without arena place)
+  pub arena-without : (is : IsArena arena) (place : Place) → world_of arena (seat_of place) ≡ level map →
+      FitsBehind (world_of arena) is.behind (is.behind (seat_of place)) (remove map (piece_at place)) → IsUsed (seat_of place) (level (remove map (piece_at place))) →
+      IsArena (place_without arena place)
   arena-without is (Root piece) e fits used =
       let same : arena.root.map ≡ map = cc in
       arena-with_root arena (without arena.root piece) is (subst (λ (m : FinMap word_order ℕ). FitsBehind (world_of arena) is.behind (is.behind 0) (remove m piece)) (sym same) fits)
   arena-without is (Below at piece) e fits used =
       let node = node-without (child_at arena at) piece map e in
-      arena-with_child arena at (child_without (child_at arena at) piece) (can-at at piece e) is (text-without (child_at arena at) piece (is.texts at)) (subst (NodeFits (world_of arena) is.behind (is.behind (suc at))) (sym node) fits) (subst (IsUsed (suc at)) (sym node) used)
+      arena-with_child arena at (child_without (child_at arena at) piece) (can-at at piece e) is (text-without (child_at arena at) piece (is.texts at))
+      (subst (NodeFits (world_of arena) is.behind (is.behind (suc at))) (sym node) fits) (subst (IsUsed (suc at)) (sym node) used)
 
 -- ---- the whole
 
 module _ (arena : Arena) (is : IsArena arena) (all : AllLed (world_of arena)) (key : List ℕ) (cut : Cut) (cut_is : IsCutWhere (Unit {0}) (world_of arena) key cut) where
-  child-found : (piece : ℕ) (rest : List ℕ) (below : Option ℕ) → IsCutChild (world_of arena) key cut_is.map piece rest below cut.left (Unit {0}) → (value : ℕ) × (at_entry (get cut_is.map piece) rest (λ at. lookup (world_of arena) (suc at) rest) ≡ Some value)
-  child-found piece rest None is = (is.2.0, ap (λ ps. at_entry (get cut_is.map piece) ps (λ at. lookup (world_of arena) (suc at) ps)) is.0 ∙ ap (λ o. at_entry o [] (λ at. lookup (world_of arena) (suc at) [])) is.2.1)
+  child-found : (piece : ℕ) (rest : List ℕ) (below : Option ℕ) → IsCutChild (world_of arena) key cut_is.map piece rest below cut.left (Unit {0}) →
+      (value : ℕ) × (at_entry (get cut_is.map piece) rest (λ at. lookup (world_of arena) (suc at) rest) ≡ Some value)
+  child-found piece rest None is = (
+    is.2.0,
+    ap (λ ps. at_entry (get cut_is.map piece) ps (λ at. lookup (world_of arena) (suc at) ps)) is.0 ∙ ap (λ o. at_entry o [] (λ at. lookup (world_of arena) (suc at) [])) is.2.1,
+  )
   child-found piece rest (Some at) is =
       let are : ArePieces rest = subst ArePieces (sym is.3) (pieces_are (left_of key cut.left) is.2) in
       let found = lone-found (world_of arena) at rest (is.5 tt) are in
@@ -227,19 +238,28 @@ module _ (arena : Arena) (is : IsArena arena) (all : AllLed (world_of arena)) (k
     out-arena value there =
         subst IsArena (sym after_is) (arena-without arena cut_is.map is cut.place cut_is.is_level
         (fits-here (world_of arena) is.behind is.is_world all arena.root.map refl key (seat_of cut.place) (piece_at cut.place) cut_is.rest cut_is.leads cut_is.map cut_is.is_level)
-        (used-left (world_of arena) is.behind is.is_world all arena.root.map refl key (seat_of cut.place) (piece_at cut.place) cut_is.rest cut_is.leads cut_is.map cut_is.is_level (seat_of cut.place) value there cut_is.wide))
+        (used-left (world_of arena) is.behind is.is_world all arena.root.map refl key (seat_of cut.place) (piece_at cut.place) cut_is.rest cut_is.leads cut_is.map cut_is.is_level
+        (seat_of cut.place) value there cut_is.wide))
 
-    change-is : IsChange (world_of arena) (set_node (world_of arena) (seat_of cut.place) (level (remove cut_is.map (piece_at cut.place)))) (cut_is.leads.front ++ piece_at cut.place ∷ cut_is.rest) None → IsChange (world_of arena) (world_of after) (pieces key) None
-    change-is change = subst (λ w. IsChange (world_of arena) w (pieces key) None) (sym out-world) (subst (λ ps. IsChange (world_of arena) (set_node (world_of arena) (seat_of cut.place) (level (remove cut_is.map (piece_at cut.place)))) ps None) (sym cut_is.leads.parts) change)
+    change-is : IsChange (world_of arena) (set_node (world_of arena) (seat_of cut.place) (level (remove cut_is.map (piece_at cut.place))))
+        (cut_is.leads.front ++ piece_at cut.place ∷ cut_is.rest) None → IsChange (world_of arena) (world_of after) (pieces key) None
+    change-is change =
+        subst (λ w. IsChange (world_of arena) w (pieces key) None) (sym out-world) (subst (λ ps. IsChange (world_of arena)
+        (set_node (world_of arena) (seat_of cut.place) (level (remove cut_is.map (piece_at cut.place)))) ps None) (sym cut_is.leads.parts) change)
 
     -- The key ended at the entry.
     pub shrunk-last : cut.below ≡ None → IsShrunk arena after key
     shrunk-last none =
-        let child : IsCutChild (world_of arena) key cut_is.map (piece_at cut.place) cut_is.rest None cut.left (Unit {0}) = subst (λ b. IsCutChild (world_of arena) key cut_is.map (piece_at cut.place) cut_is.rest b cut.left (Unit {0})) none cut_is.child in
+        let child : IsCutChild (world_of arena) key cut_is.map (piece_at cut.place) cut_is.rest None cut.left (Unit {0}) = subst
+        (λ b. IsCutChild (world_of arena) key cut_is.map (piece_at cut.place) cut_is.rest b cut.left (Unit {0})) none cut_is.child in
         record {
           is_arena = out-arena child.2.0 child.2.1;
-          led = subst AllLed (sym out-world) (ends-led (world_of arena) is.behind is.is_world all arena.root.map refl key (seat_of cut.place) (piece_at cut.place) cut_is.rest cut_is.leads cut_is.map cut_is.is_level child.1);
-          change = change-is (ends-change (world_of arena) is.behind is.is_world all arena.root.map refl key (seat_of cut.place) (piece_at cut.place) cut_is.rest cut_is.leads cut_is.map cut_is.is_level child.0 child.1);
+          led =
+              subst AllLed (sym out-world) (ends-led (world_of arena) is.behind is.is_world all arena.root.map refl key (seat_of cut.place)
+              (piece_at cut.place) cut_is.rest cut_is.leads cut_is.map cut_is.is_level child.1);
+          change =
+              change-is (ends-change (world_of arena) is.behind is.is_world all arena.root.map refl key (seat_of cut.place)
+              (piece_at cut.place) cut_is.rest cut_is.leads cut_is.map cut_is.is_level child.0 child.1);
         }
 
     -- The key goes on.
@@ -255,12 +275,15 @@ module _ (arena : Arena) (is : IsArena arena) (all : AllLed (world_of arena)) (k
 
       pub on-is_orphan : IsOrphan (world_of after) at (pieces (left_of key cut.left))
       on-is_orphan =
-          subst (λ w. IsOrphan w at (pieces (left_of key cut.left))) (sym out-world) (subst (IsOrphan (set_node (world_of arena) (seat_of cut.place) (level (remove cut_is.map (piece_at cut.place)))) at) child-is.3
-          (on-orphan (world_of arena) is.behind is.is_world all arena.root.map refl key (seat_of cut.place) (piece_at cut.place) cut_is.rest cut_is.leads cut_is.map cut_is.is_level at child-is.0 child-is.1 rest-are (child-is.5 tt)))
+          subst (λ w. IsOrphan w at (pieces (left_of key cut.left))) (sym out-world) (subst (IsOrphan
+          (set_node (world_of arena) (seat_of cut.place) (level (remove cut_is.map (piece_at cut.place)))) at) child-is.3
+          (on-orphan (world_of arena) is.behind is.is_world all arena.root.map refl key (seat_of cut.place)
+          (piece_at cut.place) cut_is.rest cut_is.leads cut_is.map cut_is.is_level at child-is.0 child-is.1 rest-are (child-is.5 tt)))
 
       pub shrunk-on : (done : Arena) → ArePieces (pieces key) → IsCleared after done → IsShrunk arena done key
       shrunk-on done key_are cleared_is =
-          let change = change-is (on-change (world_of arena) is.behind is.is_world all arena.root.map refl key (seat_of cut.place) (piece_at cut.place) cut_is.rest cut_is.leads cut_is.map cut_is.is_level at child-is.0 child-is.1 rest-are (child-is.5 tt)) in
+          let change = change-is (on-change (world_of arena) is.behind is.is_world all arena.root.map refl key (seat_of cut.place)
+          (piece_at cut.place) cut_is.rest cut_is.leads cut_is.map cut_is.is_level at child-is.0 child-is.1 rest-are (child-is.5 tt)) in
           record {
             is_arena = cleared_is.is_arena;
             led = cleared_is.led;

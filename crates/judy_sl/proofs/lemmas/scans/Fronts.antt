@@ -1,8 +1,18 @@
 -- A key at the front of a buffer, with what stands behind it.
-use Rattle.std.proofs.Common.{◌≡◌, ◌≤◌, ◌++◌, ℕ, List, length, take, drop, refl, sym, ap, ◌∙◌, arith}
+use Rattle.std.proofs.Common.{◌≡◌, ◌≤◌, ◌++◌, ℕ, List, length, take, drop, Bool, subst, Option, Some, None, refl, sym, ap, ◌∙◌, arith, ⊎_elim}
 use Rattle.std.proofs.Math.Seq.{take-append_seam}
-use Rattle.std.proofs.lemmas.List.{length-take-le, take-append-drop}
-use Rattle.judy_sl.specs.Scans.{IsFront}
+use Rattle.std.proofs.lemmas.Bool.{cases_lt}
+use Rattle.std.proofs.lemmas.List.{length-take-le, take-append-drop, take_all}
+use lib.Seq.{take-take}
+use Rattle.judy_model.specs.declared.keys.TheConstants.{LONGEST_KEY}
+use Rattle.judy_tails.specs.declared.writer.KeyRoom.{KeyRoom}
+use Rattle.judy_tails.specs.Rooms.{bytes_in, IsWhole}
+use Rattle.judy_sl.specs.declared.scans.Look.{Look}
+use Rattle.judy_sl.specs.World.{World}
+use Rattle.judy_tails.specs.Writers.{WasGiven}
+use Rattle.judy_sl.specs.declared.runs.Run.{Run}
+use Rattle.judy_sl.specs.Scans.{upward, IsFront, IsNeighbour}
+use Rattle.judy_sl.specs.Runs.{Levels, IsAbove, IsClimbed, Stands}
 
 -- The buffer ends with the key in front, and what was behind its place is there still.
 pub is_front : (key before after : List ℕ) (len : ℕ) → len ≤ length after → take len after ≡ key → drop len after ≡ drop len before → IsFront key before len after
@@ -19,12 +29,59 @@ pub same_front : (before : List ℕ) (len : ℕ) → len ≤ length before → I
 same_front before len inside = is_front (take len before) before before len inside refl refl
 
 -- What a writer at the front left there.
-module _ (before after : List ℕ) (len was name : ℕ) (inside : len ≤ length after) (beyond : (place : ℕ) → length (take len after) ≤ place → ◌≡◌ {A = List ℕ × ℕ} (drop place after, name) (drop place before, was)) where
-  stays : ◌≡◌ {A = List ℕ × ℕ} (drop len after, name) (drop len before, was)
-  stays = beyond len (let long = length-take-le len after inside in omega arith)
+module _ (before after : List ℕ) (len was name : ℕ) (beyond : (place : ℕ) → len ≤ place →
+    ◌≡◌ {A = List ℕ × ℕ × ℕ} (drop place after, length after, name) (drop place before, length before, was)) where
+  stays : ◌≡◌ {A = List ℕ × ℕ × ℕ} (drop len after, length after, name) (drop len before, length before, was)
+  stays = beyond len (omega arith)
 
   pub same_owner : name ≡ was
-  same_owner = ap (λ all. all.1) stays
+  same_owner = ap (λ all. all.2) stays
 
-  pub front-written : (key : List ℕ) → take len after ≡ key → IsFront key before len after
-  front-written key front = is_front key before after len inside front (ap (λ all. all.0) stays)
+  pub same_room : length after ≡ length before
+  same_room = ap (λ all. all.1) stays
+
+  pub front-written : (key : List ℕ) → len ≤ length after → take len after ≡ key → IsFront key before len after
+  front-written key inside front = is_front key before after len inside front (ap (λ all. all.0) stays)
+
+-- Of a key that begins with as many bytes as a turn is deep, a writer at the front was given these.
+pub front-begun : (key buffer : List ℕ) (len depth : ℕ) → key ≡ take len buffer → len ≤ length buffer → depth ≤ length key →
+    (depth ≡ length (take depth key)) × (take depth buffer ≡ take depth key)
+front-begun key buffer len depth is inside within =
+    let all = ap length is ∙ length-take-le len buffer inside in (
+      sym (length-take-le depth key within),
+      sym (ap (take depth) is ∙ take-take depth len buffer (omega (arith, all, within))),
+    )
+
+-- A key that a scan leaves is no longer than a buffer that has room for any, and for the one from which it looked.
+pub neighbour-fits : (look : Look) (world : World) (key after : List ℕ) (found : Option ℕ) (room : ℕ) → LONGEST_KEY ≤ room → length key ≤ room → IsNeighbour look world key after found →
+    length after ≤ room
+neighbour-fits look world key after None room most fits none = let same = ap length none.1 in omega (arith, same, fits)
+neighbour-fits look world key after (Some value) room most fits some = let within = some.1.is_bytes_key.within_limit in omega (arith, within, most)
+
+-- The first elements are no more than that.
+few : (count : ℕ) (all : List ℕ) → length (take count all) ≤ count
+few count all = ⊎_elim (λ less. let same = ap length (take_all count all (omega (arith, less))) in omega (arith, same, less))
+    (λ within. let same = length-take-le count all (omega (arith, within)) in omega (arith, same))
+    (cases_lt (length all) count)
+
+-- What an array has of a key that found room is no longer than it.
+room-short : (room : KeyRoom) → IsWhole room → length (bytes_in room) ≤ LONGEST_KEY
+room-short room whole = let most = few room.len room.bytes in omega (arith, whole, most)
+
+-- A key cut off there.
+pub room-begun : (key : List ℕ) (room : KeyRoom) (depth : ℕ) → room.len ≡ depth → bytes_in room ≡ take depth key → depth ≤ length key →
+    (room.len ≡ length (take depth key)) × (length (take depth key) ≤ LONGEST_KEY → take room.len room.bytes ≡ take depth key)
+room-begun key room depth long are within = (long ∙ sym (length-take-le depth key within), λ fits. are)
+
+-- And the key to which a walk goes on.
+pub room-climbed : (itself : Bool) (world : World) (before : KeyRoom) → IsWhole before → (above : Levels) (run : Run) (found : Option ℕ) (room : KeyRoom) →
+    WasGiven (λ (key : KeyRoom) bytes. (key.len ≡ length bytes) × (length bytes ≤ LONGEST_KEY → take key.len key.bytes ≡ bytes)) room (IsClimbed itself world (bytes_in before) above run found) →
+    IsWhole room × IsAbove itself world (bytes_in before) (bytes_in room) found × Stands world (bytes_in room) above run
+room-climbed itself world before whole above run found room got =
+    let fits = neighbour-fits (upward itself) world (bytes_in before) got.bytes found LONGEST_KEY (omega arith) (room-short before whole) got.are.0 in
+    let long = got.given.0 in
+    let are = sym (got.given.1 fits) in (
+      omega (arith, long, fits),
+      subst (λ bytes. IsAbove itself world (bytes_in before) bytes found) are got.are.0,
+      subst (λ bytes. Stands world bytes above run) are got.are.1,
+    )

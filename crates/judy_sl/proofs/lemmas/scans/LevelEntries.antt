@@ -1,5 +1,6 @@
 -- The entries of a level in order, as a run has them.
-use Rattle.std.proofs.Common.{◌≡◌, ◌≢◌, ℕ, zero, suc, ◌<◌, ◌≤◌, Bool, true, false, cond, ◌&&◌, T, IsTrue, ⊎_elim, List, [], ◌∷◌, map, drop, slice_get, Option, Some, None, is_some, sym, refl, ap, ◌∙◌, subst, arith, true≢false, is_lt}
+use Rattle.std.proofs.Common.{◌≡◌, ◌≢◌, ℕ, zero, suc, ◌<◌, ◌≤◌, Bool, true, false, cond, ◌&&◌, T, IsTrue, ⊎_elim, List, [], ◌∷◌, map, drop, slice_get, Option, Some, None, is_some}
+use Rattle.std.proofs.Common.{sym, refl, ap, ◌∙◌, subst, arith, true≢false, is_lt}
 use Rattle.std.specs.Ordering.{is_eq}
 use Rattle.std.specs.Cmp.{nat_cmp_total, tied_itself}
 use Rattle.std.specs.FinMap.{FinMap, nat_cmp-IsAntisymmetric, entries, entries_sorted, keys, get, get-entries, contains_key, find, is_sorted}
@@ -55,7 +56,8 @@ find-low piece low (entry ∷ others) under up =
 
 -- What is above the first is found behind it.
 find-behind : (piece : ℕ) (entry : ℕ × ℕ) (others : List (ℕ × ℕ)) → entry.0 < piece → find word_order piece (entry ∷ others) ≡ find word_order piece others
-find-behind piece entry others less = ap (λ answer. cond (is_eq answer) (Some entry.1) (find word_order piece others)) (turned_Less word_order nat_cmp_total entry.0 piece (less_word entry.0 piece less))
+find-behind piece entry others less =
+    ap (λ answer. cond (is_eq answer) (Some entry.1) (find word_order piece others)) (turned_Less word_order nat_cmp_total entry.0 piece (less_word entry.0 piece less))
 
 find-first : (entry : ℕ × ℕ) (others : List (ℕ × ℕ)) → find word_order entry.0 (entry ∷ others) ≡ Some entry.1
 find-first entry others = ap (λ answer. cond (is_eq answer) (Some entry.1) (find word_order entry.0 others)) (tied_itself nat_cmp_total entry.0)
@@ -95,7 +97,8 @@ module _ (words : FinMap word_order ℕ) where
   -- ---- all entries
 
   -- The first of them is met first, and the others are those beyond it.
-  pub first_of_all : (entry : ℕ × ℕ) (others : List (ℕ × ℕ)) → entries words ≡ entry ∷ others → IsFirstEntry Above words (Some entry.0) × (get words entry.0 ≡ Some entry.1) × AreBeyond words entry.0 others
+  pub first_of_all : (entry : ℕ × ℕ) (others : List (ℕ × ℕ)) → entries words ≡ entry ∷ others → IsFirstEntry Above words (Some entry.0) × (get words entry.0 ≡ Some entry.1) ×
+      AreBeyond words entry.0 others
   first_of_all entry others are =
       let up = rising entry others (subst (λ all. T (is_sorted word_order all)) are (entries_sorted words)) in
       let tells : (piece : ℕ) → get words piece ≡ find word_order piece (entry ∷ others) = λ piece. get-entries words piece ∙ ap (find word_order piece) are in
@@ -125,7 +128,8 @@ module _ (words : FinMap word_order ℕ) where
     pub beyond : AreBeyond words piece others
 
   module _ (piece value : ℕ) (held : get words piece ≡ Some value) where
-    stand_at : (place : ℕ) (all : List (ℕ × ℕ)) → T (is_sorted word_order all) → slice_get (map (λ e. e.0) all) place ≡ Some piece → ((other : ℕ) → piece ≤ other → get words other ≡ find word_order other all) → StandFrom piece value (drop place all)
+    stand_at : (place : ℕ) (all : List (ℕ × ℕ)) → T (is_sorted word_order all) → slice_get (map (λ e. e.0) all) place ≡ Some piece →
+        ((other : ℕ) → piece ≤ other → get words other ≡ find word_order other all) → StandFrom piece value (drop place all)
     stand_at place [] sorted at tells = cc
     stand_at zero (entry ∷ others) sorted at tells =
         let same : entry.0 ≡ piece = same_Some entry.0 piece at in
@@ -133,7 +137,9 @@ module _ (words : FinMap word_order ℕ) where
         record {
           others = others;
           are = (λ t. (same t, its t) ∷ others);
-          beyond = are_beyond piece others (subst (λ p. IsRising p others) same (rising entry others sorted)) (λ other above. tells other (omega (arith, above)) ∙ find-behind other entry others (omega (arith, same, above)));
+          beyond =
+              are_beyond piece others (subst (λ p. IsRising p others) same (rising entry others sorted))
+              (λ other above. tells other (omega (arith, above)) ∙ find-behind other entry others (omega (arith, same, above)));
         }
     stand_at (suc place) (entry ∷ others) sorted at tells =
         let less = rising-at entry.0 place piece others (rising entry others sorted) at in
@@ -146,6 +152,7 @@ module _ (words : FinMap word_order ℕ) where
         (stand_at place.0 (entries words) (entries_sorted words) place.1 (λ other above. get-entries words other))
 
 -- What the entries beyond a piece lead to is there, where that holds of each entry.
-pub beyond_lead : (world : World) (words : FinMap word_order ℕ) (piece : ℕ) (others : List (ℕ × ℕ)) → ((other at : ℕ) → get words other ≡ Some at → IsInner other → world (suc at) ≢ gone) → AreBeyond words piece others → All (LeadsOn world) others
+pub beyond_lead : (world : World) (words : FinMap word_order ℕ) (piece : ℕ) (others : List (ℕ × ℕ)) → ((other at : ℕ) → get words other ≡ Some at → IsInner other → world (suc at) ≢ gone) →
+    AreBeyond words piece others → All (LeadsOn world) others
 beyond_lead world words piece [] leads are = All-nil (LeadsOn world)
 beyond_lead world words piece (entry ∷ others) leads are = All-cons (LeadsOn world) entry others (leads entry.0 entry.1 are.1) (beyond_lead world words entry.0 others leads are.2)

@@ -1,5 +1,6 @@
 -- The ways of a run: to the level behind the first bytes of a key, from an entry down to the first key behind it, and up to the levels above.
-use Rattle.std.proofs.Common.{◌≡◌, ℕ, suc, ◌+◌, ◌-◌, ◌*◌, ◌<◌, ◌≤◌, Bool, false, IsTrue, IsFalse, List, [], ◌∷◌, ◌++◌, length, take, drop, Option, Some, None, IfSome, is_some, sym, refl, ap, ◌∙◌, subst, arith, is_lt, ⊎_elim}
+use Rattle.std.proofs.Common.{◌≡◌, ℕ, suc, ◌+◌, ◌-◌, ◌*◌, ◌<◌, ◌≤◌, Bool, false, IsTrue, IsFalse, List, [], ◌∷◌, ◌++◌, length, take, drop, Option, Some, None, IfSome, is_some, sym}
+use Rattle.std.proofs.Common.{refl, ap, ◌∙◌, subst, arith, is_lt, ⊎_elim}
 use Rattle.std.specs.Borrow.{Bor}
 use Rattle.std.specs.Cmp.{tied_itself}
 use Rattle.std.specs.FinMap.{FinMap, get, entries, contains_key}
@@ -16,7 +17,7 @@ use Rattle.judy_sl.specs.declared.scans.Turn.{Turn}
 use Rattle.judy_sl.specs.declared.runs.Run.{Run}
 use Rattle.judy_sl.specs.Pieces.{piece_of, pieces, piece_bytes, spelling, IsFinal, IsInner, AreInner, IsText, SpellKey}
 use Rattle.judy_sl.specs.World.{World, gone, tail, level, step_node, step_entry, walk}
-use Rattle.judy_sl.specs.Worlds.{IsWorld}
+use Rattle.judy_sl.specs.WorldInvariants.{IsWorld}
 use Rattle.judy_sl.specs.Ways.{seat_in}
 use Rattle.judy_sl.specs.Scans.{upward, meets, IsNone, IsNear, IsTurnOf, IsNeighbour}
 use Rattle.judy_sl.specs.Runs.{AreBeyond, AreKept, Levels, Passes, LeadAlong, Stands, EntryLeads, LeadsToLevel}
@@ -58,7 +59,8 @@ module _ (world : World) where
   along_inner seat (piece ∷ front) (Some held ∷ above) end along = (along.1.inner, along_inner (suc along.0) front above end along.2)
 
   -- One more.
-  pub along_push : (seat : ℕ) (front : List ℕ) (above : Levels) (end : ℕ) → LeadAlong world seat front above end → (piece at : ℕ) (held : Bor (ArrayOf word_order)) → Passes world end piece at held.now.map → LeadAlong world seat (front ++ piece ∷ []) (above ++ Some held ∷ []) (suc at)
+  pub along_push : (seat : ℕ) (front : List ℕ) (above : Levels) (end : ℕ) → LeadAlong world seat front above end → (piece at : ℕ) (held : Bor (ArrayOf word_order)) →
+      Passes world end piece at held.now.map → LeadAlong world seat (front ++ piece ∷ []) (above ++ Some held ∷ []) (suc at)
   along_push seat [] [] end along piece at held passes = (at, subst (λ s. Passes world s piece at held.now.map) (sym along) passes, refl)
   along_push seat [] (passed ∷ above) end along piece at held passes = absurd along
   along_push seat (first ∷ front) [] end along piece at held passes = absurd along
@@ -101,7 +103,8 @@ module _ (world : World) where
   along_some seat (piece ∷ front) (passed ∷ above) end along = along_some (suc along.0) front above end along.2
 
 -- What inner pieces lead to a level are few.
-pub front_short : {world : World} {behind : ℕ → List ℕ} (is_world : IsWorld world behind) (front : List ℕ) (seat : ℕ) (map : FinMap word_order ℕ) → AreInner front → walk world 0 front ≡ Some seat → world seat ≡ level map → 8 * length front ≤ LONGEST_KEY
+pub front_short : {world : World} {behind : ℕ → List ℕ} (is_world : IsWorld world behind) (front : List ℕ) (seat : ℕ) (map : FinMap word_order ℕ) → AreInner front →
+    walk world 0 front ≡ Some seat → world seat ≡ level map → 8 * length front ≤ LONGEST_KEY
 front_short {world} {behind} is_world front seat map inner way is =
     let place : behind seat ≡ front = walk-behind world behind is_world 0 front seat inner way ∙ ap (λ place. place ++ front) is_world.first in
     subst (λ (place : List ℕ). 8 * length place ≤ LONGEST_KEY) place (is_world.levels seat map is).short
@@ -142,7 +145,16 @@ cut_at (first ∷ front) piece rest key text is = ⊎_elim
 
 -- The level of a turn stands there.
 abbrev pub turn_level : (itself : Bool) (world : World) (key : List ℕ) (turn : Turn) (at : IsTurnOf (upward itself) world key turn) → LeadsToLevel world key turn.depth at.map
-turn_level itself world key turn at = record { front = at.front; seat = seat_in turn.child; way = at.way; inner = at.inner; is_level = at.is_level; long = at.long; within = at.within; parts = at.parts }
+turn_level itself world key turn at = record {
+  front = at.front;
+  seat = seat_in turn.child;
+  way = at.way;
+  inner = at.inner;
+  is_level = at.is_level;
+  long = at.long;
+  within = at.within;
+  parts = at.parts;
+}
 
 -- Levels have been passed, and from the one that was come to, with this rest of the key, others lead to the one that is sought; then so many
 -- bytes are left.
@@ -159,11 +171,24 @@ pub record OnWayTo (world : World) (whole : List ℕ) (end : ℕ) (target : FinM
   pub long : length rest ≡ left + 8 * length front
   pub parts : (piece : ℕ) × (more : List ℕ) × (pieces rest ≡ front ++ piece ∷ more)
 
-pub way_start : (world : World) (key : List ℕ) (depth : ℕ) (target map : FinMap word_order ℕ) → world 0 ≡ level map → (leads : LeadsToLevel world key depth target) → OnWayTo world leads.front leads.seat target (length key - depth) map key []
+pub way_start : (world : World) (key : List ℕ) (depth : ℕ) (target map : FinMap word_order ℕ) → world 0 ≡ level map → (leads : LeadsToLevel world key depth target) →
+    OnWayTo world leads.front leads.seat target (length key - depth) map key []
 way_start world key depth target map is leads =
     let long = leads.long in
     let within = leads.within in
-    record { passed = []; front = leads.front; seat = 0; are = refl; along = refl; way = leads.way; inner = leads.inner; is_level = is; is_target = leads.is_level; long = omega (arith, long, within); parts = leads.parts }
+    record {
+      passed = [];
+      front = leads.front;
+      seat = 0;
+      are = refl;
+      along = refl;
+      way = leads.way;
+      inner = leads.inner;
+      is_level = is;
+      is_target = leads.is_level;
+      long = omega (arith, long, within);
+      parts = leads.parts;
+    }
 
 -- One step of it: the rest begins with a whole piece, whose entry leads to a level.
 pub record StepTo (world : World) (whole : List ℕ) (end : ℕ) (target : FinMap word_order ℕ) (left : ℕ) (map : FinMap word_order ℕ) (rest : List ℕ) (above : Levels) : Type 0 where
@@ -178,12 +203,15 @@ pub record StepTo (world : World) (whole : List ℕ) (end : ℕ) (target : FinMa
 same_level : (one other : FinMap word_order ℕ) → level one ≡ level other → one ≡ other
 same_level one other is = cc
 
-level_on : (world : World) (target : FinMap word_order ℕ) (seat end : ℕ) (front : List ℕ) → walk world seat front ≡ Some end → world end ≡ level target → (below : FinMap word_order ℕ) × (world seat ≡ level below)
+level_on : (world : World) (target : FinMap word_order ℕ) (seat end : ℕ) (front : List ℕ) → walk world seat front ≡ Some end → world end ≡ level target →
+    (below : FinMap word_order ℕ) × (world seat ≡ level below)
 level_on world target seat end [] way is = (target, ap world (same_Some seat end way) ∙ is)
 level_on world target seat end (piece ∷ front) way is = let step = step-parts (world seat) piece (λ found. walk world (suc found) front) end way in (step.map, step.is)
 
 module _ (world : World) (whole : List ℕ) (end : ℕ) (target : FinMap word_order ℕ) (left : ℕ) (map : FinMap word_order ℕ) (rest : List ℕ) (above : Levels) where
-  step_to : (passed front : List ℕ) (seat : ℕ) → passed ++ front ≡ whole → LeadAlong world 0 passed above seat → walk world seat front ≡ Some end → AreInner front → world seat ≡ level map → world end ≡ level target → length rest ≡ left + 8 * length front → (piece : ℕ) (more : List ℕ) → pieces rest ≡ front ++ piece ∷ more → left < length rest → StepTo world whole end target left map rest above
+  step_to : (passed front : List ℕ) (seat : ℕ) → passed ++ front ≡ whole → LeadAlong world 0 passed above seat → walk world seat front ≡ Some end → AreInner front →
+      world seat ≡ level map → world end ≡ level target → length rest ≡ left + 8 * length front → (piece : ℕ) (more : List ℕ) → pieces rest ≡ front ++ piece ∷ more →
+      left < length rest → StepTo world whole end target left map rest above
   step_to passed [] seat are along way inner is is_target long piece more parts some = let never : ⊥ = omega (arith, long, some) in absurd never
   step_to passed (first ∷ front) seat are along way inner is is_target long piece more parts some =
       let eight : 8 ≤ length rest = omega (arith, long) in
@@ -209,7 +237,12 @@ module _ (world : World) (whole : List ℕ) (end : ℕ) (target : FinMap word_or
           front = front;
           seat = suc step.found;
           are = append_assoc passed (first ∷ []) front ∙ are;
-          along = along_push world 0 passed above seat along first step.found held (record { is_level = is ∙ ap (λ m. level m) (sym held_is); inner = inner.0; entry = ap (λ (words : FinMap word_order ℕ). get words first) held_is ∙ entry });
+          along =
+              along_push world 0 passed above seat along first step.found held (record {
+                is_level = is ∙ ap (λ m. level m) (sym held_is);
+                inner = inner.0;
+                entry = ap (λ (words : FinMap word_order ℕ). get words first) held_is ∙ entry;
+              });
           way = step.goes;
           inner = inner.1;
           is_level = below.1;
@@ -222,7 +255,8 @@ module _ (world : World) (whole : List ℕ) (end : ℕ) (target : FinMap word_or
   pub way_step : OnWayTo world whole end target left map rest above → left < length rest → StepTo world whole end target left map rest above
   way_step on some = step_to on.passed on.front on.seat on.are on.along on.way on.inner on.is_level on.is_target on.long on.parts.0 on.parts.1 on.parts.2 some
 
-  ends_at : (passed front : List ℕ) (seat : ℕ) → passed ++ front ≡ whole → LeadAlong world 0 passed above seat → walk world seat front ≡ Some end → world seat ≡ level map → world end ≡ level target → length rest ≡ left + 8 * length front → length rest ≤ left → (map ≡ target) × LeadAlong world 0 whole above end
+  ends_at : (passed front : List ℕ) (seat : ℕ) → passed ++ front ≡ whole → LeadAlong world 0 passed above seat → walk world seat front ≡ Some end → world seat ≡ level map →
+      world end ≡ level target → length rest ≡ left + 8 * length front → length rest ≤ left → (map ≡ target) × LeadAlong world 0 whole above end
   ends_at passed [] seat are along way is is_target long few = (
     same_level map target (sym is ∙ ap world (same_Some seat end way) ∙ is_target),
     subst (λ ps. LeadAlong world 0 ps above end) (sym (append-nil passed) ∙ are) (subst (LeadAlong world 0 passed above) (same_Some seat end way) along),
@@ -234,12 +268,15 @@ module _ (world : World) (whole : List ℕ) (end : ℕ) (target : FinMap word_or
   way_end on few = ends_at on.passed on.front on.seat on.are on.along on.way on.is_level on.is_target on.long few
 
 -- To the child that an entry leads to.
-module _ {world : World} {whole : List ℕ} {end : ℕ} {target : FinMap word_order ℕ} {left : ℕ} {map : FinMap word_order ℕ} {rest : List ℕ} {above : Levels} (step : StepTo world whole end target left map rest above) (found : ℕ) (entry : get map (piece_of rest) ≡ Some found) where
+module _ {world : World} {whole : List ℕ} {end : ℕ} {target : FinMap word_order ℕ} {left : ℕ} {map : FinMap word_order ℕ} {rest : List ℕ} {above : Levels}
+    (step : StepTo world whole end target left map rest above) (found : ℕ) (entry : get map (piece_of rest) ≡ Some found) where
   pub way_child : world (suc found) ≡ level step.below
   way_child = ap (λ at. world (suc at)) (same_Some found step.at (sym entry ∙ step.entry)) ∙ step.is_below
 
-  pub way_moved : (held : Bor (ArrayOf word_order)) → held.now.map ≡ map → (next : FinMap word_order ℕ) → world (suc found) ≡ level next → OnWayTo world whole end target left next (drop 8 rest) (above ++ Some held ∷ [])
-  way_moved held held_is next is = subst (λ below. OnWayTo world whole end target left below (drop 8 rest) (above ++ Some held ∷ [])) (same_level step.below next (sym way_child ∙ is)) (step.on held held_is)
+  pub way_moved : (held : Bor (ArrayOf word_order)) → held.now.map ≡ map → (next : FinMap word_order ℕ) → world (suc found) ≡ level next →
+      OnWayTo world whole end target left next (drop 8 rest) (above ++ Some held ∷ [])
+  way_moved held held_is next is =
+      subst (λ below. OnWayTo world whole end target left below (drop 8 rest) (above ++ Some held ∷ [])) (same_level step.below next (sym way_child ∙ is)) (step.on held held_is)
 
 pub never_gone : (map : FinMap word_order ℕ) → gone ≡ level map → ⊥
 never_gone map is = cc
@@ -248,7 +285,9 @@ pub never_tail : (held : List ℕ) (value : ℕ) (map : FinMap word_order ℕ) �
 never_tail held value map is = cc
 
 -- With the levels above, a turn is an entry that leads up.
-pub turn_leads : (itself : Bool) (world : World) (key : List ℕ) (turn : Turn) (at : IsTurnOf (upward itself) world key turn) (above : Levels) (run : Run) → LeadAlong world 0 at.front above (seat_in turn.child) → run.level.now.map ≡ at.map → AreBeyond run.level.now.map turn.piece run.entries.0 → run.entries.1 ≡ None → EntryLeads itself world key (turn.piece, turn.value) above run
+pub turn_leads : (itself : Bool) (world : World) (key : List ℕ) (turn : Turn) (at : IsTurnOf (upward itself) world key turn) (above : Levels) (run : Run) →
+    LeadAlong world 0 at.front above (seat_in turn.child) → run.level.now.map ≡ at.map → AreBeyond run.level.now.map turn.piece run.entries.0 → run.entries.1 ≡ None →
+    EntryLeads itself world key (turn.piece, turn.value) above run
 turn_leads itself world key turn at above run along is beyond none =
     let depth : turn.depth ≡ 8 * length above = at.long ∙ ap (λ n. 8 * n) (along_long world 0 at.front above (seat_in turn.child) along) in
     record {
@@ -280,19 +319,31 @@ text_after look world key after (Some value) text some = text_of_key after some.
 -- ---- from an entry down
 
 -- How far a climb has come down: the level has the entry, and these beyond it; with what is kept of the level above.
-pub record Climbing (itself : Bool) (world : World) (key : List ℕ) (piece value : ℕ) (bytes : List ℕ) (above : Levels) (map : FinMap word_order ℕ) (both : List (ℕ × ℕ) × Option (List (ℕ × ℕ))) : Type 0 where
+pub record Climbing (itself : Bool) (world : World) (key : List ℕ) (piece value : ℕ) (bytes : List ℕ) (above : Levels) (map : FinMap word_order ℕ)
+    (both : List (ℕ × ℕ) × Option (List (ℕ × ℕ))) : Type 0 where
   pub on : OnFollow (upward itself) world key map piece bytes
   pub along : LeadAlong world 0 on.front above on.seat
   pub entry : get map piece ≡ Some value
   pub beyond : AreBeyond map piece both.0
   pub kept : AreKept on.front above both.1
 
-pub climb_start : (itself : Bool) (world : World) (key : List ℕ) (entry : ℕ × ℕ) (above : Levels) (run : Run) → EntryLeads itself world key entry above run → Climbing itself world key entry.0 entry.1 (take (8 * length above) key) above run.level.now.map run.entries
+pub climb_start : (itself : Bool) (world : World) (key : List ℕ) (entry : ℕ × ℕ) (above : Levels) (run : Run) → EntryLeads itself world key entry above run →
+    Climbing itself world key entry.0 entry.1 (take (8 * length above) key) above run.level.now.map run.entries
 climb_start itself world key entry above run leads =
     let at = leads.at in
-    let held : get run.level.now.map entry.0 ≡ Some entry.1 = ap (λ (words : FinMap word_order ℕ). get words entry.0) (same_level run.level.now.map at.map (sym leads.is_level ∙ at.is_level)) ∙ at.held in
+    let held : get run.level.now.map entry.0 ≡ Some entry.1 = ap (λ (words : FinMap word_order ℕ). get words entry.0)
+    (same_level run.level.now.map at.map (sym leads.is_level ∙ at.is_level)) ∙ at.held in
     record {
-      on = record { front = at.front; seat = leads.seat; way = at.way; inner = at.inner; spells = at.deep; is_level = leads.is_level; held = ap (λ (found : Option ℕ). is_some found) held; near = at.near };
+      on = record {
+        front = at.front;
+        seat = leads.seat;
+        way = at.way;
+        inner = at.inner;
+        spells = at.deep;
+        is_level = leads.is_level;
+        held = ap (λ (found : Option ℕ). is_some found) held;
+        near = at.near;
+      };
       along = leads.along;
       entry = held;
       beyond = leads.beyond;
@@ -301,47 +352,59 @@ climb_start itself world key entry above run leads =
 
 module _ (look_itself : Bool) (world : World) where
   -- What is met first behind a seat to which inner pieces lead is met first behind them.
-  near_front : (seat end : ℕ) (front from near : List ℕ) → walk world seat front ≡ Some end → AreInner front → IsNear (upward look_itself) world end from near → IsNear (upward look_itself) world seat (front ++ from) (front ++ near)
+  near_front : (seat end : ℕ) (front from near : List ℕ) → walk world seat front ≡ Some end → AreInner front → IsNear (upward look_itself) world end from near →
+      IsNear (upward look_itself) world seat (front ++ from) (front ++ near)
   near_front seat end [] from near way inner h = subst (λ s. IsNear (upward look_itself) world s from near) (sym (same_Some seat end way)) h
   near_front seat end (piece ∷ front) from near way inner h =
       let step = step-parts (world seat) piece (λ found. walk world (suc found) front) end way in
-      moved_near (upward look_itself) world seat step.map step.is piece step.found (front ++ from) (front ++ near) step.entry inner.0 (near_front (suc step.found) end front from near step.goes inner.1 h)
+      moved_near (upward look_itself) world seat step.map step.is piece step.found (front ++ from) (front ++ near) step.entry inner.0
+      (near_front (suc step.found) end front from near step.goes inner.1 h)
 
 -- Nothing is above itself.
 unmet : (world : World) (ps : List ℕ) → IsFalse (meets (upward false) world ps ps)
 unmet world ps = ap is_lt (tied_itself byte_order_total ps)
 
 -- The entries of a level that is left downward are those that are kept below it.
-kept_above : (front : List ℕ) (piece : ℕ) (above : Levels) (held : Bor (ArrayOf word_order)) (others : List (ℕ × ℕ)) → AreBeyond held.now.map piece others → AreKept (front ++ piece ∷ []) (above ++ Some held ∷ []) (Some others)
+kept_above : (front : List ℕ) (piece : ℕ) (above : Levels) (held : Bor (ArrayOf word_order)) (others : List (ℕ × ℕ)) → AreBeyond held.now.map piece others →
+    AreKept (front ++ piece ∷ []) (above ++ Some held ∷ []) (Some others)
 kept_above front piece above held others beyond = λ before last levels top front_is above_is.
     let pieces_same = (same_from_push front before piece last front_is).1 in
     let levels_same : Some held ≡ Some top = (same_from_push above levels (Some held) (Some top) above_is).1 in
     subst (λ p. AreBeyond top.now.map p others) pieces_same (subst (λ (b : Bor (ArrayOf word_order)). AreBeyond b.now.map piece others) (same_Some held top levels_same) beyond)
 
-module _ {itself : Bool} {world : World} {behind : ℕ → List ℕ} (is_world : IsWorld world behind) {key : List ℕ} {piece value : ℕ} {bytes : List ℕ} {above : Levels} {map : FinMap word_order ℕ} {both : List (ℕ × ℕ) × Option (List (ℕ × ℕ))} (c : Climbing itself world key piece value bytes above map both) where
+module _ {itself : Bool} {world : World} {behind : ℕ → List ℕ} (is_world : IsWorld world behind) {key : List ℕ} {piece value : ℕ} {bytes : List ℕ} {above : Levels}
+    {map : FinMap word_order ℕ} {both : List (ℕ × ℕ) × Option (List (ℕ × ℕ))} (c : Climbing itself world key piece value bytes above map both) where
   -- There is room for one level more.
   pub climb_room : (below : FinMap word_order ℕ) → IsInner piece → world (suc value) ≡ level below → length above < 128
   climb_room below inner is_below =
-      let short = front_short is_world (c.on.front ++ piece ∷ []) (suc value) below (AreInner-more c.on.front piece c.on.inner inner) (walk-more world 0 c.on.front c.on.seat map piece value c.on.way c.on.is_level c.entry) is_below in
+      let short = front_short is_world (c.on.front ++ piece ∷ []) (suc value) below (AreInner-more c.on.front piece c.on.inner inner)
+      (walk-more world 0 c.on.front c.on.seat map piece value c.on.way c.on.is_level c.entry) is_below in
       let longer = length-append c.on.front (piece ∷ []) in
       let same = along_long world 0 c.on.front above c.on.seat c.along in
       omega (arith, short, longer, same)
 
   -- One level further down.
-  pub climb_down : (held : Bor (ArrayOf word_order)) → held.now.map ≡ map → (below : FinMap word_order ℕ) → IsInner piece → world (suc value) ≡ level below → (next : ℕ × ℕ) (more : List (ℕ × ℕ)) → entries below ≡ next ∷ more → Climbing itself world key next.0 next.1 (bytes ++ piece_bytes piece) (above ++ Some held ∷ []) below (more, Some both.0)
+  pub climb_down : (held : Bor (ArrayOf word_order)) → held.now.map ≡ map → (below : FinMap word_order ℕ) → IsInner piece → world (suc value) ≡ level below →
+      (next : ℕ × ℕ) (more : List (ℕ × ℕ)) → entries below ≡ next ∷ more → Climbing itself world key next.0 next.1 (bytes ++ piece_bytes piece) (above ++ Some held ∷ []) below (more, Some both.0)
   unfolding follow_level
   climb_down held held_is below inner is_below next more are =
       let first = first_of_all below next more are in
       record {
         on = follow_level is_world key map piece bytes c.on value c.entry inner below is_below next.0 first.0;
-        along = along_push world 0 c.on.front above c.on.seat c.along piece value held (record { is_level = c.on.is_level ∙ ap (λ m. level m) (sym held_is); inner = inner; entry = ap (λ (words : FinMap word_order ℕ). get words piece) held_is ∙ c.entry });
+        along =
+            along_push world 0 c.on.front above c.on.seat c.along piece value held (record {
+              is_level = c.on.is_level ∙ ap (λ m. level m) (sym held_is);
+              inner = inner;
+              entry = ap (λ (words : FinMap word_order ℕ). get words piece) held_is ∙ c.entry;
+            });
         entry = first.1;
         beyond = first.2;
         kept = kept_above c.on.front piece above held both.0 (subst (λ (words : FinMap word_order ℕ). AreBeyond words piece both.0) (sym held_is) c.beyond);
       }
 
   -- Where a key was found of which nothing else is behind its entry, it stands there.
-  stands_there : (rest after : List ℕ) → pieces after ≡ c.on.front ++ piece ∷ rest → NoneBehind (upward false) world c.on.seat piece rest → (held : Bor (ArrayOf word_order)) → held.now.map ≡ map → Stands world after above (record { level = held; entries = both })
+  stands_there : (rest after : List ℕ) → pieces after ≡ c.on.front ++ piece ∷ rest → NoneBehind (upward false) world c.on.seat piece rest → (held : Bor (ArrayOf word_order)) →
+      held.now.map ≡ map → Stands world after above (record { level = held; entries = both })
   stands_there rest after its none held held_is = record {
     front = c.on.front;
     piece = piece;
@@ -364,19 +427,22 @@ module _ {itself : Bool} {world : World} {behind : ℕ → List ℕ} (is_world :
       held held_is
 
   -- Where the entry leads to a tail.
-  pub climb_tail : (held : Bor (ArrayOf word_order)) → held.now.map ≡ map → (kept : List ℕ) (found : ℕ) → IsInner piece → world (suc value) ≡ tail (pieces kept) found → IsText kept → Stands world ((bytes ++ piece_bytes piece) ++ kept) above (record { level = held; entries = both })
+  pub climb_tail : (held : Bor (ArrayOf word_order)) → held.now.map ≡ map → (kept : List ℕ) (found : ℕ) → IsInner piece → world (suc value) ≡ tail (pieces kept) found →
+      IsText kept → Stands world ((bytes ++ piece_bytes piece) ++ kept) above (record { level = held; entries = both })
   climb_tail held held_is kept found inner tailed text =
       let spelled = tail_key is_world key map piece bytes c.on value c.entry inner kept found tailed text in
       stands_there (pieces kept) ((bytes ++ piece_bytes piece) ++ kept)
       (its_pieces is_world key map piece bytes c.on (pieces kept) ((bytes ++ piece_bytes piece) ++ kept) spelled (ap (λ more. (bytes ++ piece_bytes piece) ++ more) (sym (spelling-pieces kept text))))
-      (none_child (upward false) world c.on.seat map c.on.is_level piece value (pieces kept) c.entry inner (none_tail (upward false) world (suc value) (pieces kept) (pieces kept) found tailed (unmet world (pieces kept))))
+      (none_child (upward false) world c.on.seat map c.on.is_level piece value (pieces kept) c.entry inner
+      (none_tail (upward false) world (suc value) (pieces kept) (pieces kept) found tailed (unmet world (pieces kept))))
       held held_is
 
 -- ---- up to the levels above
 
 module _ (world : World) (key : List ℕ) (text : IsText key) (above : Levels) (held : Bor (ArrayOf word_order)) where
   -- An entry of a run leads up from a key that stands there.
-  entry_leads : (entry : ℕ × ℕ) (both : List (ℕ × ℕ) × Option (List (ℕ × ℕ))) → Stands world key above (record { level = held; entries = (entry ∷ both.0, both.1) }) → EntryLeads false world key entry above (record { level = held; entries = both })
+  entry_leads : (entry : ℕ × ℕ) (both : List (ℕ × ℕ) × Option (List (ℕ × ℕ))) → Stands world key above (record { level = held; entries = (entry ∷ both.0, both.1) }) →
+      EntryLeads false world key entry above (record { level = held; entries = both })
   entry_leads entry both stands =
       let map = held.now.map in
       let cut = cut_at stands.front stands.piece stands.rest key text stands.parts in
@@ -397,7 +463,8 @@ module _ (world : World) (key : List ℕ) (text : IsText key) (above : Levels) (
           is_level = stands.is_level;
           held = stands.beyond.1;
           near = λ ends end. subst (λ from. IsNear (upward false) world 0 from (stands.front ++ entry.0 ∷ ends)) (sym stands.parts)
-              (near_front false world 0 stands.seat stands.front (stands.piece ∷ stands.rest) (entry.0 ∷ ends) way inner (turned_near (upward false) world stands.seat map stands.is_level stands.piece entry.0 stands.rest ends stands.none stands.beyond.0 end));
+              (near_front false world 0 stands.seat stands.front (stands.piece ∷ stands.rest) (entry.0 ∷ ends) way inner
+              (turned_near (upward false) world stands.seat map stands.is_level stands.piece entry.0 stands.rest ends stands.none stands.beyond.0 end));
         };
         along = stands.along;
         is_level = stands.is_level;
@@ -406,11 +473,14 @@ module _ (world : World) (key : List ℕ) (text : IsText key) (above : Levels) (
       }
 
   -- So the next of its entries, where there is one.
-  pub next_leads : (old : List (ℕ × ℕ) × Option (List (ℕ × ℕ))) (entry : ℕ × ℕ) (new : List (ℕ × ℕ) × Option (List (ℕ × ℕ))) → old.0 ≡ entry ∷ new.0 → new.1 ≡ old.1 → Stands world key above (record { level = held; entries = old }) → EntryLeads false world key entry above (record { level = held; entries = new })
-  next_leads old entry new are same stands = entry_leads entry new (subst (λ (all : List (ℕ × ℕ) × Option (List (ℕ × ℕ))). Stands world key above (record { level = held; entries = all })) (λ t. (are t, sym same t)) stands)
+  pub next_leads : (old : List (ℕ × ℕ) × Option (List (ℕ × ℕ))) (entry : ℕ × ℕ) (new : List (ℕ × ℕ) × Option (List (ℕ × ℕ))) → old.0 ≡ entry ∷ new.0 → new.1 ≡ old.1 →
+      Stands world key above (record { level = held; entries = old }) → EntryLeads false world key entry above (record { level = held; entries = new })
+  next_leads old entry new are same stands =
+      entry_leads entry new (subst (λ (all : List (ℕ × ℕ) × Option (List (ℕ × ℕ))). Stands world key above (record { level = held; entries = all })) (λ t. (are t, sym same t)) stands)
 
 -- Where a run has nothing left, nothing in its level is above the key.
-none_in_level : (world : World) (key : List ℕ) (above : Levels) (run : Run) (stands : Stands world key above run) → run.entries.0 ≡ [] → IsNone (upward false) world stands.seat (stands.piece ∷ stands.rest)
+none_in_level : (world : World) (key : List ℕ) (above : Levels) (run : Run) (stands : Stands world key above run) → run.entries.0 ≡ [] →
+    IsNone (upward false) world stands.seat (stands.piece ∷ stands.rest)
 none_in_level world key above run stands none =
     turned_none (upward false) world stands.seat run.level.now.map stands.is_level stands.piece stands.rest stands.none (subst (AreBeyond run.level.now.map stands.piece) none stands.beyond)
 
@@ -422,11 +492,13 @@ none_above world key above run stands none first =
   where
     by : (front : List ℕ) → LeadAlong world 0 front above stands.seat → pieces key ≡ front ++ stands.piece ∷ stands.rest → length front ≡ 0 → IsNone (upward false) world 0 (pieces key)
     by [] along parts short =
-        subst (IsNone (upward false) world 0) (sym parts) (subst (λ s. IsNone (upward false) world s (stands.piece ∷ stands.rest)) (sym (same_Some 0 stands.seat (along_walk world 0 [] above stands.seat along))) (none_in_level world key above run stands none))
+        subst (IsNone (upward false) world 0) (sym parts) (subst (λ s. IsNone (upward false) world s (stands.piece ∷ stands.rest))
+        (sym (same_Some 0 stands.seat (along_walk world 0 [] above stands.seat along))) (none_in_level world key above run stands none))
     by (piece ∷ front) along parts short = let never : ⊥ = omega (arith, short) in absurd never
 
 -- What is kept is of the level that is taken off, beyond the piece that is.
-last_kept : (front before : List ℕ) (piece : ℕ) (above others : Levels) (held : Bor (ArrayOf word_order)) (kept : Option (List (ℕ × ℕ))) → front ≡ before ++ piece ∷ [] → above ≡ others ++ Some held ∷ [] → AreKept front above kept → IfSome kept (AreBeyond held.now.map piece)
+last_kept : (front before : List ℕ) (piece : ℕ) (above others : Levels) (held : Bor (ArrayOf word_order)) (kept : Option (List (ℕ × ℕ))) → front ≡ before ++ piece ∷ [] →
+    above ≡ others ++ Some held ∷ [] → AreKept front above kept → IfSome kept (AreBeyond held.now.map piece)
 last_kept front before piece above others held None front_is above_is are = tt
 last_kept front before piece above others held (Some kept) front_is above_is are = are before piece others held front_is above_is
 
@@ -435,12 +507,15 @@ pub record Risen (world : World) (key : List ℕ) (above : Levels) (held : Bor (
   pub within : 8 * length above ≤ length key
   pub there : IsTrue (contains_key held.now.map (piece_of (drop (8 * length above) key)))
   pub are_kept : IfSome kept (AreBeyond held.now.map (piece_of (drop (8 * length above) key)))
-  pub stands : (both : List (ℕ × ℕ) × Option (List (ℕ × ℕ))) → AreBeyond held.now.map (piece_of (drop (8 * length above) key)) both.0 → both.1 ≡ None → Stands world key above (record { level = held; entries = both })
+  pub stands : (both : List (ℕ × ℕ) × Option (List (ℕ × ℕ))) → AreBeyond held.now.map (piece_of (drop (8 * length above) key)) both.0 → both.1 ≡ None →
+      Stands world key above (record { level = held; entries = both })
 
-pub rise : (world : World) (key : List ℕ) → IsText key → (old new : Levels) (run : Run) (held : Bor (ArrayOf word_order)) → old ≡ new ++ Some held ∷ [] → Stands world key old run → run.entries.0 ≡ [] → Risen world key new held run.entries.1
+pub rise : (world : World) (key : List ℕ) → IsText key → (old new : Levels) (run : Run) (held : Bor (ArrayOf word_order)) → old ≡ new ++ Some held ∷ [] →
+    Stands world key old run → run.entries.0 ≡ [] → Risen world key new held run.entries.1
 rise world key text old new run held are stands none =
     let popped = along_pop world 0 stands.front new held stands.seat (subst (λ above. LeadAlong world 0 stands.front above stands.seat) are stands.along) in
-    let parts : pieces key ≡ popped.before ++ popped.piece ∷ stands.piece ∷ stands.rest = stands.parts ∙ ap (λ front. front ++ stands.piece ∷ stands.rest) popped.are ∙ append_assoc popped.before (popped.piece ∷ []) (stands.piece ∷ stands.rest) in
+    let parts : pieces key ≡ popped.before ++ popped.piece ∷ stands.piece ∷ stands.rest = stands.parts ∙ ap (λ front. front ++ stands.piece ∷ stands.rest) popped.are ∙
+    append_assoc popped.before (popped.piece ∷ []) (stands.piece ∷ stands.rest) in
     let cut = cut_at popped.before popped.piece (stands.piece ∷ stands.rest) key text parts in
     let long : length popped.before ≡ length new = along_long world 0 popped.before new popped.middle popped.along in
     let begins : piece_of (drop (8 * length new) key) ≡ popped.piece = ap (λ n. piece_of (drop (8 * n) key)) (sym long) ∙ cut.begins in

@@ -1,5 +1,6 @@
 -- The way down from an entry to the first of the keys behind it.
-use Rattle.std.proofs.Common.{◌≡◌, ◌≢◌, ℕ, zero, suc, ◌+◌, ◌*◌, ◌%◌, ◌≤◌, IsTrue, IsFalse, inl, ⊎_elim, List, [], ◌∷◌, ◌++◌, length, take, drop, Option, Some, None, is_some, sym, refl, ap, ◌∙◌, subst, arith, true≢false}
+use Rattle.std.proofs.Common.{◌≡◌, ◌≢◌, ℕ, zero, suc, ◌+◌, ◌*◌, ◌%◌, ◌≤◌, IsTrue, IsFalse, inl, ⊎_elim, List, [], ◌∷◌, ◌++◌, length, take, drop, Option, Some, None, is_some, sym}
+use Rattle.std.proofs.Common.{refl, ap, ◌∙◌, subst, arith, true≢false}
 use Rattle.std.specs.FinMap.{FinMap, nat_cmp-IsAntisymmetric, keys, get, contains_key, empty, empty_of_len, same_map, get-empty}
 use Rattle.std.specs.Cmp.{nat_cmp_total}
 use Rattle.std.proofs.lemmas.Bool.{cases_eq, cases_lt}
@@ -14,7 +15,7 @@ use Rattle.judy_sl.specs.declared.scans.Turn.{Turn}
 use Rattle.judy_sl.specs.Pieces.{piece_of, pieces, piece_bytes, spelling, IsFinal, IsInner, AreInner, ArePieces, IsText, SpellKey}
 use Rattle.judy_sl.specs.World.{World, Node, gone, tail, level, lookup, walk}
 use Rattle.judy_sl.specs.Ways.{seat_in, place_in, HasValue, IsFound}
-use Rattle.judy_sl.specs.Worlds.{IsWorld}
+use Rattle.judy_sl.specs.WorldInvariants.{IsWorld}
 use Rattle.judy_sl.specs.Scans.{IsFirstEntry, IsNear, IsEnd, IsTurnOf, IsNeighbour}
 use Rattle.judy_sl.proofs.lemmas.pieces.Ways.{pieces_short, pieces_long, lookup-walk, walk-more, walk-behind}
 use Rattle.judy_sl.proofs.lemmas.pieces.PieceLemmas.{text_of_key, pieces_are, piece_of-lt, text-drop}
@@ -40,7 +41,8 @@ pub record TextBehind (ps : List ℕ) : Type 0 where
 pub text_behind : (front : List ℕ) (piece : ℕ) (rest bytes : List ℕ) → IsText bytes → length bytes ≤ LONGEST_KEY → pieces bytes ≡ front ++ piece ∷ rest → TextBehind (piece ∷ rest)
 text_behind [] piece rest bytes text within is = record { bytes = bytes; text = text; spells = is; within = within }
 text_behind (first ∷ front) piece rest bytes text within is = ⊎_elim
-    (λ short. let both : piece_of bytes ∷ [] ≡ first ∷ front ++ piece ∷ rest = sym (pieces_short bytes short) ∙ is in let none : [] ≡ front ++ piece ∷ rest = cc in absurd (not_nil front piece rest none))
+    (λ short. let both : piece_of bytes ∷ [] ≡ first ∷ front ++ piece ∷ rest = sym (pieces_short bytes short) ∙ is in let none : [] ≡ front ++ piece ∷ rest = cc in
+    absurd (not_nil front piece rest none))
     (λ long. let both : piece_of bytes ∷ pieces (drop 8 bytes) ≡ first ∷ front ++ piece ∷ rest = sym (pieces_long bytes long) ∙ is in
     let others : pieces (drop 8 bytes) ≡ front ++ piece ∷ rest = cc in
     let left = length-drop 8 bytes in
@@ -114,18 +116,22 @@ module _ {world : World} {behind : ℕ → List ℕ} (is_world : IsWorld world b
       record { rest = first.0 ∷ begun.rest; spelled = key; value = begun.value; found = lookup_inner world seat map is_level piece at (first.0 ∷ begun.rest) entry are ∙ begun.found }
 
   begins_entry : (seat : ℕ) (map : FinMap word_order ℕ) (piece at : ℕ) → world seat ≡ level map → get map piece ≡ Some at
-      → ((below : FinMap word_order ℕ) (next found : ℕ) → length (behind (suc at)) ≡ length (behind seat) + 1 → 8 * length (behind (suc at)) ≤ LONGEST_KEY → world (suc at) ≡ level below → get below next ≡ Some found → Begins world (behind (suc at)) (suc at) next)
+      → ((below : FinMap word_order ℕ) (next found : ℕ) → length (behind (suc at)) ≡ length (behind seat) + 1 → 8 * length (behind (suc at)) ≤ LONGEST_KEY →
+      world (suc at) ≡ level below → get below next ≡ Some found → Begins world (behind (suc at)) (suc at) next)
       → Begins world (behind seat) seat piece
   begins_entry seat map piece at is entry each = ⊎_elim
       (λ final. record { rest = []; spelled = (is_world.levels seat map is).ends piece at entry final; value = at; found = lookup_final world seat map is piece at entry })
       (λ inner.
       let leads = (is_world.levels seat map is).leads piece at entry inner in
-      begins_behind seat map piece at is entry inner (λ below next found also there. each below next found (ap length leads.0 ∙ length-more (behind seat) piece) (is_world.levels (suc at) below also).short also there) (world (suc at)) refl leads.1 leads.0)
+      begins_behind seat map piece at is entry inner (λ below next found also there. each below next found (ap length leads.0 ∙ length-more (behind seat) piece)
+      (is_world.levels (suc at) below also).short also there) (world (suc at)) refl leads.1 leads.0)
       (cases_eq (piece % 256) 0)
 
-  begins_within : (fuel seat : ℕ) (map : FinMap word_order ℕ) (piece at : ℕ) → 128 ≤ length (behind seat) + fuel → world seat ≡ level map → get map piece ≡ Some at → Begins world (behind seat) seat piece
+  begins_within : (fuel seat : ℕ) (map : FinMap word_order ℕ) (piece at : ℕ) → 128 ≤ length (behind seat) + fuel → world seat ≡ level map → get map piece ≡ Some at →
+      Begins world (behind seat) seat piece
   begins_within zero seat map piece at deep is entry = begins_entry seat map piece at is entry (λ below next found longer short also there. let never : ⊥ = omega arith in absurd never)
-  begins_within (suc fuel) seat map piece at deep is entry = begins_entry seat map piece at is entry (λ below next found longer short also there. begins_within fuel (suc at) below next found (omega arith) also there)
+  begins_within (suc fuel) seat map piece at deep is entry =
+      begins_entry seat map piece at is entry (λ below next found longer short also there. begins_within fuel (suc at) below next found (omega arith) also there)
 
   -- A key begins with a place and each entry there.
   pub begins : (seat : ℕ) (map : FinMap word_order ℕ) (piece : ℕ) → world seat ≡ level map → IsTrue (contains_key map piece) → Begins world (behind seat) seat piece
@@ -163,12 +169,22 @@ pub record Following (look : Look) (world : World) (key : List ℕ) (child : Opt
 pub follow_start : (look : Look) (world : World) (key : List ℕ) (turn : Turn) → IsTurnOf look world key turn → Following look world key turn.child turn.piece turn.value (take turn.depth key)
 follow_start look world key turn at = record {
   map = at.map;
-  on = record { front = at.front; seat = seat_in turn.child; way = at.way; inner = at.inner; spells = at.deep; is_level = at.is_level; held = ap (λ (found : Option ℕ). is_some found) at.held; near = at.near };
+  on = record {
+    front = at.front;
+    seat = seat_in turn.child;
+    way = at.way;
+    inner = at.inner;
+    spells = at.deep;
+    is_level = at.is_level;
+    held = ap (λ (found : Option ℕ). is_some found) at.held;
+    near = at.near;
+  };
   stands = refl;
   entry = at.held;
 }
 
-module _ {look : Look} {world : World} {behind : ℕ → List ℕ} (is_world : IsWorld world behind) (key : List ℕ) (map : FinMap word_order ℕ) (piece : ℕ) (bytes : List ℕ) (on : OnFollow look world key map piece bytes) where
+module _ {look : Look} {world : World} {behind : ℕ → List ℕ} (is_world : IsWorld world behind) (key : List ℕ) (map : FinMap word_order ℕ) (piece : ℕ) (bytes : List ℕ)
+    (on : OnFollow look world key map piece bytes) where
   pub place_is : behind on.seat ≡ on.front
   place_is = walk-behind world behind is_world 0 on.front on.seat on.inner on.way ∙ ap (λ place. place ++ on.front) is_world.first
 
@@ -192,11 +208,15 @@ module _ {look : Look} {world : World} {behind : ℕ → List ℕ} (is_world : I
   its_pieces rest after spelled is = ap pieces (is ∙ sym (key_spelled rest spelled)) ∙ spelled.spells
 
   -- A key whose bytes the buffer then has, and whose value was found, is the neighbour.
-  finish : (rest : List ℕ) (value : ℕ) (after : List ℕ) → SpellKey (on.front ++ piece ∷ rest) → IsEnd look world on.seat piece rest → lookup world on.seat (piece ∷ rest) ≡ Some value → after ≡ (bytes ++ piece_bytes piece) ++ spelling rest → IsNeighbour look world key after (Some value)
+  finish : (rest : List ℕ) (value : ℕ) (after : List ℕ) → SpellKey (on.front ++ piece ∷ rest) → IsEnd look world on.seat piece rest → lookup world on.seat (piece ∷ rest) ≡ Some value →
+      after ≡ (bytes ++ piece_bytes piece) ++ spelling rest → IsNeighbour look world key after (Some value)
   finish rest value after spelled end found is =
       let one : after ≡ spelled.key = is ∙ sym (key_spelled rest spelled) in
-      let its = its_pieces rest after spelled is in
-      (subst (IsNear look world 0 (pieces key)) (sym its) (on.near rest end), subst IsStringKey (sym one) spelled.is_key, ap (lookup world 0) its ∙ lookup-walk world 0 on.front on.seat piece rest on.way ∙ found)
+      let its = its_pieces rest after spelled is in (
+        subst (IsNear look world 0 (pieces key)) (sym its) (on.near rest end),
+        subst IsStringKey (sym one) spelled.is_key,
+        ap (lookup world 0) its ∙ lookup-walk world 0 on.front on.seat piece rest on.way ∙ found,
+      )
 
   -- Where a key ends.
   pub follow_last : (value : ℕ) → IsFinal piece → get map piece ≡ Some value → IsNeighbour look world key (bytes ++ piece_bytes piece) (Some value)
@@ -254,7 +274,8 @@ module _ {look : Look} {world : World} {behind : ℕ → List ℕ} (is_world : I
       pub follow_tail : IsNeighbour look world key ((bytes ++ piece_bytes piece) ++ held) (Some value)
       follow_tail =
           let end = end_tail look world on.seat map on.is_level piece at value (pieces held) is inner tailed (pieces_are held text) in
-          finish (pieces held) value ((bytes ++ piece_bytes piece) ++ held) tail_key end (lookup_inner world on.seat map on.is_level piece at (pieces held) is (pieces_are held text) ∙ at_tail world (suc at) (pieces held) value tailed (pieces_are held text)) (ap (λ more. (bytes ++ piece_bytes piece) ++ more) (sym (spelling-pieces held text)))
+          finish (pieces held) value ((bytes ++ piece_bytes piece) ++ held) tail_key end (lookup_inner world on.seat map on.is_level piece at (pieces held) is (pieces_are held text) ∙
+          at_tail world (suc at) (pieces held) value tailed (pieces_are held text)) (ap (λ more. (bytes ++ piece_bytes piece) ++ more) (sym (spelling-pieces held text)))
 
       -- Its value stands in the tail.
       pub follow_tail_place : IsFound world ((bytes ++ piece_bytes piece) ++ held) (Below at 0)
@@ -264,7 +285,9 @@ module _ {look : Look} {world : World} {behind : ℕ → List ℕ} (is_world : I
           front = on.front ++ piece ∷ [];
           inner = AreInner-more on.front piece on.inner inner;
           way = walk-more world 0 on.front on.seat map piece at on.way on.is_level is;
-          parts = its_pieces (pieces held) ((bytes ++ piece_bytes piece) ++ held) tail_key (ap (λ more. (bytes ++ piece_bytes piece) ++ more) (sym (spelling-pieces held text))) ∙ sym (append_assoc on.front (piece ∷ []) (pieces held));
+          parts =
+              its_pieces (pieces held) ((bytes ++ piece_bytes piece) ++ held) tail_key (ap (λ more. (bytes ++ piece_bytes piece) ++ more) (sym (spelling-pieces held text))) ∙
+              sym (append_assoc on.front (piece ∷ []) (pieces held));
         };
         value = value;
         has = subst (λ node. HasValue node 0 (pieces held) value) (sym tailed) (refl, pieces-some held, refl);
@@ -284,7 +307,9 @@ module _ {look : Look} {world : World} {behind : ℕ → List ℕ} (is_world : I
         spells = ap (λ front. front ++ piece_bytes piece) on.spells ∙ ap (λ more. spelling on.front ++ more) (sym (append-nil (piece_bytes piece))) ∙ sym (spelling-append on.front (piece ∷ []));
         is_level = is_below;
         held = first.0;
-        near = λ rest end. subst (IsNear look world 0 (pieces key)) (sym (append_assoc on.front (piece ∷ []) (next ∷ rest))) (on.near (next ∷ rest) (end_level look world on.seat map on.is_level piece at next rest below is inner is_below first end));
+        near =
+            λ rest end. subst (IsNear look world 0 (pieces key)) (sym (append_assoc on.front (piece ∷ []) (next ∷ rest)))
+            (on.near (next ∷ rest) (end_level look world on.seat map on.is_level piece at next rest below is inner is_below first end));
       }
 
       pub follow_down : (next : ℕ × ℕ) → IsFirstEntry look.side below (Some next.0) → get below next.0 ≡ Some next.1 → Following look world key (Some at) next.0 next.1 (bytes ++ piece_bytes piece)

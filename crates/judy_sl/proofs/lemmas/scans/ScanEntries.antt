@@ -1,5 +1,6 @@
 -- What the neighbours of a word array are, seen from a side.
-use Rattle.std.proofs.Common.{◌≡◌, ◌≢◌, ℕ, ◌-◌, List, [], ◌∷◌, length, take, drop, Bool, true, false, ◌&&◌, IsTrue, Option, Some, None, is_some, sym, refl, ap, ◌∙◌, arith, le-leb, Ordering, is_lt, is_le, is_ge}
+use Rattle.std.proofs.Common.{◌≡◌, ◌≢◌, ℕ, ◌-◌, List, [], ◌∷◌, length, take, drop, Bool, true, false, ◌&&◌, IsTrue, Option, Some, None, is_some, sym, refl, ap, ◌∙◌, arith, le-leb}
+use Rattle.std.proofs.Common.{Ordering, is_lt, is_le, is_ge}
 use Rattle.std.specs.Ordering.{ordering_then}
 use Rattle.std.specs.Cmp.{nat_cmp_total}
 use Rattle.std.specs.Cmp.Lexicographic.{slice_cmp}
@@ -30,7 +31,8 @@ module _ (map : FinMap word_order ℕ) (from : ℕ) where
   above-next = least_agree word_order _ _ (λ key. ap (λ b. contains_key map key && b) (gt_is_lt nat_cmp_total key from)) (next map from) (next-IsNext nat_cmp_total nat_cmp-IsAntisymmetric map from)
 
   pub above-first : IsNearestEntry Above true map from (first map from)
-  above-first = least_agree word_order _ _ (λ key. ap (λ b. contains_key map key && b) (ge_is_le nat_cmp_total key from)) (first map from) (first-IsFirst nat_cmp_total nat_cmp-IsAntisymmetric map from)
+  above-first =
+      least_agree word_order _ _ (λ key. ap (λ b. contains_key map key && b) (ge_is_le nat_cmp_total key from)) (first map from) (first-IsFirst nat_cmp_total nat_cmp-IsAntisymmetric map from)
 
   pub below-prev : IsNearestEntry Below false map from (prev map from)
   below-prev = prev-IsPrev nat_cmp_total nat_cmp-IsAntisymmetric map from
@@ -44,10 +46,15 @@ both_true false side each = refl
 
 module _ (map : FinMap word_order ℕ) where
   pub above-end : IsFirstEntry Above map (first map 0)
-  above-end = least_agree word_order _ (contains_key map) (λ key. both_true (contains_key map key) (is_ge (word_order key 0)) (λ held. is_ge_word key 0 ∙ le-leb 0 key (omega arith))) (first map 0) (first-IsFirst nat_cmp_total nat_cmp-IsAntisymmetric map 0)
+  above-end =
+      least_agree word_order _ (contains_key map) (λ key. both_true (contains_key map key) (is_ge (word_order key 0)) (λ held. is_ge_word key 0 ∙ le-leb 0 key (omega arith)))
+      (first map 0) (first-IsFirst nat_cmp_total nat_cmp-IsAntisymmetric map 0)
 
   pub below-end : ((piece : ℕ) → IsTrue (contains_key map piece) → IsWord piece) → IsFirstEntry Below map (last map 18446744073709551615)
-  below-end words = least_agree (λ left right. word_order right left) _ (contains_key map) (λ key. both_true (contains_key map key) (is_le (word_order key 18446744073709551615)) (λ held. is_le_word key 18446744073709551615 ∙ le-leb key 18446744073709551615 (let small = words key held in omega arith))) (last map 18446744073709551615) (last-IsLast nat_cmp_total nat_cmp-IsAntisymmetric map 18446744073709551615)
+  below-end words =
+      least_agree (λ left right. word_order right left) _ (contains_key map) (λ key. both_true (contains_key map key) (is_le (word_order key 18446744073709551615))
+      (λ held. is_le_word key 18446744073709551615 ∙ le-leb key 18446744073709551615 (let small = words key held in omega arith))) (last map 18446744073709551615)
+      (last-IsLast nat_cmp_total nat_cmp-IsAntisymmetric map 18446744073709551615)
 
 -- ---- an entry from a piece on, of another piece
 
@@ -97,8 +104,10 @@ turned_pieces : (one two : List ℕ) → ArePieces one → ArePieces two → sli
 turned_pieces [] two are also = absurd are
 turned_pieces (p ∷ ps) [] are also = absurd also
 turned_pieces (p ∷ []) (q ∷ []) are also = refl
-turned_pieces (p ∷ []) (q ∷ next ∷ qs) are also = first_decides q p (slice_cmp (λ left right. word_order right left) [] (next ∷ qs)) (slice_cmp word_order (next ∷ qs) []) (λ e. final-not_inner p q are also.0 (sym e))
-turned_pieces (p ∷ next ∷ ps) (q ∷ []) are also = first_decides q p (slice_cmp (λ left right. word_order right left) (next ∷ ps) []) (slice_cmp word_order [] (next ∷ ps)) (final-not_inner q p also are.0)
+turned_pieces (p ∷ []) (q ∷ next ∷ qs) are also =
+    first_decides q p (slice_cmp (λ left right. word_order right left) [] (next ∷ qs)) (slice_cmp word_order (next ∷ qs) []) (λ e. final-not_inner p q are also.0 (sym e))
+turned_pieces (p ∷ next ∷ ps) (q ∷ []) are also =
+    first_decides q p (slice_cmp (λ left right. word_order right left) (next ∷ ps) []) (slice_cmp word_order [] (next ∷ ps)) (final-not_inner q p also are.0)
 turned_pieces (p ∷ next ∷ ps) (q ∷ other ∷ qs) are also = ap (ordering_then (word_order q p)) (turned_pieces (next ∷ ps) (other ∷ qs) are.1 also.1)
 
 -- From either side the pieces of texts compare as the texts.
@@ -107,7 +116,8 @@ bytes_along Above one two p q = order-pieces one two p q
 bytes_along Below one two p q = turned_pieces (pieces one) (pieces two) (pieces_are one p) (pieces_are two q) ∙ order-pieces two one q p
 
 -- So a tail is met from the rest of a key behind a piece as the code tells it, by the bytes of both.
-pub met_along : (look : Look) (world : World) (rest held : List ℕ) → IsText rest → IsText held → {met : Bool} → met ≡ is_beyond look.itself (along_bytes look.side (take (length rest - 8) (drop 8 rest)) held) → meets look world (pieces (drop 8 rest)) (pieces held) ≡ met
+pub met_along : (look : Look) (world : World) (rest held : List ℕ) → IsText rest → IsText held → {met : Bool} →
+    met ≡ is_beyond look.itself (along_bytes look.side (take (length rest - 8) (drop 8 rest)) held) → meets look world (pieces (drop 8 rest)) (pieces held) ≡ met
 met_along look world rest held one two is =
     ap (is_beyond look.itself) (bytes_along look.side (drop 8 rest) held (text-drop 8 rest one) two)
     ∙ ap (λ bytes. is_beyond look.itself (along_bytes look.side bytes held)) (sym (take_rest rest 8))

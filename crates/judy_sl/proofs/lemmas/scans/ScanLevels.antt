@@ -1,5 +1,6 @@
 -- What is met first at one level, by what is met first behind its entries.
-use Rattle.std.proofs.Common.{◌≡◌, ℕ, suc, Bool, true, false, cond, ◌&&◌, IsTrue, IsFalse, inl, inr, ⊎_elim, ◌⊎◌, List, [], ◌∷◌, Some, None, is_some, sym, refl, ap, ◌∙◌, subst, Ordering, Less, Equal, Greater, is_lt, is_le}
+use Rattle.std.proofs.Common.{◌≡◌, ℕ, suc, Bool, true, false, cond, ◌&&◌, IsTrue, IsFalse, inl, inr, ⊎_elim, ◌⊎◌, List, [], ◌∷◌, Some, None, is_some, sym, refl, ap, ◌∙◌, subst}
+use Rattle.std.proofs.Common.{Ordering, Less, Equal, Greater, is_lt, is_le}
 use Rattle.std.specs.Ordering.{ordering_then, is_eq, eq_by_cmp}
 use Rattle.std.specs.Cmp.{IsTotalOrder, nat_cmp_total, tied_itself, back_total}
 use Rattle.std.specs.Cmp.Lexicographic.{slice_cmp}
@@ -44,9 +45,11 @@ module _ {order : ℕ → ℕ → Ordering} (total : IsTotalOrder order) (same :
   behind_one p ps qs = ap (λ answer. ordering_then answer (slice_cmp order ps qs)) (tied_itself total p)
 
   -- What is met has a later piece, or one piece and what is met behind it.
-  met_parts : (itself : Bool) (p q : ℕ) (ps qs : List ℕ) → IsTrue (is_beyond itself (slice_cmp order (p ∷ ps) (q ∷ qs))) → (order p q ≡ Less) ⊎ ((p ≡ q) × IsTrue (is_beyond itself (slice_cmp order ps qs)))
+  met_parts : (itself : Bool) (p q : ℕ) (ps qs : List ℕ) → IsTrue (is_beyond itself (slice_cmp order (p ∷ ps) (q ∷ qs))) →
+      (order p q ≡ Less) ⊎ ((p ≡ q) × IsTrue (is_beyond itself (slice_cmp order ps qs)))
   met_parts itself p q ps qs met =
-      elim (order p q) as (λ answer. order p q ≡ answer → IsTrue (is_beyond itself (ordering_then answer (slice_cmp order ps qs))) → (order p q ≡ Less) ⊎ ((p ≡ q) × IsTrue (is_beyond itself (slice_cmp order ps qs)))) [
+      elim (order p q) as (λ answer. order p q ≡ answer → IsTrue (is_beyond itself (ordering_then answer (slice_cmp order ps qs))) →
+      (order p q ≡ Less) ⊎ ((p ≡ q) × IsTrue (is_beyond itself (slice_cmp order ps qs)))) [
         | Less ↦ λ is so. inl is
         | Equal ↦ λ is so. inr (same p q is, so)
         | Greater ↦ λ is so. not_both (is_beyond itself Greater) so (beyond_greater itself)
@@ -149,7 +152,8 @@ module _ (look : Look) (world : World) where
         none ps value rest (sym (lookup_inner world seat map is_level p found ps is rest) ∙ here)
 
     -- The first key behind an inner piece is behind the seat that it leads to.
-    pub tail_end : (p found value : ℕ) (held from rest : List ℕ) → get map p ≡ Some found → IsInner p → world (suc found) ≡ tail held value → IsTrue (meets look world from held) → IsEnd look world seat p rest → IsNear look world (suc found) from rest
+    pub tail_end : (p found value : ℕ) (held from rest : List ℕ) → get map p ≡ Some found → IsInner p → world (suc found) ≡ tail held value →
+        IsTrue (meets look world from held) → IsEnd look world seat p rest → IsNear look world (suc found) from rest
     tail_end p found value held from rest is inner tailed met end =
         let are = pieces_rest p rest inner end.are in
         let here = sym (lookup_inner world seat map is_level p found rest is are) ∙ end.found in
@@ -159,7 +163,9 @@ module _ (look : Look) (world : World) where
           met = ap (meets look world from) (sym one) ∙ met;
           value = end.value;
           found = here;
-          first = λ ps other others also _. ap is_le (ap (slice_cmp (along look.side) rest) (sym (tail_only world (suc found) held value tailed ps other also) ∙ one) ∙ itself_tied (along_total look.side) (along_same look.side) rest);
+          first =
+              λ ps other others also _. ap is_le (ap (slice_cmp (along look.side) rest) (sym (tail_only world (suc found) held value tailed ps other also) ∙ one) ∙
+              itself_tied (along_total look.side) (along_same look.side) rest);
         }
 
     -- What is met first behind the seat that an inner piece leads to is met first here.
@@ -183,10 +189,13 @@ module _ (look : Look) (world : World) where
             (met_parts (along_total look.side) (along_same look.side) look.itself p q from qs met)
 
     -- Where nothing behind the piece is met, what is met first is behind the entry that is met first beyond it.
-    pub turned_near : (p entry : ℕ) (from rest : List ℕ) → NoneBehind seat p from → IsNearestEntry look.side false map p (Some entry) → IsEnd look world seat entry rest → IsNear look world seat (p ∷ from) (entry ∷ rest)
+    pub turned_near : (p entry : ℕ) (from rest : List ℕ) → NoneBehind seat p from → IsNearestEntry look.side false map p (Some entry) → IsEnd look world seat entry rest →
+        IsNear look world seat (p ∷ from) (entry ∷ rest)
     turned_near p entry from rest none nearest end = record {
       are = end.are;
-      met = met_later (along_total look.side) (along_same look.side) look.itself p entry from rest (less_is (along look.side p entry) (and_parts (contains_key map entry) (is_lt (along look.side p entry)) nearest.0).1);
+      met =
+          met_later (along_total look.side) (along_same look.side) look.itself p entry from rest (less_is (along look.side p entry)
+          (and_parts (contains_key map entry) (is_lt (along look.side p entry)) nearest.0).1);
       value = end.value;
       found = end.found;
       first = least;
@@ -208,7 +217,8 @@ module _ (look : Look) (world : World) where
         never : (ps : List ℕ) (value : ℕ) → ArePieces ps → lookup world seat ps ≡ Some value → IsTrue (meets look world (p ∷ from) ps) → ⊥
         never [] value are here met = are
         never (q ∷ qs) value are here met = ⊎_elim
-            (λ less. not_both (contains_key map q && is_lt (along look.side p q)) (and_from (contains_key map q) (is_lt (along look.side p q)) (held_from_lookup world seat map is_level q value qs here) (ap is_lt less)) (nearest q))
+            (λ less. not_both (contains_key map q && is_lt (along look.side p q)) (and_from (contains_key map q) (is_lt (along look.side p q))
+            (held_from_lookup world seat map is_level q value qs here) (ap is_lt less)) (nearest q))
             (λ one. not_both (meets look world from qs) one.1 (none qs value (subst (λ r. ArePieces (r ∷ qs)) (sym one.0) are) (subst (λ r. lookup world seat (r ∷ qs) ≡ Some value) (sym one.0) here)))
             (met_parts (along_total look.side) (along_same look.side) look.itself p q from qs met)
 
@@ -224,7 +234,8 @@ module _ (look : Look) (world : World) where
         ] refl
 
     -- From a key's last piece what is met first is behind the entry that is met first.
-    pub last_near : (p entry : ℕ) (rest : List ℕ) → IsFinal p → IsNearestEntry look.side look.itself map p (Some entry) → IsEnd look world seat entry rest → IsNear look world seat (p ∷ []) (entry ∷ rest)
+    pub last_near : (p entry : ℕ) (rest : List ℕ) → IsFinal p → IsNearestEntry look.side look.itself map p (Some entry) → IsEnd look world seat entry rest →
+        IsNear look world seat (p ∷ []) (entry ∷ rest)
     last_near p entry rest final nearest end = record {
       are = end.are;
       met = last_met p entry rest final end.are ∙ (and_parts (contains_key map entry) (is_beyond look.itself (along look.side p entry)) nearest.0).1;
@@ -236,7 +247,8 @@ module _ (look : Look) (world : World) where
         least : (ps : List ℕ) (value : ℕ) → ArePieces ps → lookup world seat ps ≡ Some value → IsTrue (meets look world (p ∷ []) ps) → IsTrue (is_le (slice_cmp (along look.side) (entry ∷ rest) ps))
         least [] value are here met = absurd are
         least (q ∷ qs) value are here met = le_parts (along_total look.side) (along_same look.side) entry q rest qs
-            (nearest.1 q (and_from (contains_key map q) (is_beyond look.itself (along look.side p q)) (held_from_lookup world seat map is_level q value qs here) (sym (last_met p q qs final are) ∙ met)))
+            (nearest.1 q (and_from (contains_key map q) (is_beyond look.itself (along look.side p q)) (held_from_lookup world seat map is_level q value qs here)
+            (sym (last_met p q qs final are) ∙ met)))
             (λ one. end.first qs value (subst (λ r. ArePieces (r ∷ qs)) (sym one) are) (subst (λ r. lookup world seat (r ∷ qs) ≡ Some value) (sym one) here))
 
     -- Where there is no such entry, nothing is met.
@@ -267,11 +279,14 @@ module _ (look : Look) (world : World) where
       are = pieces_cons p held inner are;
       value = value;
       found = lookup_inner world seat map is_level p found held is are ∙ at_tail world (suc found) held value tailed are;
-      first = λ ps other good here. ap is_le (ap (slice_cmp (along look.side) held) (sym (tail_only world (suc found) held value tailed ps other (sym (lookup_inner world seat map is_level p found ps is (pieces_rest p ps inner good)) ∙ here))) ∙ itself_tied (along_total look.side) (along_same look.side) held);
+      first =
+          λ ps other good here. ap is_le (ap (slice_cmp (along look.side) held) (sym (tail_only world (suc found) held value tailed ps other
+          (sym (lookup_inner world seat map is_level p found ps is (pieces_rest p ps inner good)) ∙ here))) ∙ itself_tied (along_total look.side) (along_same look.side) held);
     }
 
     -- Behind one that leads to a level the first is behind that level's first entry.
-    pub end_level : (p found entry : ℕ) (rest : List ℕ) (below : FinMap word_order ℕ) → get map p ≡ Some found → IsInner p → world (suc found) ≡ level below → IsFirstEntry look.side below (Some entry) → IsEnd look world (suc found) entry rest → IsEnd look world seat p (entry ∷ rest)
+    pub end_level : (p found entry : ℕ) (rest : List ℕ) (below : FinMap word_order ℕ) → get map p ≡ Some found → IsInner p → world (suc found) ≡ level below →
+        IsFirstEntry look.side below (Some entry) → IsEnd look world (suc found) entry rest → IsEnd look world seat p (entry ∷ rest)
     end_level p found entry rest below is inner leads first end = record {
       are = pieces_cons p (entry ∷ rest) inner end.are;
       value = end.value;

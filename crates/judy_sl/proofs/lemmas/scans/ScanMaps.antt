@@ -19,14 +19,16 @@ use Rattle.judy_sl.proofs.lemmas.scans.ScanEntries.{bytes_along}
 
 -- A key that is met, and before which none is, is the neighbour.
 found_along : (side : Side) (itself : Bool) (map : FinMap byte_order ℕ) (from key : List ℕ) → IsTrue (contains_key map key) → IsTrue (is_beyond itself (along_bytes side from key))
-    → ((other : List ℕ) → IsTrue (contains_key map other) → IsTrue (is_beyond itself (along_bytes side from other)) → IsTrue (is_le (along_bytes side key other))) → neighbour_along side itself map from ≡ Some key
+    → ((other : List ℕ) → IsTrue (contains_key map other) → IsTrue (is_beyond itself (along_bytes side from other)) → IsTrue (is_le (along_bytes side key other))) →
+    neighbour_along side itself map from ≡ Some key
 found_along Above true map from key held met each = first_found byte_order_total byte_order_same map from key held met each
 found_along Above false map from key held met each = next_found byte_order_total byte_order_same map from key held met each
 found_along Below true map from key held met each = last_found byte_order_total byte_order_same map from key held met each
 found_along Below false map from key held met each = prev_found byte_order_total byte_order_same map from key held met each
 
 -- Where no key is met, there is none.
-missing_along : (side : Side) (itself : Bool) (map : FinMap byte_order ℕ) (from : List ℕ) → ((other : List ℕ) → IsTrue (contains_key map other) → IsFalse (is_beyond itself (along_bytes side from other))) → neighbour_along side itself map from ≡ None
+missing_along : (side : Side) (itself : Bool) (map : FinMap byte_order ℕ) (from : List ℕ) → ((other : List ℕ) → IsTrue (contains_key map other) →
+    IsFalse (is_beyond itself (along_bytes side from other))) → neighbour_along side itself map from ≡ None
 missing_along Above true map from none = first_missing byte_order_total byte_order_same map from (λ other held. lt_from_not_le byte_order_total other from ∙ ap not (none other held))
 missing_along Above false map from none = next_missing byte_order_total byte_order_same map from (λ other held. le_from_not_lt byte_order_total other from ∙ ap not (none other held))
 missing_along Below true map from none = last_missing byte_order_total byte_order_same map from (λ other held. lt_from_not_le byte_order_total from other ∙ ap not (none other held))
@@ -63,6 +65,7 @@ module _ (look : Look) (arena : Arena) (key : List ℕ) (text : IsText key) wher
       (ap (λ one. unwrap_or one key) (sym found), sym has ∙ ap (value_found (map_of arena)) (sym found))
 
 -- Where something was found, it is the value of the key that is then in the buffer.
-pub value_there : (map : FinMap byte_order ℕ) (found : Option (List ℕ)) (value : ℕ) (before after : List ℕ) → Some value ≡ value_found map found → after ≡ unwrap_or found before → get map after ≡ value_found map found
+pub value_there : (map : FinMap byte_order ℕ) (found : Option (List ℕ)) (value : ℕ) (before after : List ℕ) → Some value ≡ value_found map found →
+    after ≡ unwrap_or found before → get map after ≡ value_found map found
 value_there map None value before after is same = absurd (none-some value (sym is))
 value_there map (Some key) value before after is same = ap (get map) same

@@ -1,5 +1,6 @@
 -- The keys behind a level's seat: entry by entry, the piece's bytes before the keys behind its child.
-use Rattle.std.proofs.Common.{◌≡◌, ◌≢◌, ℕ, zero, suc, ◌%◌, ◌<◌, ◌≤◌, cond, T, ◌&&◌, List, [], ◌∷◌, ◌++◌, length, take, drop, Option, Some, None, is_some, Less, refl, sym, ap, ◌∙◌, subst, arith, ⊎_elim}
+use Rattle.std.proofs.Common.{◌≡◌, ◌≢◌, ℕ, zero, suc, ◌%◌, ◌<◌, ◌≤◌, cond, T, ◌&&◌, List, [], ◌∷◌, ◌++◌, length, take, drop, Option, Some, None, is_some, Less, refl, sym, ap, ◌∙◌}
+use Rattle.std.proofs.Common.{subst, arith, ⊎_elim}
 use Rattle.std.specs.Ordering.{is_lt, is_eq, eq_by_cmp, ordering_then}
 use Rattle.std.specs.List.{flat_map, AllByRecursion}
 use Rattle.std.specs.Cmp.{nat_cmp_total, tied_itself}
@@ -16,7 +17,7 @@ use Rattle.judy_sums.specs.Levels.{part_of}
 use Rattle.judy_sums.proofs.Parts.{AreParts, find_parts, sorted_parts, found_tells, others_miss, each_found}
 use Rattle.judy_sl.specs.Pieces.{piece_of, pieces, piece_bytes, IsFinal, IsInner, ArePieces, IsText, SpellKey}
 use Rattle.judy_sl.specs.World.{World, Node, gone, tail, level, lookup, at_node}
-use Rattle.judy_sl.specs.Worlds.{IsWorld}
+use Rattle.judy_sl.specs.WorldInvariants.{IsWorld}
 use Rattle.judy_sl.specs.Behind.{map_behind, entry_keys}
 use Rattle.judy_sl.proofs.lemmas.pieces.Ways.{pieces_short, pieces_long}
 use Rattle.judy_sl.proofs.lemmas.pieces.OnWay.{pieces-head}
@@ -65,7 +66,8 @@ key-drop key is = key_of_text (drop 8 key) (text-drop 8 key (text_of_key key is)
 
 module _ {world : World} {behind : ℕ → List ℕ} (is : IsWorld world behind) where
   -- One step of what follows.
-  module _ (seat value piece : ℕ) (rest : List ℕ) (are : ArePieces (piece ∷ rest)) (found : lookup world seat (piece ∷ rest) ≡ Some value) (go : (at : ℕ) → ArePieces rest → lookup world (suc at) rest ≡ Some value → SpellKey (behind (suc at) ++ rest)) where
+  module _ (seat value piece : ℕ) (rest : List ℕ) (are : ArePieces (piece ∷ rest)) (found : lookup world seat (piece ∷ rest) ≡ Some value)
+      (go : (at : ℕ) → ArePieces rest → lookup world (suc at) rest ≡ Some value → SpellKey (behind (suc at) ++ rest)) where
     spells_on : (words : FinMap word_order ℕ) → world seat ≡ level words → (at : ℕ) → get words piece ≡ Some at → (more : List ℕ) → rest ≡ more → SpellKey (behind seat ++ piece ∷ rest)
     spells_on words here at entry [] e =
         subst (λ more. SpellKey (behind seat ++ piece ∷ more)) (sym e) ((is.levels seat words here).ends piece at entry (subst (λ more. ArePieces (piece ∷ more)) e are))
@@ -91,8 +93,10 @@ module _ {world : World} {behind : ℕ → List ℕ} (is : IsWorld world behind)
     -- A text begins with each piece of a level.
     entry_text : (piece at : ℕ) → get words piece ≡ Some at → (rest : List ℕ) × TextBehind (piece ∷ rest)
     entry_text piece at entry =
-        let begun = begins is seat words piece here (ap (λ (found : Option ℕ). is_some found) entry) in
-        (begun.rest, text_behind (behind seat) piece begun.rest begun.spelled.key (text_of_key begun.spelled.key begun.spelled.is_key) begun.spelled.is_key.is_bytes_key.within_limit begun.spelled.spells)
+        let begun = begins is seat words piece here (ap (λ (found : Option ℕ). is_some found) entry) in (
+          begun.rest,
+          text_behind (behind seat) piece begun.rest begun.spelled.key (text_of_key begun.spelled.key begun.spelled.is_key) begun.spelled.is_key.is_bytes_key.within_limit begun.spelled.spells,
+        )
 
     -- The bytes of a final piece are a key.
     final_key : (piece at : ℕ) → get words piece ≡ Some at → IsFinal piece → Begun piece (piece_bytes piece)
@@ -145,7 +149,8 @@ module _ {world : World} {behind : ℕ → List ℕ} (is : IsWorld world behind)
             drop_whole (suc count) (byte ∷ bytes) most = drop_whole count bytes (omega arith)
 
     -- Its bytes before those of a key behind its child are a key.
-    pub inner_key : (piece at : ℕ) → get words piece ≡ Some at → IsInner piece → (rest : List ℕ) (value : ℕ) → get (map_behind world (suc at)) rest ≡ Some value → Begun piece (piece_bytes piece ++ rest)
+    pub inner_key : (piece at : ℕ) → get words piece ≡ Some at → IsInner piece → (rest : List ℕ) (value : ℕ) → get (map_behind world (suc at)) rest ≡ Some value →
+        Begun piece (piece_bytes piece ++ rest)
     inner_key piece at entry inner rest value held =
         let front = inner_front piece at entry inner in
         let there = table_some string_keys-all (λ key. lookup world (suc at) (pieces key)) rest value held in
@@ -166,7 +171,8 @@ module _ {world : World} {behind : ℕ → List ℕ} (is : IsWorld world behind)
     abbrev pub IsPart : ℕ × ℕ → List (List ℕ × ℕ) → Type 0
     IsPart entry pairs = T (is_sorted byte_order pairs) × AllByRecursion (λ (pair : List ℕ × ℕ). Begun entry.0 pair.0) pairs
 
-    led_begun : (piece : ℕ) (pairs : List (List ℕ × ℕ)) → AllByRecursion (λ (pair : List ℕ × ℕ). Begun piece (piece_bytes piece ++ pair.0)) pairs → AllByRecursion (λ (pair : List ℕ × ℕ). Begun piece pair.0) (led_pairs (piece_bytes piece) pairs)
+    led_begun : (piece : ℕ) (pairs : List (List ℕ × ℕ)) → AllByRecursion (λ (pair : List ℕ × ℕ). Begun piece (piece_bytes piece ++ pair.0)) pairs →
+        AllByRecursion (λ (pair : List ℕ × ℕ). Begun piece pair.0) (led_pairs (piece_bytes piece) pairs)
     led_begun piece [] each = tt
     led_begun piece (pair ∷ rest) each = (each.0, led_begun piece rest each.1)
 
@@ -178,7 +184,8 @@ module _ {world : World} {behind : ℕ → List ℕ} (is : IsWorld world behind)
         let sorted = entries_sorted child in
         subst (IsPart entry) (sym (inner_keys world entry inner)) (
           subst T (sym (sorted-led (piece_bytes entry.0) (entries child))) sorted,
-          led_begun entry.0 (entries child) (each_found byte_order byte_order_total byte_order_same (λ pair. Begun entry.0 (piece_bytes entry.0 ++ pair.0)) (entries child) sorted (λ rest value found. inner_key entry.0 entry.1 there inner rest value (get-entries child rest ∙ found))),
+          led_begun entry.0 (entries child) (each_found byte_order byte_order_total byte_order_same (λ pair. Begun entry.0 (piece_bytes entry.0 ++ pair.0))
+              (entries child) sorted (λ rest value found. inner_key entry.0 entry.1 there inner rest value (get-entries child rest ∙ found))),
         ))
         (cases_eq (entry.0 % 256) 0)
 
@@ -186,7 +193,9 @@ module _ {world : World} {behind : ℕ → List ℕ} (is : IsWorld world behind)
     AreAll pairs = AreParts byte_order (entry_keys world) Begun begun_apart pairs
 
     pub all_parts : AreAll (entries words)
-    all_parts = each_found word_order nat_cmp_total nat_cmp-IsAntisymmetric (λ entry. IsPart entry (entry_keys world entry)) (entries words) (entries_sorted words) (λ piece at found. is_part (piece, at) (get-entries words piece ∙ found))
+    all_parts =
+        each_found word_order nat_cmp_total nat_cmp-IsAntisymmetric (λ entry. IsPart entry (entry_keys world entry)) (entries words) (entries_sorted words)
+        (λ piece at found. is_part (piece, at) (get-entries words piece ∙ found))
 
     -- ---- what is found
 
@@ -201,7 +210,8 @@ module _ {world : World} {behind : ℕ → List ℕ} (is : IsWorld world behind)
         ∙ ap (λ (found : Option ℕ). find byte_order key (part_of (entry_keys world) (piece_of key) found)) (sym (get-entries words (piece_of key)))
 
     -- That is what is found at the seat under its pieces.
-    pub led_on : (key : List ℕ) (is_key : IsStringKey key) (found : Option ℕ) → get words (piece_of key) ≡ found → find byte_order key (part_of (entry_keys world) (piece_of key) found) ≡ lookup world seat (pieces key)
+    pub led_on : (key : List ℕ) (is_key : IsStringKey key) (found : Option ℕ) → get words (piece_of key) ≡ found →
+        find byte_order key (part_of (entry_keys world) (piece_of key) found) ≡ lookup world seat (pieces key)
     led_on key is_key None none = let head = pieces-head key in sym (ap (lookup world seat) head.1 ∙ lookup_absent world seat words here (piece_of key) head.0 none)
     led_on key is_key (Some at) there = ⊎_elim
         (λ (short : length key < 8).
@@ -221,7 +231,8 @@ module _ {world : World} {behind : ℕ → List ℕ} (is : IsWorld world behind)
         ∙ find-led (piece_bytes (piece_of key)) (drop 8 key) (entries child)
         ∙ sym (get-entries child (drop 8 key))
         ∙ get-table string_keys-all (λ k. lookup world (suc at) (pieces k)) (drop 8 key) rest
-        ∙ sym (ap (lookup world seat) (pieces_long key long) ∙ lookup_inner world seat words here (piece_of key) at (pieces (drop 8 key)) there (pieces_are (drop 8 key) (text_of_key (drop 8 key) rest))))
+        ∙ sym (ap (lookup world seat) (pieces_long key long) ∙ lookup_inner world seat words here (piece_of key) at (pieces (drop 8 key)) there
+        (pieces_are (drop 8 key) (text_of_key (drop 8 key) rest))))
         (cases_lt (length key) 8)
 
     same_at : (key : List ℕ) → IsStringKey key → find byte_order key keys ≡ get (map_behind world seat) key

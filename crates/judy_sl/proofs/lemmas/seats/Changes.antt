@@ -6,7 +6,7 @@ use Rattle.std.specs.FinMap.{FinMap}
 use Rattle.judy_model.specs.Keys.{word_order}
 use Rattle.judy_sl.specs.Pieces.{ArePieces, AreInner}
 use Rattle.judy_sl.specs.World.{World, gone, level, lookup, step_node, step_entry, walk}
-use Rattle.judy_sl.specs.Worlds.{IsWorld}
+use Rattle.judy_sl.specs.WorldInvariants.{IsWorld}
 use Rattle.judy_sl.specs.Grown.{IsChange}
 use Rattle.judy_sl.proofs.lemmas.pieces.Ways.{look_in, lookup-walk, step-parts}
 use Rattle.judy_sl.proofs.lemmas.seats.Frames.{frame}
@@ -35,7 +35,8 @@ pieces-behind (first ∷ second ∷ front) rest inner are = pieces-behind (secon
 pub longer : (front more : List ℕ) → more ≢ [] → front ++ more ≢ front
 longer front more some e = some (append_cancel_left front more [] (e ∙ sym (append-nil front)))
 
-module _ (world other : World) (behind : ℕ → List ℕ) (is : IsWorld world behind) (root : FinMap word_order ℕ) (root_is : world 0 ≡ level root) (front : List ℕ) (inner : AreInner front) (seat : ℕ) (way : walk world 0 front ≡ Some seat) (apart : (at : ℕ) → world at ≢ gone → behind at ≢ front → other at ≡ world at) where
+module _ (world other : World) (behind : ℕ → List ℕ) (is : IsWorld world behind) (root : FinMap word_order ℕ) (root_is : world 0 ≡ level root) (front : List ℕ)
+    (inner : AreInner front) (seat : ℕ) (way : walk world 0 front ≡ Some seat) (apart : (at : ℕ) → world at ≢ gone → behind at ≢ front → other at ≡ world at) where
   -- A way to the seat of the change stays.
   walk-stays : (at : ℕ) (rest : List ℕ) → behind at ++ rest ≡ front → AreInner rest → (end : ℕ) → walk world at rest ≡ Some end → walk other at rest ≡ Some end
   walk-stays at [] e are end on = on
@@ -54,10 +55,13 @@ module _ (world other : World) (behind : ℕ → List ℕ) (is : IsWorld world b
   -- What is not behind the pieces of the seat is found as before.
   off-front : (ps : List ℕ) → ArePieces ps → ((rest : List ℕ) → ps ≢ front ++ rest) → lookup other 0 ps ≡ lookup world 0 ps
   off-front ps are off =
-      frame world other behind is (λ place. place ≡ front) apart 0 ps are (λ none. cc (root_is)) (λ some rest e hit. off rest (e ∙ ap (λ place. place ++ rest) (sym (ap (λ place. place ++ some) is.first) ∙ hit)))
+      frame world other behind is (λ place. place ≡ front) apart 0 ps are (λ none. cc (root_is)) (λ some rest e hit. off rest
+      (e ∙ ap (λ place. place ++ rest) (sym (ap (λ place. place ++ some) is.first) ∙ hit)))
 
   -- The seat alone decides the change.
-  pub changes : (piece : ℕ) (held : List ℕ) (new : Option ℕ) → look_in other (other seat) (piece ∷ held) ≡ new → ((p : ℕ) (rest : List ℕ) → ArePieces (p ∷ rest) → p ∷ rest ≢ piece ∷ held → look_in other (other seat) (p ∷ rest) ≡ look_in world (world seat) (p ∷ rest)) → IsChange world other (front ++ piece ∷ held) new
+  pub changes : (piece : ℕ) (held : List ℕ) (new : Option ℕ) → look_in other (other seat) (piece ∷ held) ≡ new →
+      ((p : ℕ) (rest : List ℕ) → ArePieces (p ∷ rest) → p ∷ rest ≢ piece ∷ held → look_in other (other seat) (p ∷ rest) ≡ look_in world (world seat) (p ∷ rest)) →
+      IsChange world other (front ++ piece ∷ held) new
   changes piece held new found same = record {
     at_key = lookup-walk other 0 front seat piece held way-stays ∙ found;
     elsewhere = λ ps are ne. elim (split-front front ps) [

@@ -39,7 +39,8 @@ module _ (world : World) (key : List ℕ) where
       ∙ tail-other world clash.held (pieces (left_of key left)) clash.value clash.other
 
 -- A new array.
-pub strings-new : (limit : ℕ) (arena : Arena) → arena.levels.slots ≡ [] → arena.tails ≡ no_tails → arena.root ≡ empty_array 18446744073709551615 → 1 ≤ limit → limit ≤ 4294967295 → IsStrings limit 0 arena
+pub strings-new : (limit : ℕ) (arena : Arena) → arena.levels.slots ≡ [] → arena.tails ≡ no_tails → arena.root ≡ empty_array 18446744073709551615 → 1 ≤ limit →
+    limit ≤ 4294967295 → IsStrings limit 0 arena
 strings-new limit arena no_levels nothing no_root some most = record {
   is_arena = empty-arena arena no_levels nothing no_root;
   led = empty-led arena no_levels nothing no_root;

@@ -5,13 +5,14 @@ use Rattle.std.specs.FinMap.{FinMap, get, insert}
 use Rattle.judy_model.specs.Keys.{word_order}
 use Rattle.judy_sl.specs.Pieces.{IsInner}
 use Rattle.judy_sl.specs.World.{World, Node, gone, level}
-use Rattle.judy_sl.specs.Worlds.{IsLed, AllLed}
+use Rattle.judy_sl.specs.WorldInvariants.{IsLed, AllLed}
 use Rattle.judy_sl.proofs.lemmas.seats.Seats.{set_node, cond-same, cond-other}
 use Rattle.judy_sl.proofs.lemmas.seats.Linked.{get-insert_off}
 
 -- A level stays one, with its entries that lead on.
 abbrev pub KeepsEntries : Node → Node → Type 0
-KeepsEntries node other = (map : FinMap word_order ℕ) → node ≡ level map → (changed : FinMap word_order ℕ) × (other ≡ level changed) × ((piece at : ℕ) → IsInner piece → get map piece ≡ Some at → get changed piece ≡ Some at)
+KeepsEntries node other = (map : FinMap word_order ℕ) → node ≡ level map → (changed : FinMap word_order ℕ) × (other ≡ level changed) ×
+    ((piece at : ℕ) → IsInner piece → get map piece ≡ Some at → get changed piece ≡ Some at)
 
 pub keeps-same : (node other : Node) → other ≡ node → KeepsEntries node other
 keeps-same node other same map e = (map, same ∙ e, λ piece at inner entry. entry)
@@ -60,13 +61,15 @@ module _ (world : World) (seat : ℕ) (node : Node) (keeps : KeepsEntries (world
       ]))
 
 -- A new node where nothing was, to which a new entry leads.
-pub led-put : (world : World) (at : ℕ) (new : Node) (seat : ℕ) (map : FinMap word_order ℕ) (piece : ℕ) → world (suc at) ≡ gone → world seat ≡ level map → IsInner piece → ((to : ℕ) → get map piece ≡ Some to → ⊥) → get (insert map piece at) piece ≡ Some at → AllLed world → AllLed (set_node (set_node world (suc at) new) seat (level (insert map piece at)))
+pub led-put : (world : World) (at : ℕ) (new : Node) (seat : ℕ) (map : FinMap word_order ℕ) (piece : ℕ) → world (suc at) ≡ gone → world seat ≡ level map → IsInner piece →
+    ((to : ℕ) → get map piece ≡ Some to → ⊥) → get (insert map piece at) piece ≡ Some at → AllLed world → AllLed (set_node (set_node world (suc at) new) seat (level (insert map piece at)))
 led-put world at new seat map piece free is_level inner absent here all k there =
     let one = set_node world (suc at) new in
     let two = set_node one seat (level (insert map piece at)) in
     let off : seat ≢ suc at = (λ e. let g : level map ≡ gone = sym is_level ∙ ap world e ∙ free in cc) in
     let one_level : one seat ≡ level map = cond-other world (suc at) new seat off ∙ is_level in
-    let second : KeepsEntries (one seat) (level (insert map piece at)) = subst (λ n. KeepsEntries n (level (insert map piece at))) (sym one_level) (keeps-insert map piece at (λ to inner_is entry. absent to entry)) in
+    let second : KeepsEntries (one seat) (level (insert map piece at)) = subst (λ n. KeepsEntries n (level (insert map piece at))) (sym one_level)
+    (keeps-insert map piece at (λ to inner_is entry. absent to entry)) in
     let first : KeepsEntries (world (suc at)) new = keeps-none (world (suc at)) new (λ m e. let g : gone ≡ level m = sym free ∙ e in cc) in
     elim (cases_eq k at) [
       | inl e ↦ record {

@@ -82,21 +82,25 @@ module _ (arena : Arena) (at : List ℕ) (is_key : IsStringKey at) where
       level_taken is_arena found entry = taken_of arena found ((is_arena.is_world.levels on.seat map on.is_level).leads (piece_of rest) found entry (piece-IsInner rest on.text long)).1
 
       -- Two keys that begin with the bytes are found behind the level.
-      found_here : (more : List ℕ) → IsTrue (contains_key (map_of arena) (at ++ more)) → (value : ℕ) × IsStringKey (at ++ more) × (lookup (world_of arena) on.seat (piece_of rest ∷ pieces (drop 8 rest ++ more)) ≡ Some value)
+      found_here : (more : List ℕ) → IsTrue (contains_key (map_of arena) (at ++ more)) → (value : ℕ) × IsStringKey (at ++ more) ×
+          (lookup (world_of arena) on.seat (piece_of rest ∷ pieces (drop 8 rest ++ more)) ≡ Some value)
       found_here more held =
           let there = held_found arena (at ++ more) held in
           let parts = on.split more ∙ ap (λ ps. on.front ++ ps) (pieces-front rest more long) in
           (there.0, there.1, sym (lookup-walk (world_of arena) 0 on.front on.seat (piece_of rest) (pieces (drop 8 rest ++ more)) on.way) ∙ ap (lookup (world_of arena) 0) (sym parts) ∙ there.2)
 
       -- So they don't both begin where one key at most goes on.
-      pub no_branch : ((ps qs : List ℕ) (value other : ℕ) → ArePieces ps → ArePieces qs → lookup (world_of arena) on.seat (piece_of rest ∷ ps) ≡ Some value → lookup (world_of arena) on.seat (piece_of rest ∷ qs) ≡ Some other → ps ≡ qs) → HasBranch (map_of arena) at → ⊥
+      pub no_branch : ((ps qs : List ℕ) (value other : ℕ) → ArePieces ps → ArePieces qs → lookup (world_of arena) on.seat (piece_of rest ∷ ps) ≡ Some value →
+          lookup (world_of arena) on.seat (piece_of rest ∷ qs) ≡ Some other → ps ≡ qs) → HasBranch (map_of arena) at → ⊥
       no_branch alone branch = ⊎_elim
           (λ e. let none = ap length e in let fits = on.fits in let never : ⊥ = omega arith in never)
           (λ two.
           let one = found_here two.0 two.3 in
           let other = found_here two.1 two.4 in
           let are : (more : List ℕ) (key : IsStringKey (at ++ more)) → ArePieces (pieces (drop 8 rest ++ more)) =
-          (λ more key. pieces_rest (piece_of rest) (pieces (drop 8 rest ++ more)) (piece-IsInner rest on.text long) (are_behind on.front (piece_of rest) (pieces (drop 8 rest ++ more)) (subst ArePieces (on.split more ∙ ap (λ ps. on.front ++ ps) (pieces-front rest more long)) (pieces_are (at ++ more) (text_of_key (at ++ more) key))))) in
+          (λ more key. pieces_rest (piece_of rest) (pieces (drop 8 rest ++ more)) (piece-IsInner rest on.text long)
+          (are_behind on.front (piece_of rest) (pieces (drop 8 rest ++ more)) (subst ArePieces (on.split more ∙ ap (λ ps. on.front ++ ps) (pieces-front rest more long))
+          (pieces_are (at ++ more) (text_of_key (at ++ more) key))))) in
           let same = alone (pieces (drop 8 rest ++ two.0)) (pieces (drop 8 rest ++ two.1)) one.0 other.0 (are two.0 one.1) (are two.1 other.1) one.2 other.2 in
           let keys = on.split two.0 ∙ ap (λ ps. on.front ++ ps) (pieces-front rest two.0 long ∙ ap (λ ps. piece_of rest ∷ ps) same ∙ sym (pieces-front rest two.1 long)) ∙ sym (on.split two.1) in
           two.2 (append_cancel_left at two.0 two.1 (pieces_same (at ++ two.0) (at ++ two.1) (text_of_key (at ++ two.0) one.1) (text_of_key (at ++ two.1) other.1) keys)))
@@ -115,7 +119,9 @@ module _ (arena : Arena) (at : List ℕ) (is_key : IsStringKey at) where
       ends_here more = on.split more ∙ ap (λ left. on.front ++ pieces (left ++ more)) ended
 
       at_spelled : at ≡ spelling on.front
-      at_spelled = sym (spelling-pieces at (text_of_key at is_key)) ∙ ap (λ bytes. spelling (pieces bytes)) (sym (append-nil at)) ∙ ap spelling (ends_here []) ∙ spelling-append on.front (pieces []) ∙ ap (λ none. spelling on.front ++ none) (spelling-pieces [] no_bytes) ∙ append-nil (spelling on.front)
+      at_spelled =
+          sym (spelling-pieces at (text_of_key at is_key)) ∙ ap (λ bytes. spelling (pieces bytes)) (sym (append-nil at)) ∙ ap spelling (ends_here []) ∙
+          spelling-append on.front (pieces []) ∙ ap (λ none. spelling on.front ++ none) (spelling-pieces [] no_bytes) ∙ append-nil (spelling on.front)
 
       behind_is : is_arena.behind on.seat ≡ on.front
       behind_is = walk-behind (world_of arena) is_arena.behind is_arena.is_world 0 on.front on.seat on.inner on.way ∙ ap (λ place. place ++ on.front) is_arena.is_world.first
@@ -126,18 +132,21 @@ module _ (arena : Arena) (at : List ℕ) (is_key : IsStringKey at) where
           let begun = begins is_arena.is_world on.seat map piece on.is_level held in
           let key = subst (λ place. SpellKey (place ++ piece ∷ begun.rest)) behind_is begun.spelled in
           let more = spelling (piece ∷ begun.rest) in
-          let one : key.key ≡ at ++ more = sym (spelling-pieces key.key (text_of_key key.key key.is_key)) ∙ ap spelling key.spells ∙ spelling-append on.front (piece ∷ begun.rest) ∙ ap (λ bytes. bytes ++ more) (sym at_spelled) in
+          let one : key.key ≡ at ++ more = sym (spelling-pieces key.key (text_of_key key.key key.is_key)) ∙ ap spelling key.spells ∙ spelling-append on.front (piece ∷ begun.rest) ∙
+          ap (λ bytes. bytes ++ more) (sym at_spelled) in
           let its : pieces more ≡ piece ∷ begun.rest = append_cancel_left on.front (pieces more) (piece ∷ begun.rest) (sym (ends_here more) ∙ ap pieces (sym one) ∙ key.spells) in
           let head = pieces-head more in
           let both : piece ∷ begun.rest ≡ piece_of more ∷ head.0 = sym its ∙ head.1 in
-          let has = get-table string_keys-all (λ k. lookup (world_of arena) 0 (pieces k)) key.key key.is_key ∙ ap (lookup (world_of arena) 0) key.spells ∙ lookup-walk (world_of arena) 0 on.front on.seat piece begun.rest on.way ∙ begun.found in
+          let has = get-table string_keys-all (λ k. lookup (world_of arena) 0 (pieces k)) key.key key.is_key ∙ ap (lookup (world_of arena) 0) key.spells ∙
+          lookup-walk (world_of arena) 0 on.front on.seat piece begun.rest on.way ∙ begun.found in
           (more, subst (λ k. IsTrue (contains_key (map_of arena) k)) one (ap (λ (entry : Option ℕ). is_some entry) has), (let same : piece ≡ piece_of more = cc in same))
 
       comes_next : (piece : ℕ) → (more : List ℕ) × IsTrue (contains_key (map_of arena) (at ++ more)) × (piece ≡ piece_of more) → IsTrue (contains_key map piece)
       comes_next piece next =
           let there = held_found arena (at ++ next.0) next.1 in
           let head = pieces-head next.0 in
-          let here = sym (lookup-walk (world_of arena) 0 on.front on.seat (piece_of next.0) head.0 on.way) ∙ ap (lookup (world_of arena) 0) (sym (ends_here next.0 ∙ ap (λ ps. on.front ++ ps) head.1)) ∙ there.2 in
+          let here = sym (lookup-walk (world_of arena) 0 on.front on.seat (piece_of next.0) head.0 on.way) ∙
+          ap (lookup (world_of arena) 0) (sym (ends_here next.0 ∙ ap (λ ps. on.front ++ ps) head.1)) ∙ there.2 in
           subst (λ p. IsTrue (contains_key map p)) (sym next.2) (held_from_lookup (world_of arena) on.seat map on.is_level (piece_of next.0) there.0 head.0 here)
 
       pub level_ended : IsLevelOf (map_of arena) at map
@@ -148,5 +157,6 @@ module _ (arena : Arena) (at : List ℕ) (is_key : IsStringKey at) where
             let key = subst (λ place. SpellKey (place ++ piece_of more ∷ [])) behind_is ((is_arena.is_world.levels on.seat map on.is_level).ends (piece_of more) value entry final) in
             let its : pieces (at ++ more) ≡ on.front ++ piece_of more ∷ [] = ends_here more ∙ ap (λ ps. on.front ++ ps) (pieces_short more short) in
             let one = pieces_same key.key (at ++ more) (text_of_key key.key key.is_key) (All-append (λ b. (b < 256) × (b ≢ 0)) at more (text_of_key at is_key) text) (key.spells ∙ sym its) in
-            get-table string_keys-all (λ k. lookup (world_of arena) 0 (pieces k)) (at ++ more) (subst IsStringKey one key.is_key) ∙ ap (lookup (world_of arena) 0) its ∙ lookup-walk (world_of arena) 0 on.front on.seat (piece_of more) [] on.way ∙ lookup_final (world_of arena) on.seat map on.is_level (piece_of more) value entry;
+            get-table string_keys-all (λ k. lookup (world_of arena) 0 (pieces k)) (at ++ more) (subst IsStringKey one key.is_key) ∙ ap (lookup (world_of arena) 0) its ∙
+            lookup-walk (world_of arena) 0 on.front on.seat (piece_of more) [] on.way ∙ lookup_final (world_of arena) on.seat map on.is_level (piece_of more) value entry;
       }

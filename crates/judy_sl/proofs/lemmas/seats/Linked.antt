@@ -1,5 +1,6 @@
 -- What an edit of an arena makes of its seats.
-use Rattle.std.proofs.Common.{◌≡◌, ◌≢◌, ℕ, zero, suc, ◌/◌, ◌%◌, ◌<◌, Bool, cond, get_or, set, Option, None, IsSome, List, [], ◌∷◌, ◌++◌, length, Some, eqb-true, inl, inr, true, false, refl, sym, ap, subst, ◌∙◌, arith}
+use Rattle.std.proofs.Common.{◌≡◌, ◌≢◌, ℕ, zero, suc, ◌/◌, ◌%◌, ◌<◌, Bool, cond, get_or, set, Option, None, IsSome, List, [], ◌∷◌, ◌++◌, length, Some, eqb-true, inl, inr, true}
+use Rattle.std.proofs.Common.{false, refl, sym, ap, subst, ◌∙◌, arith}
 use Rattle.std.proofs.lemmas.Bool.{cases_eq, cases_lt}
 use Rattle.std.proofs.lemmas.Option.{none-some}
 use Rattle.std.proofs.lemmas.List.{get_or-set_same, get_or-set_other, get_or_past}
@@ -20,7 +21,7 @@ use Rattle.judy_sl.specs.declared.arena.Place.{Place}
 use Rattle.judy_sl.specs.declared.arena.Place.TheVariants.{Root, Below}
 use Rattle.judy_sl.specs.Pieces.{IsFinal, SpellKey}
 use Rattle.judy_sl.specs.World.{World, Node, gone, tail, level}
-use Rattle.judy_sl.specs.Worlds.{IsWorld, FitsBehind}
+use Rattle.judy_sl.specs.WorldInvariants.{IsWorld, FitsBehind}
 use Rattle.judy_sl.specs.Arenas.{world_of, node_of, child_at, IsArena, HasText}
 use Rattle.judy_sl.specs.Places.{IsPlace, with_child, place_with}
 use Rattle.judy_sl.specs.Ways.{seat_of, piece_at}
@@ -82,14 +83,16 @@ module _ (all : TailLists) (at : ℕ) (was rest : List ℕ × ℕ) (there : tail
   ]
 
 -- Where a tail stands, the place is one for tails.
-pub tail_there : (levels : Bool) (parts : Option LevelParts) (rest : Option (List ℕ × ℕ)) (was : List ℕ × ℕ) → cond levels (level_child parts) (tail_child rest) ≡ Tail was → (levels ≡ false) × (rest ≡ Some was)
+pub tail_there : (levels : Bool) (parts : Option LevelParts) (rest : Option (List ℕ × ℕ)) (was : List ℕ × ℕ) → cond levels (level_child parts) (tail_child rest) ≡ Tail was →
+    (levels ≡ false) × (rest ≡ Some was)
 tail_there true None rest was e = absurd (cc)
 tail_there true (Some parts) rest was e = absurd (cc)
 tail_there false parts None was e = absurd (cc)
 tail_there false parts (Some rest) was e = let same : rest ≡ was = cc in (refl, ap (λ r. Some r) same)
 
 -- Where a level stands, it is one for levels.
-pub level_there : (levels : Bool) (parts : Option LevelParts) (rest : Option (List ℕ × ℕ)) (keys : ℕ) (words : ArrayOf word_order) → cond levels (level_child parts) (tail_child rest) ≡ Level keys words → (levels ≡ true) × (parts ≡ Some (record { keys = keys; words = words }))
+pub level_there : (levels : Bool) (parts : Option LevelParts) (rest : Option (List ℕ × ℕ)) (keys : ℕ) (words : ArrayOf word_order) →
+    cond levels (level_child parts) (tail_child rest) ≡ Level keys words → (levels ≡ true) × (parts ≡ Some (record { keys = keys; words = words }))
 level_there true None rest keys words e = absurd (cc)
 level_there true (Some parts) rest keys words e =
     let k : parts.keys ≡ keys = cc in
@@ -128,7 +131,8 @@ with_child-other arena at (Level keys words) can k apart =
     let has : slab.ContainsKey arena.levels (at / 256) = subst IsSome (sym there.1) refl in
     level-other (is_level k) refl (Updates-with_value arena.levels (at / 256) parts has) there.0
   where
-    level-other : (b : Bool) → is_level k ≡ b → {after : slab.Slab LevelParts} {parts : Option LevelParts} → slab.Updates arena.levels after (at / 256) parts → is_level at ≡ true → cond b (level_child (slab.get after (k / 256))) (tail_child (tail_at arena.tails k)) ≡ cond b (level_child (slab.get arena.levels (k / 256))) (tail_child (tail_at arena.tails k))
+    level-other : (b : Bool) → is_level k ≡ b → {after : slab.Slab LevelParts} {parts : Option LevelParts} → slab.Updates arena.levels after (at / 256) parts → is_level at ≡ true →
+        cond b (level_child (slab.get after (k / 256))) (tail_child (tail_at arena.tails k)) ≡ cond b (level_child (slab.get arena.levels (k / 256))) (tail_child (tail_at arena.tails k))
     level-other true one updates two =
         let a = eqb-true (k % 256) 255 one in
         let b = eqb-true (at % 256) 255 two in
@@ -159,7 +163,8 @@ module _ (arena : Arena) (at : ℕ) (child : Child) (can : CanHold arena at chil
   world-with_child = λ i seat. world-with_child-at seat i
 
   -- A child that fits is taken.
-  pub arena-with_child : (is : IsArena arena) → HasText child → NodeFits (world_of arena) is.behind (is.behind (suc at)) (node_of child) → IsUsed (suc at) (node_of child) → IsArena (with_child arena at child)
+  pub arena-with_child : (is : IsArena arena) → HasText child → NodeFits (world_of arena) is.behind (is.behind (suc at)) (node_of child) → IsUsed (suc at) (node_of child) →
+      IsArena (with_child arena at child)
   arena-with_child is text fits used = record {
     behind = is.behind;
     is_world = subst (λ w. IsWorld w is.behind) (sym world-with_child) (keeps (world_of arena) is.behind is.is_world (suc at) (node_of child) fits used);
@@ -220,22 +225,16 @@ taken_by (Level keys words) some = tt
 pub taken_of : (arena : Arena) (at : ℕ) → world_of arena (suc at) ≢ gone → IsTaken (child_at arena at)
 taken_of arena at some = taken_by (child_at arena at) some
 
-some_by : (child : Child) → IsTaken child → node_of child ≢ gone
-some_by Free taken e = taken
-some_by (Tail rest) taken e = cc
-some_by (Level keys words) taken e = cc
-
-pub some_of : (arena : Arena) (at : ℕ) → IsTaken (child_at arena at) → world_of arena (suc at) ≢ gone
-some_of arena at taken = some_by (child_at arena at) taken
-
-pub world-with_place : (arena : Arena) (place : Place) (value : ℕ) → IsPlace arena place → world_of (place_with arena place value) ≡ set_node (world_of arena) (seat_of place) (node_with (world_of arena (seat_of place)) (piece_at place) value)
+pub world-with_place : (arena : Arena) (place : Place) (value : ℕ) → IsPlace arena place → world_of (place_with arena place value) ≡
+    set_node (world_of arena) (seat_of place) (node_with (world_of arena (seat_of place)) (piece_at place) value)
 world-with_place arena (Root piece) value inside = world-with_root arena (with_value arena.root piece value)
 world-with_place arena (Below at piece) value is =
     world-with_child arena at (child_with (child_at arena at) piece value) (can-with arena at piece value is)
     ∙ ap (set_node (world_of arena) (suc at)) (node_of-with (child_at arena at) piece value)
 
 -- A node that fits stays so under another value of a key.
-module _ (world : World) (behind : ℕ → List ℕ) (place : List ℕ) (map : FinMap word_order ℕ) (fits : FitsBehind world behind place map) (piece value : ℕ) (final : IsFinal piece) (spells : SpellKey (place ++ piece ∷ [])) where
+module _ (world : World) (behind : ℕ → List ℕ) (place : List ℕ) (map : FinMap word_order ℕ) (fits : FitsBehind world behind place map) (piece value : ℕ)
+    (final : IsFinal piece) (spells : SpellKey (place ++ piece ∷ [])) where
   pub fits-insert : FitsBehind world behind place (insert map piece value)
   fits-insert = record {
     leads = λ p found entry inner. fits.leads p found (sym (get-insert_off map piece value p (λ e. inner (subst IsFinal (sym e) final))) ∙ entry) inner;
@@ -246,10 +245,14 @@ module _ (world : World) (behind : ℕ → List ℕ) (place : List ℕ) (map : F
     short = fits.short;
   }
 
-pub place-with_arena : (arena : Arena) (is : IsArena arena) (place : Place) (value : ℕ) → IsPlace arena place → NodeFits (world_of arena) is.behind (is.behind (seat_of place)) (node_with (world_of arena (seat_of place)) (piece_at place) value) → IsUsed (seat_of place) (node_with (world_of arena (seat_of place)) (piece_at place) value) → IsArena (place_with arena place value)
+pub place-with_arena : (arena : Arena) (is : IsArena arena) (place : Place) (value : ℕ) → IsPlace arena place →
+    NodeFits (world_of arena) is.behind (is.behind (seat_of place)) (node_with (world_of arena (seat_of place)) (piece_at place) value) →
+    IsUsed (seat_of place) (node_with (world_of arena (seat_of place)) (piece_at place) value) → IsArena (place_with arena place value)
 place-with_arena arena is (Root piece) value inside fits used = arena-with_root arena (with_value arena.root piece value) is fits
 place-with_arena arena is (Below at piece) value taken fits used =
-    arena-with_child arena at (child_with (child_at arena at) piece value) (can-with arena at piece value taken) is (text-with (child_at arena at) piece value (is.texts at)) (subst (NodeFits (world_of arena) is.behind (is.behind (suc at))) (sym (node_of-with (child_at arena at) piece value)) fits) (subst (IsUsed (suc at)) (sym (node_of-with (child_at arena at) piece value)) used)
+    arena-with_child arena at (child_with (child_at arena at) piece value) (can-with arena at piece value taken) is (text-with (child_at arena at) piece value (is.texts at))
+    (subst (NodeFits (world_of arena) is.behind (is.behind (suc at))) (sym (node_of-with (child_at arena at) piece value)) fits)
+    (subst (IsUsed (suc at)) (sym (node_of-with (child_at arena at) piece value)) used)
 
 -- The bytes of tails stay.
 module _ (arena : Arena) (value : ℕ) where

@@ -10,7 +10,7 @@ use Rattle.std.specs.FinMap.{FinMap, get, remove, empty, len, get-remove, get-em
 use Rattle.judy_model.specs.Keys.{word_order}
 use Rattle.judy_sl.specs.Pieces.{ArePieces, IsInner}
 use Rattle.judy_sl.specs.World.{World, Node, gone, tail, level, lookup, at_entry}
-use Rattle.judy_sl.specs.Worlds.{IsWorld, IsLed, AllLed}
+use Rattle.judy_sl.specs.WorldInvariants.{IsWorld, IsLed, AllLed}
 use Rattle.judy_sl.specs.Shrunk.{OnlyEntry, EntryLone, NodeLone, IsLone, IsLedOnce}
 use Rattle.judy_sl.proofs.lemmas.pieces.Ways.{look_in, tail-same, tail-other}
 use Rattle.judy_sl.proofs.lemmas.seats.Linked.{eq_nat-other}
@@ -44,14 +44,18 @@ module _ (map : FinMap word_order ℕ) (key : ℕ) where
 -- ---- nothing else is found
 
 module _ (world : World) where
-  entry-others : (piece : ℕ) (rest other : List ℕ) (entry : Option ℕ) → EntryLone entry rest (λ found. IsLone world found rest) → ArePieces (piece ∷ rest) → ArePieces (piece ∷ other) → other ≢ rest → ((found : ℕ) → IsLone world found rest → ArePieces rest → ArePieces other → other ≢ rest → lookup world (suc found) other ≡ None) → at_entry entry other (λ found. lookup world (suc found) other) ≡ None
+  entry-others : (piece : ℕ) (rest other : List ℕ) (entry : Option ℕ) → EntryLone entry rest (λ found. IsLone world found rest) → ArePieces (piece ∷ rest) →
+      ArePieces (piece ∷ other) → other ≢ rest → ((found : ℕ) → IsLone world found rest → ArePieces rest → ArePieces other → other ≢ rest → lookup world (suc found) other ≡ None) →
+      at_entry entry other (λ found. lookup world (suc found) other) ≡ None
   entry-others piece rest other None lone are other_are ne goes = refl
   entry-others piece [] [] (Some found) lone are other_are ne goes = absurd (ne refl)
   entry-others piece [] (next ∷ other) (Some found) lone are other_are ne goes = absurd (other_are.0 are)
   entry-others piece (next ∷ rest) [] (Some found) lone are other_are ne goes = absurd (are.0 other_are)
   entry-others piece (first ∷ rest) (next ∷ other) (Some found) lone are other_are ne goes = goes found lone are.1 other_are.1 ne
 
-  node-others : (piece : ℕ) (rest : List ℕ) (first : ℕ) (other : List ℕ) (node : Node) → NodeLone node piece rest (λ found. IsLone world found rest) → ArePieces (piece ∷ rest) → ArePieces (first ∷ other) → first ∷ other ≢ piece ∷ rest → ((found : ℕ) → IsLone world found rest → ArePieces rest → ArePieces other → other ≢ rest → lookup world (suc found) other ≡ None) → look_in world node (first ∷ other) ≡ None
+  node-others : (piece : ℕ) (rest : List ℕ) (first : ℕ) (other : List ℕ) (node : Node) → NodeLone node piece rest (λ found. IsLone world found rest) →
+      ArePieces (piece ∷ rest) → ArePieces (first ∷ other) → first ∷ other ≢ piece ∷ rest → ((found : ℕ) → IsLone world found rest → ArePieces rest → ArePieces other →
+      other ≢ rest → lookup world (suc found) other ≡ None) → look_in world node (first ∷ other) ≡ None
   node-others piece rest first other gone lone are other_are ne goes = refl
   node-others piece rest first other (tail held value) lone are other_are ne goes = tail-other world held (first ∷ other) value (λ e. ne (sym e ∙ lone))
   node-others piece rest first other (level map) lone are other_are ne goes = elim (cases_eq first piece) [
@@ -70,12 +74,15 @@ module _ (world : World) where
 -- ---- the key itself is found
 
 module _ (world : World) where
-  entry-found : (piece : ℕ) (rest : List ℕ) (entry : Option ℕ) → EntryLone entry rest (λ found. IsLone world found rest) → ArePieces (piece ∷ rest) → ((found : ℕ) → IsLone world found rest → ArePieces rest → (value : ℕ) × (lookup world (suc found) rest ≡ Some value)) → (value : ℕ) × (at_entry entry rest (λ found. lookup world (suc found) rest) ≡ Some value)
+  entry-found : (piece : ℕ) (rest : List ℕ) (entry : Option ℕ) → EntryLone entry rest (λ found. IsLone world found rest) → ArePieces (piece ∷ rest) →
+      ((found : ℕ) → IsLone world found rest → ArePieces rest → (value : ℕ) × (lookup world (suc found) rest ≡ Some value)) →
+      (value : ℕ) × (at_entry entry rest (λ found. lookup world (suc found) rest) ≡ Some value)
   entry-found piece rest None lone are goes = absurd lone
   entry-found piece [] (Some found) lone are goes = (found, refl)
   entry-found piece (next ∷ rest) (Some found) lone are goes = goes found lone are.1
 
-  node-found : (piece : ℕ) (rest : List ℕ) (node : Node) → NodeLone node piece rest (λ found. IsLone world found rest) → ArePieces (piece ∷ rest) → ((found : ℕ) → IsLone world found rest → ArePieces rest → (value : ℕ) × (lookup world (suc found) rest ≡ Some value)) → (value : ℕ) × (look_in world node (piece ∷ rest) ≡ Some value)
+  node-found : (piece : ℕ) (rest : List ℕ) (node : Node) → NodeLone node piece rest (λ found. IsLone world found rest) → ArePieces (piece ∷ rest) →
+      ((found : ℕ) → IsLone world found rest → ArePieces rest → (value : ℕ) × (lookup world (suc found) rest ≡ Some value)) → (value : ℕ) × (look_in world node (piece ∷ rest) ≡ Some value)
   node-found piece rest gone lone are goes = absurd lone
   node-found piece rest (tail held value) lone are goes = (value, ap (λ l. look_in world (tail l value) (piece ∷ rest)) lone ∙ tail-same world (piece ∷ rest) value (λ e. cc))
   node-found piece rest (level map) lone are goes = entry-found piece rest (get map piece) lone.1 are goes
@@ -86,13 +93,17 @@ module _ (world : World) where
 
 -- ---- where the seats on the way stay
 
-module _ (world other : World) (Keep : ℕ → Type 0) (same : (at : ℕ) → Keep at → other (suc at) ≡ world (suc at)) (step : (at : ℕ) (map : FinMap word_order ℕ) (piece found : ℕ) → Keep at → world (suc at) ≡ level map → get map piece ≡ Some found → IsInner piece → Keep found) where
-  entry-moves : (map : FinMap word_order ℕ) (piece : ℕ) (rest : List ℕ) (entry : Option ℕ) → get map piece ≡ entry → ArePieces (piece ∷ rest) → EntryLone entry rest (λ found. IsLone world found rest) → ((found : ℕ) → get map piece ≡ Some found → IsInner piece → ArePieces rest → IsLone world found rest → IsLone other found rest) → EntryLone entry rest (λ found. IsLone other found rest)
+module _ (world other : World) (Keep : ℕ → Type 0) (same : (at : ℕ) → Keep at → other (suc at) ≡ world (suc at))
+    (step : (at : ℕ) (map : FinMap word_order ℕ) (piece found : ℕ) → Keep at → world (suc at) ≡ level map → get map piece ≡ Some found → IsInner piece → Keep found) where
+  entry-moves : (map : FinMap word_order ℕ) (piece : ℕ) (rest : List ℕ) (entry : Option ℕ) → get map piece ≡ entry → ArePieces (piece ∷ rest) →
+      EntryLone entry rest (λ found. IsLone world found rest) → ((found : ℕ) → get map piece ≡ Some found → IsInner piece → ArePieces rest → IsLone world found rest →
+      IsLone other found rest) → EntryLone entry rest (λ found. IsLone other found rest)
   entry-moves map piece rest None e are lone goes = lone
   entry-moves map piece [] (Some found) e are lone goes = tt
   entry-moves map piece (next ∷ rest) (Some found) e are lone goes = goes found e are.0 are.1 lone
 
-  node-moves : (at piece : ℕ) (rest : List ℕ) (node : Node) → world (suc at) ≡ node → Keep at → ArePieces (piece ∷ rest) → NodeLone node piece rest (λ found. IsLone world found rest) → ((found : ℕ) → Keep found → ArePieces rest → IsLone world found rest → IsLone other found rest) → NodeLone node piece rest (λ found. IsLone other found rest)
+  node-moves : (at piece : ℕ) (rest : List ℕ) (node : Node) → world (suc at) ≡ node → Keep at → ArePieces (piece ∷ rest) → NodeLone node piece rest (λ found. IsLone world found rest) →
+      ((found : ℕ) → Keep found → ArePieces rest → IsLone world found rest → IsLone other found rest) → NodeLone node piece rest (λ found. IsLone other found rest)
   node-moves at piece rest gone is keep are lone goes = lone
   node-moves at piece rest (tail held value) is keep are lone goes = lone
   node-moves at piece rest (level map) is keep are lone goes =
@@ -153,4 +164,5 @@ module _ (world : World) (behind : ℕ → List ℕ) (is : IsWorld world behind)
   led-once all seat other map more piece next at one_level one_entry one_inner two_level two_entry two_inner =
       let one = (is.levels seat map one_level).leads piece at one_entry one_inner in
       let two = (is.levels other more two_level).leads next at two_entry two_inner in
-      same-seat all (length (behind seat)) seat other refl (λ none. let g : gone ≡ level map = sym none ∙ one_level in cc) (λ none. let g : gone ≡ level more = sym none ∙ two_level in cc) (last-same (behind seat) (behind other) piece next (sym one.0 ∙ two.0)).0
+      same-seat all (length (behind seat)) seat other refl (λ none. let g : gone ≡ level map = sym none ∙ one_level in cc) (λ none. let g : gone ≡ level more = sym none ∙ two_level in cc)
+      (last-same (behind seat) (behind other) piece next (sym one.0 ∙ two.0)).0

@@ -11,7 +11,7 @@ use Rattle.judy_sl.specs.LevelLists.{LevelParts}
 use Rattle.judy_sl.specs.declared.arena.Arena.{Arena}
 use Rattle.judy_sl.specs.Pieces.{pieces, piece_of, SpellKey}
 use Rattle.judy_sl.specs.World.{gone, tail, level, lookup, at_entry}
-use Rattle.judy_sl.specs.Worlds.{FitsBehind, AllLed}
+use Rattle.judy_sl.specs.WorldInvariants.{FitsBehind, AllLed}
 use Rattle.judy_sl.specs.Arenas.{world_of, node_of, child_at, map_of, HasText, IsArena}
 use Rattle.judy_sl.proofs.lemmas.pieces.PieceLemmas.{text_of_key, pieces_are, pieces_same}
 use Rattle.judy_sl.proofs.lemmas.pieces.OnWay.{pieces-head}
@@ -31,7 +31,8 @@ module _ (arena : Arena) (key : List ℕ) where
   get-map_bad bad = get-table_bad string_keys-all (λ k. lookup (world_of arena) 0 (pieces k)) key bad
 
 module _ (arena other : Arena) (key : List ℕ) (is : IsStringKey key) where
-  else_where : (new : Option ℕ) → IsChange (world_of arena) (world_of other) (pieces key) new → (k : List ℕ) → IsStringKey k → k ≢ key → lookup (world_of other) 0 (pieces k) ≡ lookup (world_of arena) 0 (pieces k)
+  else_where : (new : Option ℕ) → IsChange (world_of arena) (world_of other) (pieces key) new → (k : List ℕ) → IsStringKey k → k ≢ key →
+      lookup (world_of other) 0 (pieces k) ≡ lookup (world_of arena) 0 (pieces k)
   else_where new change k is_k ne = change.elsewhere (pieces k) (pieces_are k (text_of_key k is_k)) (λ e. ne (pieces_same k key (text_of_key k is_k) (text_of_key key is) e))
 
   -- Another value at one key is a write of it.

@@ -1,5 +1,6 @@
 -- Lemmas on two lists side by side.
-use Rattle.std.proofs.Common.{◌≡◌, ℕ, zero, suc, ◌+◌, ◌<◌, ◌≤◌, List, [], ◌∷◌, length, get_or, set, Option, None, Some, IsSome, is_some, cond, count_by, refl, sym, ap, ◌∙◌, inl, inr, subst, true≢false, arith}
+use Rattle.std.proofs.Common.{◌≡◌, ℕ, zero, suc, ◌+◌, ◌<◌, ◌≤◌, List, [], ◌∷◌, length, get_or, set, Option, None, Some, IsSome, is_some, cond, count_by, refl, sym, ap, ◌∙◌, inl}
+use Rattle.std.proofs.Common.{inr, subst, true≢false, arith}
 use Rattle.std.specs.Prelude.{if◌then◌else◌, nat_le}
 use Rattle.std.proofs.lemmas.Bool.{cases_eq, cases_lt, le-leb, lt-leb}
 use Rattle.std.proofs.lemmas.List.{ext_get_or, get_or-set_same, get_or-set_other, length-set}
@@ -25,7 +26,8 @@ some-parts keys (Some words) = refl
 
 -- ---- levels with their numbers
 
-pub get-numbered : (slots : List (Option (ArrayOf word_order))) (numbers : List ℕ) (index : ℕ) → get_or (numbered slots numbers) index None ≡ parts_of (get_or numbers index 0) (get_or slots index None)
+pub get-numbered : (slots : List (Option (ArrayOf word_order))) (numbers : List ℕ) (index : ℕ) → get_or (numbered slots numbers) index None ≡
+    parts_of (get_or numbers index 0) (get_or slots index None)
 get-numbered [] numbers index = refl
 get-numbered (slot ∷ slots) [] zero = refl
 get-numbered (slot ∷ slots) [] (suc index) = get-numbered slots [] index
@@ -50,7 +52,8 @@ count-numbered (slot ∷ slots) (keys ∷ numbers) =
     ∙ sym (sum_by-cons (λ o. cond (is_some o) 1 0) slot slots)
 
 -- and another in the place of one that is there makes them no more.
-pub count-set : (slots : List (Option (ArrayOf word_order))) (index : ℕ) (other : ArrayOf word_order) → IsSome (get_or slots index None) → count_by is_some (set slots index (Some other)) ≡ count_by is_some slots
+pub count-set : (slots : List (Option (ArrayOf word_order))) (index : ℕ) (other : ArrayOf word_order) → IsSome (get_or slots index None) →
+    count_by is_some (set slots index (Some other)) ≡ count_by is_some slots
 count-set [] index other held = absurd (cc)
 count-set (slot ∷ slots) zero other held =
     sum_by-cons (λ o. cond (is_some o) 1 0) (Some other) slots
@@ -62,21 +65,24 @@ count-set (slot ∷ slots) (suc index) other held =
     ∙ sym (sum_by-cons (λ o. cond (is_some o) 1 0) slot slots)
 
 -- With numbers that are the same place by place they are the same.
-pub numbered-same : (slots : List (Option (ArrayOf word_order))) (numbers others : List ℕ) → ((index : ℕ) → get_or others index 0 ≡ get_or numbers index 0) → numbered slots others ≡ numbered slots numbers
+pub numbered-same : (slots : List (Option (ArrayOf word_order))) (numbers others : List ℕ) → ((index : ℕ) → get_or others index 0 ≡ get_or numbers index 0) →
+    numbered slots others ≡ numbered slots numbers
 numbered-same slots numbers others same =
     ext_get_or None (numbered slots others) (numbered slots numbers) (length-numbered slots others ∙ sym (length-numbered slots numbers)) (λ index within.
     get-numbered slots others index ∙ ap (λ keys. parts_of keys (get_or slots index None)) (same index) ∙ sym (get-numbered slots numbers index))
 
 -- ---- one of them changed
 
-pub set-slot : (slots : List (Option (ArrayOf word_order))) (numbers : List ℕ) (index : ℕ) (slot : Option (ArrayOf word_order)) → numbered (set slots index slot) numbers ≡ set (numbered slots numbers) index (parts_of (get_or numbers index 0) slot)
+pub set-slot : (slots : List (Option (ArrayOf word_order))) (numbers : List ℕ) (index : ℕ) (slot : Option (ArrayOf word_order)) →
+    numbered (set slots index slot) numbers ≡ set (numbered slots numbers) index (parts_of (get_or numbers index 0) slot)
 set-slot [] numbers index slot = refl
 set-slot (was ∷ slots) [] zero slot = refl
 set-slot (was ∷ slots) [] (suc index) slot = ap (λ rest. parts_of 0 was ∷ rest) (set-slot slots [] index slot)
 set-slot (was ∷ slots) (keys ∷ numbers) zero slot = refl
 set-slot (was ∷ slots) (keys ∷ numbers) (suc index) slot = ap (λ rest. parts_of keys was ∷ rest) (set-slot slots numbers index slot)
 
-pub set-number : (slots : List (Option (ArrayOf word_order))) (numbers : List ℕ) (index keys : ℕ) → index < length numbers → numbered slots (set numbers index keys) ≡ set (numbered slots numbers) index (parts_of keys (get_or slots index None))
+pub set-number : (slots : List (Option (ArrayOf word_order))) (numbers : List ℕ) (index keys : ℕ) → index < length numbers →
+    numbered slots (set numbers index keys) ≡ set (numbered slots numbers) index (parts_of keys (get_or slots index None))
 set-number [] numbers index keys within = refl
 set-number (slot ∷ slots) [] index keys within = absurd (omega (arith, within))
 set-number (slot ∷ slots) (was ∷ numbers) zero keys within = refl
@@ -128,7 +134,8 @@ module _ (words : slab.Slab (ArrayOf word_order)) (numbers : List ℕ) (index : 
 -- ---- which numbers there are
 
 -- Each level has a number still where the slot of one is written,
-pub kept-slot : (words : slab.Slab (ArrayOf word_order)) (numbers : List ℕ) (index : ℕ) (other : ArrayOf word_order) → slab.ContainsKey words index → AreNumbered words numbers → AreNumbered (slab.with_value words index other) numbers
+pub kept-slot : (words : slab.Slab (ArrayOf word_order)) (numbers : List ℕ) (index : ℕ) (other : ArrayOf word_order) → slab.ContainsKey words index →
+    AreNumbered words numbers → AreNumbered (slab.with_value words index other) numbers
 kept-slot words numbers index other held are = λ at some. elim (cases_eq at index) [
   | inl e ↦ subst (λ n. n < length numbers) (sym e) (are index held)
   | inr apart ↦ are at (subst IsSome (get_or-set_other words.slots index at (Some other) None apart) some)
@@ -139,7 +146,8 @@ pub kept-numbers : (words : slab.Slab (ArrayOf word_order)) (numbers others : Li
 kept-numbers words numbers others long are = λ at some. let within = are at some in omega arith
 
 -- What changes at one index of the first list changes there of both,
-pub updated : (words after : slab.Slab (ArrayOf word_order)) (numbers : List ℕ) (index : ℕ) (slot : Option (ArrayOf word_order)) → slab.Updates words after index slot → slab.Updates (side_by_side words numbers) (side_by_side after numbers) index (parts_of (get_or numbers index 0) slot)
+pub updated : (words after : slab.Slab (ArrayOf word_order)) (numbers : List ℕ) (index : ℕ) (slot : Option (ArrayOf word_order)) → slab.Updates words after index slot →
+    slab.Updates (side_by_side words numbers) (side_by_side after numbers) index (parts_of (get_or numbers index 0) slot)
 updated words after numbers index slot updates = record {
   changed = get-numbered after.slots numbers index ∙ ap (λ s. parts_of (get_or numbers index 0) s) updates.changed;
   others = λ other apart.
@@ -149,7 +157,8 @@ updated words after numbers index slot updates = record {
 }
 
 -- and where a level comes with its number, that too.
-pub put-both : (words after : slab.Slab (ArrayOf word_order)) (numbers : List ℕ) (index keys : ℕ) (slot : Option (ArrayOf word_order)) → index < length numbers → slab.Updates words after index slot → slab.Updates (side_by_side words numbers) (side_by_side after (set numbers index keys)) index (parts_of keys slot)
+pub put-both : (words after : slab.Slab (ArrayOf word_order)) (numbers : List ℕ) (index keys : ℕ) (slot : Option (ArrayOf word_order)) → index < length numbers →
+    slab.Updates words after index slot → slab.Updates (side_by_side words numbers) (side_by_side after (set numbers index keys)) index (parts_of keys slot)
 put-both words after numbers index keys slot within updates = record {
   changed =
       get-numbered after.slots (set numbers index keys) index
@@ -163,7 +172,8 @@ put-both words after numbers index keys slot within updates = record {
 }
 
 -- A level that comes to an index that has a number has one.
-pub numbered-put : (words after : slab.Slab (ArrayOf word_order)) (numbers : List ℕ) (index keys : ℕ) (slot : Option (ArrayOf word_order)) → index < length numbers → slab.Updates words after index slot → AreNumbered words numbers → AreNumbered after (set numbers index keys)
+pub numbered-put : (words after : slab.Slab (ArrayOf word_order)) (numbers : List ℕ) (index keys : ℕ) (slot : Option (ArrayOf word_order)) → index < length numbers →
+    slab.Updates words after index slot → AreNumbered words numbers → AreNumbered after (set numbers index keys)
 numbered-put words after numbers index keys slot within updates are = λ at some.
     let long = length-set numbers index keys in
     elim (cases_eq at index) [
@@ -216,7 +226,8 @@ module _ (words : slab.Slab (ArrayOf word_order)) (numbers : List ℕ) where
         omega (arith, count, capacity, room)
 
 -- Where all but how many fit stays in the first list, and each number in the second, it does in both.
-pub same-but-room : (words after : slab.Slab (ArrayOf word_order)) (numbers others : List ℕ) → after ≡ record words { capacity = after.capacity } → ((index : ℕ) → get_or others index 0 ≡ get_or numbers index 0) → side_by_side after others ≡ record (side_by_side words numbers) { capacity = (side_by_side after others).capacity }
+pub same-but-room : (words after : slab.Slab (ArrayOf word_order)) (numbers others : List ℕ) → after ≡ record words { capacity = after.capacity } →
+    ((index : ℕ) → get_or others index 0 ≡ get_or numbers index 0) → side_by_side after others ≡ record (side_by_side words numbers) { capacity = (side_by_side after others).capacity }
 same-but-room words after numbers others rest same =
     let slots = ap (λ (list : slab.Slab (ArrayOf word_order)). numbered list.slots others) rest ∙ numbered-same words.slots numbers others same in
     λ i. record {

@@ -82,7 +82,8 @@ module _ (arena : Arena) (at : ℕ) where
   number-read is = number_read (slab.get arena.levels (at / 256)) ∙ ap keys_told (sym (child-level is))
 
   -- What is written into its entries is written at the place,
-  pub level-lent : is_level at ≡ true → (words : ArrayOf word_order) → words_in (slab.get arena.levels (at / 256)) ≡ Some words → (piece value : ℕ) → record arena { levels = with_words arena.levels (at / 256) (with_value words piece value) } ≡ place_with arena (Below at piece) value
+  pub level-lent : is_level at ≡ true → (words : ArrayOf word_order) → words_in (slab.get arena.levels (at / 256)) ≡ Some words → (piece value : ℕ) →
+      record arena { levels = with_words arena.levels (at / 256) (with_value words piece value) } ≡ place_with arena (Below at piece) value
   level-lent is words there piece value =
       let keys = number-read is in
       (λ i. record arena { levels = slab.with_value arena.levels (at / 256) (record { keys = keys i; words = with_value words piece value }) })

@@ -5,7 +5,7 @@ use Rattle.std.specs.FinMap.{FinMap, empty}
 use Rattle.judy_model.specs.Keys.{word_order}
 use Rattle.judy_sl.specs.Pieces.{SpellKey}
 use Rattle.judy_sl.specs.World.{World, Node, gone, tail, level}
-use Rattle.judy_sl.specs.Worlds.{IsWorld, FitsBehind}
+use Rattle.judy_sl.specs.WorldInvariants.{IsWorld, FitsBehind}
 
 -- The seats with another node at one of them.
 abbrev pub set_node : World → ℕ → Node → World
@@ -90,7 +90,8 @@ module _ (world : World) (behind : ℕ → List ℕ) (is : IsWorld world behind)
 -- A node that is put where nothing was.
 module _ (world : World) (behind : ℕ → List ℕ) (is : IsWorld world behind) (to : ℕ) (none : world (suc to) ≡ gone) (place : List ℕ) where
   -- What fits before fits after.
-  pub fits-put : (node : Node) → node ≢ gone → (front : List ℕ) (map : FinMap word_order ℕ) → FitsBehind world behind front map → FitsBehind (set_node world (suc to) node) (set_behind behind (suc to) place) front map
+  pub fits-put : (node : Node) → node ≢ gone → (front : List ℕ) (map : FinMap word_order ℕ) → FitsBehind world behind front map →
+      FitsBehind (set_node world (suc to) node) (set_behind behind (suc to) place) front map
   fits-put node some front map has = record {
     leads = λ piece found entry inner.
         let leads = has.leads piece found entry inner in

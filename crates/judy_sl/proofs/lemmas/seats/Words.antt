@@ -64,7 +64,8 @@ tail-words None each = tt
 tail-words (Some rest) each = each rest refl
 
 -- The first level, the others and the tails are all seats.
-pub seats-words : (arena : Arena) → IsArrayOf IsWord arena.root → ((index : ℕ) (words : ArrayOf word_order) → words_in (slab.get arena.levels index) ≡ Some words → IsArrayOf IsWord words) → ((place : ℕ) (rest : List ℕ × ℕ) → tail_at arena.tails place ≡ Some rest → IsWord rest.1) → (seat : ℕ) → HasWords (world_of arena seat)
+pub seats-words : (arena : Arena) → IsArrayOf IsWord arena.root → ((index : ℕ) (words : ArrayOf word_order) → words_in (slab.get arena.levels index) ≡ Some words → IsArrayOf IsWord words) →
+    ((place : ℕ) (rest : List ℕ × ℕ) → tail_at arena.tails place ≡ Some rest → IsWord rest.1) → (seat : ℕ) → HasWords (world_of arena seat)
 seats-words arena root levels tails zero = λ piece value held. (words_hold arena.root piece value root held).1
 seats-words arena root levels tails (suc at) = by (is_level at)
   where

@@ -12,7 +12,8 @@ overflow_add-place c = let fits = c.requires.fits in omega arith
 
 pub unreachable-requires : goal.unreachable-requires
 unreachable-requires c =
-    place_some c.args.level.now.map c.args.place c.requires.within (ap (λ (words : FinMap word_order ℕ). by_count words (c.args.place + 1)) (sym c.array.ensures.map) ∙ sym c.by_count.ensures ∙ c.in_default.is)
+    place_some c.args.level.now.map c.args.place c.requires.within (ap (λ (words : FinMap word_order ℕ). by_count words (c.args.place + 1)) (sym c.array.ensures.map) ∙
+    sym c.by_count.ensures ∙ c.in_default.is)
 
 pub returns : goal.returns
 returns c =

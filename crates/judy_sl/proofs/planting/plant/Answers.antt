@@ -16,10 +16,12 @@ pub returns-clause-planted : goal.returns-clause-planted
 returns-clause-planted c =
     let items = c.in_ok-push.ensures.items ∙ ap (λ (piece : ℕ). c.args.entries.now.items ++ (piece, c.in_ok-at.at) ∷ []) c.first_piece.ensures in
     subst (IsPlanted (place_with c.put_tail.new.self (Below c.in_ok-at.at 0) c.args.value)) (sym items)
-    (planted-more c.args.arena.now c.args.entries.now.items c.requires.planted c.args.key.now c.requires.is_key c.requires.long c.requires.above c.put_tail.new.self c.in_ok-at.at _ (take_rest c.args.key.now 8) c.in_ok-at.ensures.put c.args.value)
+    (planted-more c.args.arena.now c.args.entries.now.items c.requires.planted c.args.key.now c.requires.is_key c.requires.long c.requires.above c.put_tail.new.self c.in_ok-at.at _
+    (take_rest c.args.key.now 8) c.in_ok-at.ensures.put c.args.value)
 
 pub returns-clause-map : goal.returns-clause-map
 returns-clause-map c =
     let items = c.in_ok-push.ensures.items ∙ ap (λ (piece : ℕ). c.args.entries.now.items ++ (piece, c.in_ok-at.at) ∷ []) c.first_piece.ensures in
     ap (λ (entries : List (ℕ × ℕ)). map_of (planted (place_with c.put_tail.new.self (Below c.in_ok-at.at 0) c.args.value) entries)) items
-    ∙ planted-map c.args.arena.now c.args.entries.now.items c.requires.planted c.args.key.now c.requires.is_key c.requires.long c.requires.above c.put_tail.new.self c.in_ok-at.at _ (take_rest c.args.key.now 8) c.in_ok-at.ensures.put c.args.value
+    ∙ planted-map c.args.arena.now c.args.entries.now.items c.requires.planted c.args.key.now c.requires.is_key c.requires.long c.requires.above c.put_tail.new.self c.in_ok-at.at _
+    (take_rest c.args.key.now 8) c.in_ok-at.ensures.put c.args.value

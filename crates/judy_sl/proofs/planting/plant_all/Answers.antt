@@ -29,8 +29,10 @@ pairs-preserved c =
             are_in = subst (λ e. IsPlanted c.if-opens.arena e.items) (sym w.entries-is) (subst (λ (a : Arena). IsPlanted a w.plant.new.entries.items) (sym w.arena-is) w.in_ok-plant.ensures.planted);
             below = λ word less.
                 let above = opens-above c.pairs.low pair.0.now opens_is in
-                subst (λ e. AreBelow word e.items) (sym w.entries-is) (subst (AreBelow word) (sym entry.1) (below-more c.pairs.entries.items (piece_of pair.0.now) entry.0 word (is.below word (omega (arith, above, less, low_is))) (omega (arith, less, low_is))));
-            few = (let count = ap length (ap (λ e. e.items) w.entries-is ∙ entry.1) ∙ length_push c.pairs.entries.items (piece_of pair.0.now, entry.0) in let before = is.few in omega (arith, count, before));
+                subst (λ e. AreBelow word e.items) (sym w.entries-is) (subst (AreBelow word) (sym entry.1)
+                (below-more c.pairs.entries.items (piece_of pair.0.now) entry.0 word (is.below word (omega (arith, above, less, low_is))) (omega (arith, less, low_is))));
+            few = (let count = ap length (ap (λ e. e.items) w.entries-is ∙ entry.1) ∙ length_push c.pairs.entries.items (piece_of pair.0.now, entry.0) in
+                let before = is.few in omega (arith, count, before));
             goes_on =
                 (λ i. with_pairs (map_of (planted (w.arena-is i) (w.entries-is i).items)) (openers (low_is i) rest))
                 ∙ ap (λ (map : FinMap byte_order ℕ). with_pairs map (openers (piece_of pair.0.now) rest)) w.in_ok-plant.ensures.map

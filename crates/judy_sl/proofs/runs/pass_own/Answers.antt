@@ -5,7 +5,8 @@ use Rattle.judy_sl.proofs.lemmas.scans.LevelEntries.{stand_from}
 use Rattle.judy_sl.proofs.runs.pass_own.Goals as goal
 
 -- What is left behind the first of them.
-left_behind : (old : List (ℕ × ℕ)) (item : Option (ℕ × ℕ)) (new : List (ℕ × ℕ)) (first : ℕ × ℕ) (others : List (ℕ × ℕ)) → old ≡ first ∷ others → MatchOption item ((old ≡ []) × (new ≡ [])) (λ x. old ≡ x ∷ new) → new ≡ others
+left_behind : (old : List (ℕ × ℕ)) (item : Option (ℕ × ℕ)) (new : List (ℕ × ℕ)) (first : ℕ × ℕ) (others : List (ℕ × ℕ)) → old ≡ first ∷ others →
+    MatchOption item ((old ≡ []) × (new ≡ [])) (λ x. old ≡ x ∷ new) → new ≡ others
 left_behind old None new first others are steps = let none = steps.0 in cc
 left_behind old (Some entry) new first others are steps = cc
 

@@ -7,19 +7,22 @@ use Rattle.judy_sl.proofs.sorted.check_sorted.Goals as goal
 
 pub returns-then-not-is_key-clause-refused : goal.returns-then-not-is_key-clause-refused
 returns-then-not-is_key-clause-refused c = (
-  run-to IsNoKey None (strings_in c.args.pairs.now) c.pairs.at _ _ c.pairs.invariant.run (string-at c.args.pairs.now c.pairs.at _ c.pairs-test.true) (λ is. let key = c.is_key.ensures.1 is in let none = c.if-not-is_key.true in cc),
+  run-to IsNoKey None (strings_in c.args.pairs.now) c.pairs.at _ _ c.pairs.invariant.run (string-at c.args.pairs.now c.pairs.at _ c.pairs-test.true)
+      (λ is. let key = c.is_key.ensures.1 is in let none = c.if-not-is_key.true in cc),
   c.pairs.invariant.within,
 )
 
 pub returns-then-not-comes_after-clause-refused : goal.returns-then-not-comes_after-clause-refused
 returns-then-not-comes_after-clause-refused c = (
-  run-to StaysBelow None (strings_in c.args.pairs.now) c.pairs.at _ _ c.pairs.invariant.run (string-at c.args.pairs.now c.pairs.at _ c.pairs-test.true) (c.is_key.ensures.0 c.if-not-is_key.false, sym c.comes_after.ensures ∙ c.if-not-comes_after.true),
+  run-to StaysBelow None (strings_in c.args.pairs.now) c.pairs.at _ _ c.pairs.invariant.run (string-at c.args.pairs.now c.pairs.at _ c.pairs-test.true)
+      (c.is_key.ensures.0 c.if-not-is_key.false, sym c.comes_after.ensures ∙ c.if-not-comes_after.true),
   c.pairs.invariant.within,
 )
 
 pub returns-then-at-limit-clause-refused : goal.returns-then-at-limit-clause-refused
 returns-then-at-limit-clause-refused c = (
-  run-to GoesOn None (strings_in c.args.pairs.now) c.pairs.at _ _ c.pairs.invariant.run (string-at c.args.pairs.now c.pairs.at _ c.pairs-test.true) (c.is_key.ensures.0 c.if-not-is_key.false, sym c.comes_after.ensures ∙ c.if-not-comes_after.false),
+  run-to GoesOn None (strings_in c.args.pairs.now) c.pairs.at _ _ c.pairs.invariant.run (string-at c.args.pairs.now c.pairs.at _ c.pairs-test.true)
+      (c.is_key.ensures.0 c.if-not-is_key.false, sym c.comes_after.ensures ∙ c.if-not-comes_after.false),
   (let over = c.if-at-limit.true in let within = c.pairs.invariant.within in omega arith),
 )
 
@@ -27,7 +30,8 @@ pub pairs-preserved : goal.pairs-preserved
 pairs-preserved c = record {
   within = (let within = c.pairs.invariant.within in let other = c.if-at-limit.false in omega arith);
   text = text_of_key _ (c.is_key.ensures.0 c.if-not-is_key.false);
-  run = run-more None (strings_in c.args.pairs.now) c.pairs.at _ _ c.pairs.invariant.run (string-at c.args.pairs.now c.pairs.at _ c.pairs-test.true) (c.is_key.ensures.0 c.if-not-is_key.false, sym c.comes_after.ensures ∙ c.if-not-comes_after.false);
+  run = run-more None (strings_in c.args.pairs.now) c.pairs.at _ _ c.pairs.invariant.run (string-at c.args.pairs.now c.pairs.at _ c.pairs-test.true)
+      (c.is_key.ensures.0 c.if-not-is_key.false, sym c.comes_after.ensures ∙ c.if-not-comes_after.false);
 }
 
 pub returns-clause-sorted : goal.returns-clause-sorted

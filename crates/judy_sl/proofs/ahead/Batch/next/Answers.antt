@@ -11,5 +11,6 @@ returns c =
     let order = c.self.invariant.0 in
     let less = c.if-self.false in
     let split : drop at (take end read) ≡ slice_index_or read at (0, 0) ∷ drop (at + 1) (take end read) =
-    drop_more (take end read) at (0, 0) (omega (arith, long, order, less)) ∙ ap (λ (entry : ℕ × ℕ). entry ∷ drop (at + 1) (take end read)) (get_or-take end read at (0, 0) (omega (arith, order, less))) in
+    drop_more (take end read) at (0, 0) (omega (arith, long, order, less)) ∙ ap (λ (entry : ℕ × ℕ). entry ∷ drop (at + 1) (take end read))
+    (get_or-take end read at (0, 0) (omega (arith, order, less))) in
     record { steps = sym c.self.view_is ∙ split }

@@ -13,14 +13,19 @@ count_places-requires-clause-once c = (subst (AreCountedBut c.add.new.self) (sym
 
 pub count_places-requires-clause-can : goal.count_places-requires-clause-can
 count_places-requires-clause-can c =
-    can-come c.add.new.self c.in_ok-made.ensures.added.is_arena (c.in_ok-made.ensures.added.led c.requires.led) (few-more c.args.self.now c.add.new.self c.args.key.now c.in_ok-made.made 4294967295 c.requires.is_key c.in_ok-made.ensures.added c.requires.few) c.args.passed.now (subst (AreCountedBut c.add.new.self) (sym c.requires.passed) c.in_ok-made.ensures.counted)
+    can-come c.add.new.self c.in_ok-made.ensures.added.is_arena (c.in_ok-made.ensures.added.led c.requires.led)
+    (few-more c.args.self.now c.add.new.self c.args.key.now c.in_ok-made.made 4294967295 c.requires.is_key c.in_ok-made.ensures.added c.requires.few) c.args.passed.now
+    (subst (AreCountedBut c.add.new.self) (sym c.requires.passed) c.in_ok-made.ensures.counted)
 
 pub returns-clause-added : goal.returns-clause-added
-returns-clause-added c = added-counted c.args.self.now c.add.new.self c.count_places.new.self c.args.key.now c.count_places.ensures.world c.count_places.ensures.is_arena c.in_ok-made.made c.in_ok-made.ensures.added
+returns-clause-added c =
+    added-counted c.args.self.now c.add.new.self c.count_places.new.self c.args.key.now c.count_places.ensures.world c.count_places.ensures.is_arena c.in_ok-made.made c.in_ok-made.ensures.added
 
 pub returns-clause-counted : goal.returns-clause-counted
 returns-clause-counted c =
-    come-counted c.add.new.self c.in_ok-made.ensures.added.is_arena (c.in_ok-made.ensures.added.led c.requires.led) (few-more c.args.self.now c.add.new.self c.args.key.now c.in_ok-made.made 4294967295 c.requires.is_key c.in_ok-made.ensures.added c.requires.few) c.args.passed.now (subst (AreCountedBut c.add.new.self) (sym c.requires.passed) c.in_ok-made.ensures.counted) c.count_places.new.self c.count_places.ensures
+    come-counted c.add.new.self c.in_ok-made.ensures.added.is_arena (c.in_ok-made.ensures.added.led c.requires.led)
+    (few-more c.args.self.now c.add.new.self c.args.key.now c.in_ok-made.made 4294967295 c.requires.is_key c.in_ok-made.ensures.added c.requires.few) c.args.passed.now
+    (subst (AreCountedBut c.add.new.self) (sym c.requires.passed) c.in_ok-made.ensures.counted) c.count_places.new.self c.count_places.ensures
 
 -- Where the key is refused nothing has changed.
 pub returns-in_err-made-clause-counted : goal.returns-in_err-made-clause-counted

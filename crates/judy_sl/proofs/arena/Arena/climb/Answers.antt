@@ -1,5 +1,4 @@
-use Rattle.std.proofs.Common.{◌≡◌, ◌∙◌, ◌++◌, ◌∷◌, [], ℕ, List, Option, Some, sym, ap, arith, length, subst, refl}
-use Rattle.std.proofs.lemmas.List.{length-append}
+use Rattle.std.proofs.Common.{◌≡◌, ◌∙◌, ◌++◌, ◌∷◌, [], ℕ, List, Option, Some, sym, ap, arith, subst, refl}
 use Rattle.judy_sl.specs.Pieces.{piece_bytes}
 use Rattle.judy_sl.specs.Arenas.{world_of, node_of, HasText}
 use Rattle.judy_sl.proofs.lemmas.seats.Linked.{taken_of}
@@ -14,64 +13,108 @@ own_is : {one other : List (ℕ × ℕ) × Option (List (ℕ × ℕ))} → one �
 own_is is = ap (λ (both : List (ℕ × ℕ) × Option (List (ℕ × ℕ))). both.0) is
 
 pub loop-piece-init : goal.loop-piece-init
-loop-piece-init c = rw (c.cut.ensures.written, c.len.ensures.value) (climb_start c.args.itself (world_of c.args.self.now) c.args.key.now c.args.entry c.args.above.now.items c.args.run.now c.requires.leads)
+loop-piece-init g c = λ from begun. record {
+  bytes = _;
+  given = begun.given;
+  are = climb_start c.args.itself (world_of c.args.self.now) from c.args.entry c.args.above.now.items c.args.run.now begun.leads;
+}
 
 pub push_piece-requires : goal.push_piece-requires
-push_piece-requires c = follow_room c.requires.is_arena.is_world c.args.key.now c.loop-piece.run.level.now.map c.loop-piece.piece c.loop-piece.key c.loop-piece.invariant.on
+push_piece-requires g c =
+    let from = c.requires.begun.0 in
+    let on = c.loop-piece.invariant from c.requires.begun.1 in
+    let room = follow_room c.requires.is_arena.is_world from c.loop-piece.run.level.now.map c.loop-piece.piece on.bytes on.are.on in
+    let long = g.met.K.KeyWriter.has_len c.loop-piece.key on.bytes on.given in
+    omega (arith, room, long)
 
 pub loop-piece-smaller : goal.loop-piece-smaller
-loop-piece-smaller c =
-    let room = follow_room c.requires.is_arena.is_world c.args.key.now c.loop-piece.run.level.now.map c.loop-piece.piece c.loop-piece.key c.loop-piece.invariant.on in
+loop-piece-smaller g c =
+    let from = c.requires.begun.0 in
+    let on = c.loop-piece.invariant from c.requires.begun.1 in
+    let room = follow_room c.requires.is_arena.is_world from c.loop-piece.run.level.now.map c.loop-piece.piece on.bytes on.are.on in
     let some = inner_bytes c.loop-piece.piece c.loop-piece-test.true in
-    let long = ap length c.push_piece.ensures.written ∙ length-append c.loop-piece.key (piece_bytes c.loop-piece.piece) in
-    omega arith
+    let long = g.met.K.KeyWriter.has_len c.loop-piece.key on.bytes on.given in
+    omega (arith, room, some, long, c.push_piece.ensures.len)
 
 pub child-requires : goal.child-requires
-child-requires c = taken_of c.args.self.now c.loop-piece.value (follow_on c.requires.is_arena.is_world c.args.key.now c.loop-piece.run.level.now.map c.loop-piece.piece c.loop-piece.key c.loop-piece.invariant.on c.loop-piece.value c.loop-piece.invariant.entry c.loop-piece-test.true)
+child-requires g c =
+    let from = c.requires.begun.0 in
+    let on = c.loop-piece.invariant from c.requires.begun.1 in
+    taken_of c.args.self.now c.loop-piece.value (follow_on c.requires.is_arena.is_world from c.loop-piece.run.level.now.map c.loop-piece.piece on.bytes on.are.on
+    c.loop-piece.value on.are.entry c.loop-piece-test.true)
 
 pub push-requires : goal.push-requires
-push-requires c =
-    let child = c.in-Level.ensures in
-    let room = climb_room c.requires.is_arena.is_world c.loop-piece.invariant c.in-Level.next.now.map c.loop-piece-test.true (ap node_of child) in
+push-requires g c =
+    let from = c.requires.begun.0 in
+    let on = c.loop-piece.invariant from c.requires.begun.1 in
+    let room = climb_room c.requires.is_arena.is_world on.are c.in-Level.next.now.map c.loop-piece-test.true (ap node_of c.in-Level.ensures) in
     omega (arith, room)
 
 pub push_piece-requires-2 : goal.push_piece-requires-2
-push_piece-requires-2 c = follow_room c.requires.is_arena.is_world c.args.key.now c.loop-piece.run.level.now.map c.loop-piece.piece c.loop-piece.key c.loop-piece.invariant.on
+push_piece-requires-2 g c =
+    let from = c.requires.begun.0 in
+    let on = c.loop-piece.invariant from c.requires.begun.1 in
+    let room = follow_room c.requires.is_arena.is_world from c.loop-piece.run.level.now.map c.loop-piece.piece on.bytes on.are.on in
+    let long = g.met.K.KeyWriter.has_len c.loop-piece.key on.bytes on.given in
+    omega (arith, room, long)
 
-pub returns-clause-neighbour : goal.returns-clause-neighbour
-returns-clause-neighbour c = rw c.push_piece-2.ensures.written (follow_last c.requires.is_arena.is_world c.args.key.now c.loop-piece.run.level.now.map c.loop-piece.piece c.loop-piece.key c.loop-piece.invariant.on c.loop-piece.value (omega arith) c.loop-piece.invariant.entry)
+pub returns : goal.returns
+returns g c = λ from begun.
+    let on = c.loop-piece.invariant from begun in
+    record {
+      bytes = on.bytes ++ piece_bytes c.loop-piece.piece;
+      given = c.push_piece-2.ensures.has on.bytes on.given;
+      are = (
+        follow_last c.requires.is_arena.is_world from c.loop-piece.run.level.now.map c.loop-piece.piece on.bytes on.are.on c.loop-piece.value (omega arith) on.are.entry,
+        climb_last c.requires.is_arena.is_world on.are c.loop-piece.run.level refl (omega arith),
+      );
+    }
 
-pub returns-clause-stands : goal.returns-clause-stands
-returns-clause-stands c = rw c.push_piece-2.ensures.written (climb_last c.requires.is_arena.is_world c.loop-piece.invariant c.loop-piece.run.level refl (omega arith))
-
-pub returns-in_err-first-in-Level-clause-neighbour : goal.returns-in_err-first-in-Level-clause-neighbour
-returns-in_err-first-in-Level-clause-neighbour c =
-    let child = c.in-Level.ensures in
-    absurd (follow_some c.requires.is_arena.is_world c.args.key.now c.loop-piece.run.level.now.map c.loop-piece.piece c.loop-piece.key c.loop-piece.invariant.on c.loop-piece.value c.loop-piece.invariant.entry c.loop-piece-test.true c.in-Level.next.now.map (ap node_of child) (none_of_all c.in-Level.next.now.map (sym (own_is c.go_down.ensures) ∙ c.in_err-first-in-Level.ensures.steps.0)))
-
-pub returns-in_err-first-in-Level-clause-stands : goal.returns-in_err-first-in-Level-clause-stands
-returns-in_err-first-in-Level-clause-stands c =
-    let child = c.in-Level.ensures in
-    absurd (follow_some c.requires.is_arena.is_world c.args.key.now c.loop-piece.run.level.now.map c.loop-piece.piece c.loop-piece.key c.loop-piece.invariant.on c.loop-piece.value c.loop-piece.invariant.entry c.loop-piece-test.true c.in-Level.next.now.map (ap node_of child) (none_of_all c.in-Level.next.now.map (sym (own_is c.go_down.ensures) ∙ c.in_err-first-in-Level.ensures.steps.0)))
+pub returns-in_err-first-in-Level : goal.returns-in_err-first-in-Level
+returns-in_err-first-in-Level g c = λ from begun.
+    let on = c.loop-piece.invariant from begun in
+    absurd (follow_some c.requires.is_arena.is_world from c.loop-piece.run.level.now.map c.loop-piece.piece on.bytes on.are.on
+    c.loop-piece.value on.are.entry c.loop-piece-test.true c.in-Level.next.now.map (ap node_of c.in-Level.ensures)
+    (none_of_all c.in-Level.next.now.map (sym (own_is c.go_down.ensures) ∙ c.in_err-first-in-Level.ensures.steps.0)))
 
 pub loop-piece-preserved : goal.loop-piece-preserved
-loop-piece-preserved c =
+loop-piece-preserved g c = λ from begun.
+    let on = c.loop-piece.invariant from begun in
     let child = c.in-Level.ensures in
     let kept = c.next.ensures.above ∙ ap (λ (both : List (ℕ × ℕ) × Option (List (ℕ × ℕ))). both.1) c.go_down.ensures in
-    rw (c.push.ensures.items, c.push_piece.ensures.written) (subst (λ (left : Option (List (ℕ × ℕ))). Climbing c.args.itself (world_of c.args.self.now) c.args.key.now c.in_ok-first-in-Level.first.0 c.in_ok-first-in-Level.first.1 (c.loop-piece.key ++ piece_bytes c.loop-piece.piece) (c.loop-piece.above.items ++ Some c.loop-piece.run.level ∷ []) c.in-Level.next.now.map (c.next.new.self.0, left)) (sym kept)
-    (climb_down c.requires.is_arena.is_world c.loop-piece.invariant c.loop-piece.run.level refl c.in-Level.next.now.map c.loop-piece-test.true (ap node_of child) c.in_ok-first-in-Level.first c.next.new.self.0 (sym (own_is c.go_down.ensures) ∙ c.in_ok-first-in-Level.ensures.steps)))
+    record {
+      bytes = on.bytes ++ piece_bytes c.loop-piece.piece;
+      given = c.push_piece.ensures.has on.bytes on.given;
+      are = rw c.push.ensures.items (subst (λ (left : Option (List (ℕ × ℕ))). Climbing c.args.itself
+          (world_of c.args.self.now) from c.in_ok-first-in-Level.first.0 c.in_ok-first-in-Level.first.1 (on.bytes ++ piece_bytes c.loop-piece.piece)
+          (c.loop-piece.above.items ++ Some c.loop-piece.run.level ∷ []) c.in-Level.next.now.map (c.next.new.self.0, left)) (sym kept)
+          (climb_down c.requires.is_arena.is_world on.are c.loop-piece.run.level refl c.in-Level.next.now.map c.loop-piece-test.true
+          (ap node_of child) c.in_ok-first-in-Level.first c.next.new.self.0 (sym (own_is c.go_down.ensures) ∙ c.in_ok-first-in-Level.ensures.steps)));
+    }
 
 pub push_to-requires : goal.push_to-requires
-push_to-requires c =
-    let child = c.in-Tail.ensures in
-    rw c.push_piece.ensures.written (follow_tail_room c.requires.is_arena.is_world c.args.key.now c.loop-piece.run.level.now.map c.loop-piece.piece c.loop-piece.key c.loop-piece.invariant.on c.loop-piece.value c.loop-piece.invariant.entry c.loop-piece-test.true c.in-Tail.tail.0 c.in-Tail.tail.1 (ap node_of child) (subst HasText child (c.requires.is_arena.texts c.loop-piece.value)))
+push_to-requires g c =
+    let from = c.requires.begun.0 in
+    let on = c.loop-piece.invariant from c.requires.begun.1 in
+    let bytes = on.bytes ++ piece_bytes c.loop-piece.piece in
+    let room = follow_tail_room c.requires.is_arena.is_world from c.loop-piece.run.level.now.map c.loop-piece.piece on.bytes on.are.on
+    c.loop-piece.value on.are.entry c.loop-piece-test.true c.in-Tail.tail.0 c.in-Tail.tail.1 (ap node_of c.in-Tail.ensures)
+    (subst HasText c.in-Tail.ensures (c.requires.is_arena.texts c.loop-piece.value)) in
+    let long = g.met.K.KeyWriter.has_len c.push_piece.new.key bytes (c.push_piece.ensures.has on.bytes on.given) in
+    omega (arith, room, long)
 
-pub returns-in-Tail-clause-neighbour : goal.returns-in-Tail-clause-neighbour
-returns-in-Tail-clause-neighbour c =
+pub returns-in-Tail : goal.returns-in-Tail
+returns-in-Tail g c = λ from begun.
+    let on = c.loop-piece.invariant from begun in
     let child = c.in-Tail.ensures in
-    rw (c.value.ensures, c.push_to.ensures.written, c.push_piece.ensures.written) (follow_tail c.requires.is_arena.is_world c.args.key.now c.loop-piece.run.level.now.map c.loop-piece.piece c.loop-piece.key c.loop-piece.invariant.on c.loop-piece.value c.loop-piece.invariant.entry c.loop-piece-test.true c.in-Tail.tail.0 c.in-Tail.tail.1 (ap node_of child) (subst HasText child (c.requires.is_arena.texts c.loop-piece.value)))
-
-pub returns-in-Tail-clause-stands : goal.returns-in-Tail-clause-stands
-returns-in-Tail-clause-stands c =
-    let child = c.in-Tail.ensures in
-    rw (c.push_to.ensures.written, c.push_piece.ensures.written) (climb_tail c.requires.is_arena.is_world c.loop-piece.invariant c.loop-piece.run.level refl c.in-Tail.tail.0 c.in-Tail.tail.1 c.loop-piece-test.true (ap node_of child) (subst HasText child (c.requires.is_arena.texts c.loop-piece.value)))
+    let text = subst HasText child (c.requires.is_arena.texts c.loop-piece.value) in
+    let bytes = on.bytes ++ piece_bytes c.loop-piece.piece in
+    record {
+      bytes = bytes ++ c.in-Tail.tail.0;
+      given = c.push_to.ensures.has bytes (c.push_piece.ensures.has on.bytes on.given);
+      are = (
+        rw c.value.ensures (follow_tail c.requires.is_arena.is_world from c.loop-piece.run.level.now.map c.loop-piece.piece on.bytes on.are.on
+            c.loop-piece.value on.are.entry c.loop-piece-test.true c.in-Tail.tail.0 c.in-Tail.tail.1 (ap node_of child) text),
+        climb_tail c.requires.is_arena.is_world on.are c.loop-piece.run.level refl c.in-Tail.tail.0 c.in-Tail.tail.1 c.loop-piece-test.true (ap node_of child) text,
+      );
+    }

@@ -21,24 +21,28 @@ returns-then-piece-first_piece c =
 pub returns-then-from-lt8 : goal.returns-then-from-lt8
 returns-then-from-lt8 c =
     let both = sym c.first_piece-piece.ensures ∙ c.if-piece-first_piece.false ∙ c.first_piece.ensures in
-    let one = one_shared c.requires.is_arena.is_world 0 c.args.self.now.root.map refl c.args.from.now c.args.to.now (text_of_key c.args.from.now c.requires.from) (text_of_key c.args.to.now c.requires.to) both c.if-from-lt8.true in
+    let one = one_shared c.requires.is_arena.is_world 0 c.args.self.now.root.map refl c.args.from.now c.args.to.now (text_of_key c.args.from.now c.requires.from)
+    (text_of_key c.args.to.now c.requires.to) both c.if-from-lt8.true in
     c.from.ensures ∙ ap from_bool (c.is_some.ensures ∙ ap (λ (found : Option ℕ). is_some found) (c.get-found.ensures ∙ ap (get c.args.self.now.root.map) c.first_piece-piece.ensures)) ∙ sym one
 
 pub returns-in-None : goal.returns-in-None
 returns-in-None c =
     let both = sym c.first_piece-piece.ensures ∙ c.if-piece-first_piece.false ∙ c.first_piece.ensures in
     let entry = ap (get c.args.self.now.root.map) (sym c.first_piece-piece.ensures) ∙ sym c.get-found.ensures ∙ c.in-None.is in
-    sym (none_shared c.requires.is_arena.is_world 0 c.args.self.now.root.map refl c.args.from.now c.args.to.now (text_of_key c.args.from.now c.requires.from) (text_of_key c.args.to.now c.requires.to) both entry)
+    sym (none_shared c.requires.is_arena.is_world 0 c.args.self.now.root.map refl c.args.from.now c.args.to.now (text_of_key c.args.from.now c.requires.from)
+    (text_of_key c.args.to.now c.requires.to) both entry)
 
 pub slice_bounds-count_behind-count-in-Some : goal.slice_bounds-count_behind-count-in-Some
 slice_bounds-count_behind-count-in-Some c =
     let both = sym c.first_piece-piece.ensures ∙ c.if-piece-first_piece.false ∙ c.first_piece.ensures in
-    both_long c.requires.is_arena.is_world 0 c.args.self.now.root.map refl c.args.from.now c.args.to.now (text_of_key c.args.from.now c.requires.from) (text_of_key c.args.to.now c.requires.to) both c.if-from-lt8.false
+    both_long c.requires.is_arena.is_world 0 c.args.self.now.root.map refl c.args.from.now c.args.to.now (text_of_key c.args.from.now c.requires.from)
+    (text_of_key c.args.to.now c.requires.to) both c.if-from-lt8.false
 
 pub slice_bounds-count_behind-start-in-Some : goal.slice_bounds-count_behind-start-in-Some
 slice_bounds-count_behind-start-in-Some c =
     let both = sym c.first_piece-piece.ensures ∙ c.if-piece-first_piece.false ∙ c.first_piece.ensures in
-    both_long c.requires.is_arena.is_world 0 c.args.self.now.root.map refl c.args.from.now c.args.to.now (text_of_key c.args.from.now c.requires.from) (text_of_key c.args.to.now c.requires.to) both c.if-from-lt8.false
+    both_long c.requires.is_arena.is_world 0 c.args.self.now.root.map refl c.args.from.now c.args.to.now (text_of_key c.args.from.now c.requires.from)
+    (text_of_key c.args.to.now c.requires.to) both c.if-from-lt8.false
 
 pub count_behind-requires-clause-there : goal.count_behind-requires-clause-there
 count_behind-requires-clause-there c =
@@ -56,7 +60,8 @@ pub returns-in-Some : goal.returns-in-Some
 returns-in-Some c =
     let both = sym c.first_piece-piece.ensures ∙ c.if-piece-first_piece.false ∙ c.first_piece.ensures in
     let entry = ap (get c.args.self.now.root.map) (sym c.first_piece-piece.ensures) ∙ sym c.get-found.ensures ∙ c.in-Some.is in
-    let child = child_shared c.requires.is_arena.is_world 0 c.args.self.now.root.map refl c.args.from.now c.args.to.now (text_of_key c.args.from.now c.requires.from) (text_of_key c.args.to.now c.requires.to) both c.if-from-lt8.false c.in-Some.at entry in
+    let child = child_shared c.requires.is_arena.is_world 0 c.args.self.now.root.map refl c.args.from.now c.args.to.now (text_of_key c.args.from.now c.requires.from)
+    (text_of_key c.args.to.now c.requires.to) both c.if-from-lt8.false c.in-Some.at entry in
     let high = ap (ranked true (map_behind (world_of c.args.self.now) (suc c.in-Some.at))) (take_rest c.args.to.now 8) in
     let low = ap (ranked false (map_behind (world_of c.args.self.now) (suc c.in-Some.at))) (take_rest c.args.from.now 8) in
     let behind = c.count_behind.ensures in

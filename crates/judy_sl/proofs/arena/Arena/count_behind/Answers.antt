@@ -22,7 +22,8 @@ keys_told-requires c = level_asked c.args.self.now c.down.at (keys_told (child_a
 
 pub count_in-requires-clause-told : goal.count_in-requires-clause-told
 count_in-requires-clause-told c =
-    subst (StandsWith (world_of c.args.self.now) c.in-Level.level.now.map) (sym c.keys_told.ensures) (level_stands c.args.self.now c.requires.counted c.down.at (keys_told (child_at c.args.self.now c.down.at)) c.in-Level.level.now c.in-Level.ensures)
+    subst (StandsWith (world_of c.args.self.now) c.in-Level.level.now.map) (sym c.keys_told.ensures)
+    (level_stands c.args.self.now c.requires.counted c.down.at (keys_told (child_at c.args.self.now c.down.at)) c.in-Level.level.now c.in-Level.ensures)
 
 pub returns-then-piece-first_piece : goal.returns-then-piece-first_piece
 returns-then-piece-first_piece c =
@@ -35,7 +36,8 @@ returns-then-piece-first_piece c =
 pub returns-then-low-lt8 : goal.returns-then-low-lt8
 returns-then-low-lt8 c =
     let both = sym c.first_piece-piece.ensures ∙ c.if-piece-first_piece.false ∙ c.first_piece.ensures in
-    let one = one_shared c.requires.is_arena.is_world (suc c.down.at) c.in-Level.level.now.map (ap node_of c.in-Level.ensures) c.down.low.now c.down.high.now c.down.invariant.low c.down.invariant.high both c.if-low-lt8.true in
+    let one = one_shared c.requires.is_arena.is_world (suc c.down.at) c.in-Level.level.now.map (ap node_of c.in-Level.ensures) c.down.low.now c.down.high.now
+    c.down.invariant.low c.down.invariant.high both c.if-low-lt8.true in
     let told = c.from.ensures ∙ ap from_bool (c.is_some.ensures ∙ ap (λ (found : Option ℕ). is_some found) (c.get-found.ensures ∙ ap (get c.in-Level.level.now.map) c.first_piece-piece.ensures)) in
     let same = c.down.invariant.same in
     omega arith
@@ -44,30 +46,36 @@ pub returns-in_default : goal.returns-in_default
 returns-in_default c =
     let both = sym c.first_piece-piece.ensures ∙ c.if-piece-first_piece.false ∙ c.first_piece.ensures in
     let entry = ap (get c.in-Level.level.now.map) (sym c.first_piece-piece.ensures) ∙ sym c.get-found.ensures ∙ c.in_default.is in
-    let none = none_shared c.requires.is_arena.is_world (suc c.down.at) c.in-Level.level.now.map (ap node_of c.in-Level.ensures) c.down.low.now c.down.high.now c.down.invariant.low c.down.invariant.high both entry in
+    let none = none_shared c.requires.is_arena.is_world (suc c.down.at) c.in-Level.level.now.map (ap node_of c.in-Level.ensures) c.down.low.now c.down.high.now
+    c.down.invariant.low c.down.invariant.high both entry in
     let same = c.down.invariant.same in
     omega arith
 
 pub slice_bounds-high-count : goal.slice_bounds-high-count
 slice_bounds-high-count c =
     let both = sym c.first_piece-piece.ensures ∙ c.if-piece-first_piece.false ∙ c.first_piece.ensures in
-    both_long c.requires.is_arena.is_world (suc c.down.at) c.in-Level.level.now.map (ap node_of c.in-Level.ensures) c.down.low.now c.down.high.now c.down.invariant.low c.down.invariant.high both c.if-low-lt8.false
+    both_long c.requires.is_arena.is_world (suc c.down.at) c.in-Level.level.now.map (ap node_of c.in-Level.ensures) c.down.low.now c.down.high.now c.down.invariant.low
+    c.down.invariant.high both c.if-low-lt8.false
 
 pub slice_bounds-high-start : goal.slice_bounds-high-start
 slice_bounds-high-start c =
     let both = sym c.first_piece-piece.ensures ∙ c.if-piece-first_piece.false ∙ c.first_piece.ensures in
-    both_long c.requires.is_arena.is_world (suc c.down.at) c.in-Level.level.now.map (ap node_of c.in-Level.ensures) c.down.low.now c.down.high.now c.down.invariant.low c.down.invariant.high both c.if-low-lt8.false
+    both_long c.requires.is_arena.is_world (suc c.down.at) c.in-Level.level.now.map (ap node_of c.in-Level.ensures) c.down.low.now c.down.high.now c.down.invariant.low
+    c.down.invariant.high both c.if-low-lt8.false
 
 pub down-preserved : goal.down-preserved
 down-preserved c =
     let both = sym c.first_piece-piece.ensures ∙ c.if-piece-first_piece.false ∙ c.first_piece.ensures in
     let entry = ap (get c.in-Level.level.now.map) (sym c.first_piece-piece.ensures) ∙ sym c.get-found.ensures ∙ c.in-Some.is in
-    let child = child_shared c.requires.is_arena.is_world (suc c.down.at) c.in-Level.level.now.map (ap node_of c.in-Level.ensures) c.down.low.now c.down.high.now c.down.invariant.low c.down.invariant.high both c.if-low-lt8.false c.in-Some.next entry in
+    let child = child_shared c.requires.is_arena.is_world (suc c.down.at) c.in-Level.level.now.map (ap node_of c.in-Level.ensures) c.down.low.now c.down.high.now
+    c.down.invariant.low c.down.invariant.high both c.if-low-lt8.false c.in-Some.next entry in
     let inner = piece-IsInner c.down.low.now c.down.invariant.low c.if-low-lt8.false in
     rw take_rest (rw take_rest (record {
       low = text-drop 8 c.down.low.now c.down.invariant.low;
       high = text-drop 8 c.down.high.now c.down.invariant.high;
-      there = taken_of c.args.self.now c.in-Some.next (((c.requires.is_arena.is_world.levels (suc c.down.at) c.in-Level.level.now.map (ap node_of c.in-Level.ensures)).leads (piece_of c.down.low.now) c.in-Some.next entry inner).1);
+      there =
+          taken_of c.args.self.now c.in-Some.next (((c.requires.is_arena.is_world.levels (suc c.down.at) c.in-Level.level.now.map (ap node_of c.in-Level.ensures)).leads
+          (piece_of c.down.low.now) c.in-Some.next entry inner).1);
       same = c.down.invariant.same ∙ child;
     }))
 

@@ -3,7 +3,7 @@ use Rattle.std.proofs.lemmas.List.{take_rest}
 use Rattle.judy_sl.specs.declared.arena.Arena.{Arena}
 use Rattle.judy_sl.specs.Pieces.{pieces}
 use Rattle.judy_sl.specs.World.{World, lookup}
-use Rattle.judy_sl.specs.Worlds.{AllLed}
+use Rattle.judy_sl.specs.WorldInvariants.{AllLed}
 use Rattle.judy_sl.specs.Arenas.{world_of}
 use Rattle.judy_sl.specs.Ways.{levels_passed}
 use Rattle.judy_sl.specs.Shrunk.{IsCutWhere, IsShrunk}
@@ -54,17 +54,20 @@ counted : (g : Over) (c : After-count_places g) → AreCountedBut c.count_places
 counted g c =
     subst (λ (w : World). AreCountedBut c.count_places.new.self (take c.in-Some.cut.depth (levels_passed w c.args.key.now))) (sym c.count_places.ensures.world) (
     go-counted c.args.self.now c.requires.is_arena c.requires.counted c.args.key.now c.requires.is_key (there g c) c.in-Some.cut.depth c.count_places.new.self
-    (subst (AreStepped false c.args.self.now c.count_places.new.self) (c.as_slice.ensures.value ∙ c.truncate.ensures.items ∙ ap (take c.in-Some.cut.depth) (c.in-Some.ensures.passed refl)) c.count_places.ensures))
+    (subst (AreStepped false c.args.self.now c.count_places.new.self) (c.as_slice.ensures.value ∙ c.truncate.ensures.items ∙ ap (take c.in-Some.cut.depth) (c.in-Some.ensures.passed refl))
+    c.count_places.ensures))
 
 pub count_places-requires-clause-once : goal.count_places-requires-clause-once
 count_places-requires-clause-once g c =
     subst AreOnce (sym (places g c))
-    (go-once c.args.self.now c.requires.is_arena c.requires.counted c.args.key.now c.requires.is_key (cut-found c.args.self.now c.requires.is_arena c.requires.led c.args.key.now c.in-Some.cut c.in-Some.ensures.cut) c.in-Some.cut.depth)
+    (go-once c.args.self.now c.requires.is_arena c.requires.counted c.args.key.now c.requires.is_key
+    (cut-found c.args.self.now c.requires.is_arena c.requires.led c.args.key.now c.in-Some.cut c.in-Some.ensures.cut) c.in-Some.cut.depth)
 
 pub count_places-requires-clause-can : goal.count_places-requires-clause-can
 count_places-requires-clause-can g c =
     subst (CanStepAt false c.args.self.now) (sym (places g c))
-    (can-go c.args.self.now c.requires.is_arena c.requires.counted c.args.key.now c.requires.is_key (cut-found c.args.self.now c.requires.is_arena c.requires.led c.args.key.now c.in-Some.cut c.in-Some.ensures.cut) c.in-Some.cut.depth)
+    (can-go c.args.self.now c.requires.is_arena c.requires.counted c.args.key.now c.requires.is_key (cut-found c.args.self.now c.requires.is_arena c.requires.led
+    c.args.key.now c.in-Some.cut c.in-Some.ensures.cut) c.in-Some.cut.depth)
 
 -- ---- and taken out
 
@@ -79,7 +82,8 @@ clear-requires-clause-is_arena g c =
 pub clear-requires-clause-loose : goal.clear-requires-clause-loose
 clear-requires-clause-loose g c =
     let to = (goal.at.clear-requires-clause-loose g c).After-count_places in
-    rw take_rest (on-is_orphan c.count_places.new.self c.count_places.ensures.is_arena (led g to) c.args.key.now c.in-Some.cut (cut g to) c.take_out.new.self c.take_out.ensures c.in-Some-below.at c.in-Some-below.is)
+    rw take_rest (on-is_orphan c.count_places.new.self c.count_places.ensures.is_arena (led g to) c.args.key.now c.in-Some.cut
+    (cut g to) c.take_out.new.self c.take_out.ensures c.in-Some-below.at c.in-Some-below.is)
 
 pub returns-in-Some-below-clause-answer : goal.returns-in-Some-below-clause-answer
 returns-in-Some-below-clause-answer g c = sym (cut-found c.args.self.now c.requires.is_arena c.requires.led c.args.key.now c.in-Some.cut c.in-Some.ensures.cut)
@@ -90,29 +94,41 @@ returns-in_default-below-clause-answer g c = sym (cut-found c.args.self.now c.re
 pub returns-in-Some-below-clause-shrunk : goal.returns-in-Some-below-clause-shrunk
 returns-in-Some-below-clause-shrunk g c =
     let to = (goal.at.returns-in-Some-below-clause-shrunk g c).After-count_places in
-    shrunk g to c.clear.new.self (shrunk-on c.count_places.new.self c.count_places.ensures.is_arena (led g to) c.args.key.now c.in-Some.cut (cut g to) c.take_out.new.self c.take_out.ensures c.in-Some-below.at c.in-Some-below.is c.clear.new.self (pieces_are c.args.key.now (text_of_key c.args.key.now c.requires.is_key)) c.clear.ensures.cleared)
+    shrunk g to c.clear.new.self (shrunk-on c.count_places.new.self c.count_places.ensures.is_arena (led g to) c.args.key.now c.in-Some.cut
+    (cut g to) c.take_out.new.self c.take_out.ensures c.in-Some-below.at c.in-Some-below.is c.clear.new.self
+    (pieces_are c.args.key.now (text_of_key c.args.key.now c.requires.is_key)) c.clear.ensures.cleared)
 
 pub returns-in_default-below-clause-shrunk : goal.returns-in_default-below-clause-shrunk
 returns-in_default-below-clause-shrunk g c =
     let to = (goal.at.returns-in_default-below-clause-shrunk g c).After-count_places in
-    shrunk g to c.take_out.new.self (shrunk-last c.count_places.new.self c.count_places.ensures.is_arena (led g to) c.args.key.now c.in-Some.cut (cut g to) c.take_out.new.self c.take_out.ensures c.in_default-below.is)
+    shrunk g to c.take_out.new.self (shrunk-last c.count_places.new.self c.count_places.ensures.is_arena (led g to) c.args.key.now c.in-Some.cut
+    (cut g to) c.take_out.new.self c.take_out.ensures c.in_default-below.is)
 
 pub returns-in-Some-below-clause-counted : goal.returns-in-Some-below-clause-counted
 returns-in-Some-below-clause-counted g c =
     let to = (goal.at.returns-in-Some-below-clause-counted g c).After-count_places in
-    counted-lost c.count_places.new.self c.take_out.new.self c.clear.new.self c.count_places.ensures.is_arena c.args.key.now c.requires.is_key c.in-Some.cut (cut g to) c.take_out.ensures c.clear.ensures.cleared.left (shrunk-on c.count_places.new.self c.count_places.ensures.is_arena (led g to) c.args.key.now c.in-Some.cut (cut g to) c.take_out.new.self c.take_out.ensures c.in-Some-below.at c.in-Some-below.is c.clear.new.self (pieces_are c.args.key.now (text_of_key c.args.key.now c.requires.is_key)) c.clear.ensures.cleared) (cut-found c.count_places.new.self c.count_places.ensures.is_arena (led g to) c.args.key.now c.in-Some.cut (cut g to)) (counted g to)
+    counted-lost c.count_places.new.self c.take_out.new.self c.clear.new.self c.count_places.ensures.is_arena c.args.key.now c.requires.is_key c.in-Some.cut
+    (cut g to) c.take_out.ensures c.clear.ensures.cleared.left (shrunk-on c.count_places.new.self c.count_places.ensures.is_arena (led g to) c.args.key.now c.in-Some.cut
+    (cut g to) c.take_out.new.self c.take_out.ensures c.in-Some-below.at c.in-Some-below.is c.clear.new.self
+    (pieces_are c.args.key.now (text_of_key c.args.key.now c.requires.is_key)) c.clear.ensures.cleared)
+    (cut-found c.count_places.new.self c.count_places.ensures.is_arena (led g to) c.args.key.now c.in-Some.cut (cut g to)) (counted g to)
 
 pub returns-in_default-below-clause-counted : goal.returns-in_default-below-clause-counted
 returns-in_default-below-clause-counted g c =
     let to = (goal.at.returns-in_default-below-clause-counted g c).After-count_places in
-    counted-lost c.count_places.new.self c.take_out.new.self c.take_out.new.self c.count_places.ensures.is_arena c.args.key.now c.requires.is_key c.in-Some.cut (cut g to) c.take_out.ensures (left-same c.take_out.new.self) (shrunk-last c.count_places.new.self c.count_places.ensures.is_arena (led g to) c.args.key.now c.in-Some.cut (cut g to) c.take_out.new.self c.take_out.ensures c.in_default-below.is) (cut-found c.count_places.new.self c.count_places.ensures.is_arena (led g to) c.args.key.now c.in-Some.cut (cut g to)) (counted g to)
+    counted-lost c.count_places.new.self c.take_out.new.self c.take_out.new.self c.count_places.ensures.is_arena c.args.key.now c.requires.is_key c.in-Some.cut
+    (cut g to) c.take_out.ensures (left-same c.take_out.new.self) (shrunk-last c.count_places.new.self c.count_places.ensures.is_arena (led g to) c.args.key.now c.in-Some.cut
+    (cut g to) c.take_out.new.self c.take_out.ensures c.in_default-below.is) (cut-found c.count_places.new.self c.count_places.ensures.is_arena
+    (led g to) c.args.key.now c.in-Some.cut (cut g to)) (counted g to)
 
 pub returns-in-Some-below-clause-beside : goal.returns-in-Some-below-clause-beside
 returns-in-Some-below-clause-beside g c =
     let to = (goal.at.returns-in-Some-below-clause-beside g c).After-count_places in
-    c.is_below-beside.ensures ∙ beside-left c.count_places.new.self c.take_out.new.self c.clear.new.self c.count_places.ensures.is_arena c.args.key.now c.clear.ensures.cleared.left c.in-Some.cut (cut g to) c.take_out.ensures
+    c.is_below-beside.ensures ∙ beside-left c.count_places.new.self c.take_out.new.self c.clear.new.self c.count_places.ensures.is_arena c.args.key.now
+    c.clear.ensures.cleared.left c.in-Some.cut (cut g to) c.take_out.ensures
 
 pub returns-in_default-below-clause-beside : goal.returns-in_default-below-clause-beside
 returns-in_default-below-clause-beside g c =
     let to = (goal.at.returns-in_default-below-clause-beside g c).After-count_places in
-    c.is_below-beside.ensures ∙ beside-left c.count_places.new.self c.take_out.new.self c.take_out.new.self c.count_places.ensures.is_arena c.args.key.now (left-same c.take_out.new.self) c.in-Some.cut (cut g to) c.take_out.ensures
+    c.is_below-beside.ensures ∙ beside-left c.count_places.new.self c.take_out.new.self c.take_out.new.self c.count_places.ensures.is_arena c.args.key.now
+    (left-same c.take_out.new.self) c.in-Some.cut (cut g to) c.take_out.ensures

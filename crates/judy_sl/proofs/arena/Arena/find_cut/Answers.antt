@@ -25,23 +25,43 @@ few world key n short noted ahead all =
 
 pub returns-in_err-at-clause-cut : goal.returns-in_err-at-clause-cut
 returns-in_err-at-clause-cut g c =
-    subst (IsCut (world_of c.args.self.now) c.args.key.now) (sym c.from_residual.ensures) (found-none c.args.self.now c.requires.is_arena _ _ _ _ c.loop-rest.invariant.on (sym (ap (λ p. get c.loop-rest.level.now.map p) c.first_piece-piece.ensures) ∙ sym c.get.ensures ∙ c.in_err-at.was))
+    subst (IsCut (world_of c.args.self.now) c.args.key.now) (sym c.from_residual.ensures) (found-none c.args.self.now c.requires.is_arena _ _ _ _ c.loop-rest.invariant.on
+    (sym (ap (λ p. get c.loop-rest.level.now.map p) c.first_piece-piece.ensures) ∙ sym c.get.ensures ∙ c.in_err-at.was))
 
 pub child-requires : goal.child-requires
 child-requires g c =
-    on-taken c.args.self.now c.requires.is_arena _ _ _ _ c.loop-rest.invariant.on (piece-IsInner c.loop-rest.rest.now (c.loop-rest.invariant.on.text (text_of_key c.args.key.now c.requires.is_key)) c.loop-rest-test.true) c.in_ok-at.at (sym (ap (λ p. get c.loop-rest.level.now.map p) c.first_piece-piece.ensures) ∙ sym c.get.ensures ∙ c.in_ok-at.was)
+    on-taken c.args.self.now c.requires.is_arena _ _ _ _ c.loop-rest.invariant.on (piece-IsInner c.loop-rest.rest.now
+    (c.loop-rest.invariant.on.text (text_of_key c.args.key.now c.requires.is_key)) c.loop-rest-test.true) c.in_ok-at.at
+    (sym (ap (λ p. get c.loop-rest.level.now.map p) c.first_piece-piece.ensures) ∙ sym c.get.ensures ∙ c.in_ok-at.was)
 
 pub loop-rest-preserved : goal.loop-rest-preserved
 loop-rest-preserved g c =
-    let deeper = subst (λ (xs : List ℕ). IsDeeper c.loop-rest.cut c.loop-rest.level.now.map (record { place = c.place_in.result; below = Some c.in_ok-at.at; left = length xs; depth = c.len.result }) c.deeper.result) (take_rest c.loop-rest.rest.now 8) c.deeper.ensures in
+    let deeper = subst (λ (xs : List ℕ). IsDeeper c.loop-rest.cut c.loop-rest.level.now.map (record {
+      place = c.place_in.result;
+      below = Some c.in_ok-at.at;
+      left = length xs;
+      depth = c.len.result;
+    }) c.deeper.result) (take_rest c.loop-rest.rest.now 8) c.deeper.ensures in
     rw take_rest (record {
-      on = on-moved _ _ _ _ _ c.loop-rest.invariant.on c.in_ok-at.at c.in-Level.next.now.map c.loop-rest-test.true (piece-IsInner c.loop-rest.rest.now (c.loop-rest.invariant.on.text (text_of_key c.args.key.now c.requires.is_key)) c.loop-rest-test.true) (sym (ap (λ p. get c.loop-rest.level.now.map p) c.first_piece-piece.ensures) ∙ sym c.get.ensures ∙ c.in_ok-at.was) (ap node_of c.in-Level.ensures);
-      so_far = cut-on (world_of c.args.self.now) c.args.key.now c.loop-rest.child c.loop-rest.level.now.map c.loop-rest.rest.now c.loop-rest.invariant.on (text_of_key c.args.key.now c.requires.is_key) c.loop-rest.cut c.loop-rest.invariant.so_far c.first_piece-piece.result c.first_piece-piece.ensures c.place_in.result c.place_in.ensures c.len.result (c.len.ensures.value ∙ ap (λ (places : List ℕ). length places) (c.loop-rest.invariant.has (few (world_of c.args.self.now) c.args.key.now g.row.N c.requires.few _ _ c.loop-rest.invariant.ahead)) ∙ c.loop-rest.invariant.deep) c.in_ok-at.at c.deeper.result c.loop-rest-test.true (sym c.get.ensures ∙ c.in_ok-at.was) deeper;
+      on =
+          on-moved _ _ _ _ _ c.loop-rest.invariant.on c.in_ok-at.at c.in-Level.next.now.map c.loop-rest-test.true
+          (piece-IsInner c.loop-rest.rest.now (c.loop-rest.invariant.on.text (text_of_key c.args.key.now c.requires.is_key)) c.loop-rest-test.true)
+          (sym (ap (λ p. get c.loop-rest.level.now.map p) c.first_piece-piece.ensures) ∙ sym c.get.ensures ∙ c.in_ok-at.was) (ap node_of c.in-Level.ensures);
+      so_far =
+          cut-on (world_of c.args.self.now) c.args.key.now c.loop-rest.child c.loop-rest.level.now.map c.loop-rest.rest.now c.loop-rest.invariant.on
+          (text_of_key c.args.key.now c.requires.is_key) c.loop-rest.cut c.loop-rest.invariant.so_far c.first_piece-piece.result c.first_piece-piece.ensures
+          c.place_in.result c.place_in.ensures c.len.result (c.len.ensures.value ∙ ap (λ (places : List ℕ). length places)
+          (c.loop-rest.invariant.has (few (world_of c.args.self.now) c.args.key.now g.row.N c.requires.few _ _ c.loop-rest.invariant.ahead)) ∙ c.loop-rest.invariant.deep)
+          c.in_ok-at.at c.deeper.result c.loop-rest-test.true (sym c.get.ensures ∙ c.in_ok-at.was) deeper;
       is_arena = c.requires.is_arena;
       noted = c.loop-rest.invariant.noted ++ c.in_ok-at.at ∷ [];
       has = c.note.ensures c.loop-rest.invariant.noted c.loop-rest.invariant.has;
-      ahead = noted-on _ _ _ c.loop-rest.invariant.on.is_level _ c.loop-rest-test.true c.in_ok-at.at (sym (ap (λ p. get c.loop-rest.level.now.map p) c.first_piece-piece.ensures) ∙ sym c.get.ensures ∙ c.in_ok-at.was) c.in-Level.next.now.map (ap node_of c.in-Level.ensures) _ _ c.loop-rest.invariant.ahead;
-      deep = (let one : length (c.loop-rest.invariant.noted ++ c.in_ok-at.at ∷ []) ≡ suc (length c.loop-rest.invariant.noted) = (let sum = length-append c.loop-rest.invariant.noted (c.in_ok-at.at ∷ []) in omega (arith, sum)) in one ∙ ap (λ n. suc n) c.loop-rest.invariant.deep ∙ sym (moved-deep _ _ _ _ _ c.loop-rest.invariant.on _ _ _ _ _ _));
+      ahead =
+          noted-on _ _ _ c.loop-rest.invariant.on.is_level _ c.loop-rest-test.true c.in_ok-at.at (sym (ap (λ p. get c.loop-rest.level.now.map p) c.first_piece-piece.ensures) ∙
+          sym c.get.ensures ∙ c.in_ok-at.was) c.in-Level.next.now.map (ap node_of c.in-Level.ensures) _ _ c.loop-rest.invariant.ahead;
+      deep = (let one : length (c.loop-rest.invariant.noted ++ c.in_ok-at.at ∷ []) ≡ suc (length c.loop-rest.invariant.noted) =
+          (let sum = length-append c.loop-rest.invariant.noted (c.in_ok-at.at ∷ []) in omega (arith, sum)) in
+          one ∙ ap (λ n. suc n) c.loop-rest.invariant.deep ∙ sym (moved-deep _ _ _ _ _ c.loop-rest.invariant.on _ _ _ _ _ _));
     })
 
 pub is-requires : goal.is-requires
@@ -49,26 +69,52 @@ is-requires g c = rw take_rest (ends-text (drop 8 c.loop-rest.rest.now) (text-dr
 
 pub returns-then-is-clause-cut : goal.returns-then-is-clause-cut
 returns-then-is-clause-cut g c =
-    let deeper = subst (λ (xs : List ℕ). IsDeeper c.loop-rest.cut c.loop-rest.level.now.map (record { place = c.place_in.result; below = Some c.in_ok-at.at; left = length xs; depth = c.len.result }) c.deeper.result) (take_rest c.loop-rest.rest.now 8) c.deeper.ensures in
-    cut-tail (world_of c.args.self.now) c.args.key.now c.in_ok-at.at (drop 8 c.loop-rest.rest.now) c.in-Tail.tail.0 c.in-Tail.tail.1 c.deeper.result (ap node_of c.in-Tail.ensures) (c.is.ensures.0 c.if-is.true ∙ take_rest c.loop-rest.rest.now 8) (cut-on (world_of c.args.self.now) c.args.key.now c.loop-rest.child c.loop-rest.level.now.map c.loop-rest.rest.now c.loop-rest.invariant.on (text_of_key c.args.key.now c.requires.is_key) c.loop-rest.cut c.loop-rest.invariant.so_far c.first_piece-piece.result c.first_piece-piece.ensures c.place_in.result c.place_in.ensures c.len.result (c.len.ensures.value ∙ ap (λ (places : List ℕ). length places) (c.loop-rest.invariant.has (few (world_of c.args.self.now) c.args.key.now g.row.N c.requires.few _ _ c.loop-rest.invariant.ahead)) ∙ c.loop-rest.invariant.deep) c.in_ok-at.at c.deeper.result c.loop-rest-test.true (sym c.get.ensures ∙ c.in_ok-at.was) deeper)
+    let deeper = subst (λ (xs : List ℕ). IsDeeper c.loop-rest.cut c.loop-rest.level.now.map (record {
+      place = c.place_in.result;
+      below = Some c.in_ok-at.at;
+      left = length xs;
+      depth = c.len.result;
+    }) c.deeper.result) (take_rest c.loop-rest.rest.now 8) c.deeper.ensures in
+    cut-tail (world_of c.args.self.now) c.args.key.now c.in_ok-at.at (drop 8 c.loop-rest.rest.now) c.in-Tail.tail.0 c.in-Tail.tail.1 c.deeper.result
+    (ap node_of c.in-Tail.ensures) (c.is.ensures.0 c.if-is.true ∙ take_rest c.loop-rest.rest.now 8) (cut-on
+    (world_of c.args.self.now) c.args.key.now c.loop-rest.child c.loop-rest.level.now.map c.loop-rest.rest.now c.loop-rest.invariant.on
+    (text_of_key c.args.key.now c.requires.is_key) c.loop-rest.cut c.loop-rest.invariant.so_far c.first_piece-piece.result c.first_piece-piece.ensures c.place_in.result
+    c.place_in.ensures c.len.result (c.len.ensures.value ∙ ap (λ (places : List ℕ). length places) (c.loop-rest.invariant.has
+    (few (world_of c.args.self.now) c.args.key.now g.row.N c.requires.few _ _ c.loop-rest.invariant.ahead)) ∙ c.loop-rest.invariant.deep) c.in_ok-at.at c.deeper.result c.loop-rest-test.true
+    (sym c.get.ensures ∙ c.in_ok-at.was) deeper)
 
 pub returns-else-is-clause-cut : goal.returns-else-is-clause-cut
 returns-else-is-clause-cut g c =
     let child = c.in-Tail.ensures in
-    found-clash _ _ _ _ _ c.loop-rest.invariant.on c.loop-rest-test.true (piece-IsInner c.loop-rest.rest.now (c.loop-rest.invariant.on.text (text_of_key c.args.key.now c.requires.is_key)) c.loop-rest-test.true) c.in_ok-at.at (sym (ap (λ p. get c.loop-rest.level.now.map p) c.first_piece-piece.ensures) ∙ sym c.get.ensures ∙ c.in_ok-at.was) c.in-Tail.tail.0 c.in-Tail.tail.1 (ap node_of child) (subst HasText child (c.requires.is_arena.texts c.in_ok-at.at)) (λ e. true≢false (sym (c.is.ensures.1 (e ∙ sym (take_rest c.loop-rest.rest.now 8))) ∙ c.if-is.false)) (text_of_key c.args.key.now c.requires.is_key)
+    found-clash _ _ _ _ _ c.loop-rest.invariant.on c.loop-rest-test.true (piece-IsInner c.loop-rest.rest.now
+    (c.loop-rest.invariant.on.text (text_of_key c.args.key.now c.requires.is_key)) c.loop-rest-test.true) c.in_ok-at.at
+    (sym (ap (λ p. get c.loop-rest.level.now.map p) c.first_piece-piece.ensures) ∙ sym c.get.ensures ∙ c.in_ok-at.was) c.in-Tail.tail.0 c.in-Tail.tail.1
+    (ap node_of child) (subst HasText child (c.requires.is_arena.texts c.in_ok-at.at)) (λ e. true≢false (sym (c.is.ensures.1 (e ∙ sym (take_rest c.loop-rest.rest.now 8))) ∙ c.if-is.false))
+    (text_of_key c.args.key.now c.requires.is_key)
 
 pub returns-in_err-get-clause-cut : goal.returns-in_err-get-clause-cut
 returns-in_err-get-clause-cut g c =
-    subst (IsCut (world_of c.args.self.now) c.args.key.now) (sym c.from_residual-in_err-get.ensures) (found-none c.args.self.now c.requires.is_arena _ _ _ _ c.loop-rest.invariant.on (sym (ap (λ p. get c.loop-rest.level.now.map p) c.first_piece-piece-2.ensures) ∙ sym c.get-2.ensures ∙ c.in_err-get.was))
+    subst (IsCut (world_of c.args.self.now) c.args.key.now) (sym c.from_residual-in_err-get.ensures)
+    (found-none c.args.self.now c.requires.is_arena _ _ _ _ c.loop-rest.invariant.on (sym (ap (λ p. get c.loop-rest.level.now.map p) c.first_piece-piece-2.ensures) ∙
+    sym c.get-2.ensures ∙ c.in_err-get.was))
 
 pub returns-clause-cut : goal.returns-clause-cut
 returns-clause-cut g c =
-    cut-last (world_of c.args.self.now) c.args.key.now c.loop-rest.child c.loop-rest.level.now.map c.loop-rest.rest.now c.loop-rest.invariant.on (text_of_key c.args.key.now c.requires.is_key) c.loop-rest.cut c.loop-rest.invariant.so_far c.first_piece-piece-2.result c.first_piece-piece-2.ensures c.place_in-2.result c.place_in-2.ensures c.len-2.result (c.len-2.ensures.value ∙ ap (λ (places : List ℕ). length places) (c.loop-rest.invariant.has (few (world_of c.args.self.now) c.args.key.now g.row.N c.requires.few _ _ c.loop-rest.invariant.ahead)) ∙ c.loop-rest.invariant.deep) c.in_ok-get.field-0 c.deeper-2.result (omega arith) (sym c.get-2.ensures ∙ c.in_ok-get.was) c.deeper-2.ensures
+    cut-last (world_of c.args.self.now) c.args.key.now c.loop-rest.child c.loop-rest.level.now.map c.loop-rest.rest.now c.loop-rest.invariant.on
+    (text_of_key c.args.key.now c.requires.is_key) c.loop-rest.cut c.loop-rest.invariant.so_far c.first_piece-piece-2.result c.first_piece-piece-2.ensures
+    c.place_in-2.result c.place_in-2.ensures c.len-2.result (c.len-2.ensures.value ∙ ap (λ (places : List ℕ). length places)
+    (c.loop-rest.invariant.has (few (world_of c.args.self.now) c.args.key.now g.row.N c.requires.few _ _ c.loop-rest.invariant.ahead)) ∙ c.loop-rest.invariant.deep)
+    c.in_ok-get.field-0 c.deeper-2.result (omega arith) (sym c.get-2.ensures ∙ c.in_ok-get.was) c.deeper-2.ensures
 
 -- ---- the levels that the way passed
 
 pub returns-then-is-clause-passed : goal.returns-then-is-clause-passed
-returns-then-is-clause-passed g c = λ some. c.loop-rest.invariant.has (few (world_of c.args.self.now) c.args.key.now g.row.N c.requires.few _ _ c.loop-rest.invariant.ahead) ∙ noted-tail _ _ _ c.loop-rest.invariant.on.is_level _ c.loop-rest-test.true c.in_ok-at.at (sym (ap (λ p. get c.loop-rest.level.now.map p) c.first_piece-piece.ensures) ∙ sym c.get.ensures ∙ c.in_ok-at.was) _ _ (ap node_of c.in-Tail.ensures) _ _ c.loop-rest.invariant.ahead
+returns-then-is-clause-passed g c =
+    λ some. c.loop-rest.invariant.has (few (world_of c.args.self.now) c.args.key.now g.row.N c.requires.few _ _ c.loop-rest.invariant.ahead) ∙
+    noted-tail _ _ _ c.loop-rest.invariant.on.is_level _ c.loop-rest-test.true c.in_ok-at.at (sym (ap (λ p. get c.loop-rest.level.now.map p) c.first_piece-piece.ensures) ∙
+    sym c.get.ensures ∙ c.in_ok-at.was) _ _ (ap node_of c.in-Tail.ensures) _ _ c.loop-rest.invariant.ahead
 
 pub returns-clause-passed : goal.returns-clause-passed
-returns-clause-passed g c = λ some. c.loop-rest.invariant.has (few (world_of c.args.self.now) c.args.key.now g.row.N c.requires.few _ _ c.loop-rest.invariant.ahead) ∙ noted-last _ _ _ c.loop-rest.invariant.on.is_level _ (omega arith) _ _ c.loop-rest.invariant.ahead
+returns-clause-passed g c =
+    λ some. c.loop-rest.invariant.has (few (world_of c.args.self.now) c.args.key.now g.row.N c.requires.few _ _ c.loop-rest.invariant.ahead) ∙
+    noted-last _ _ _ c.loop-rest.invariant.on.is_level _ (omega arith) _ _ c.loop-rest.invariant.ahead

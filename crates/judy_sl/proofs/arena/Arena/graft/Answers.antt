@@ -33,10 +33,15 @@ loop-piece-preserved c =
     let l = ap (λ (xs : List (ℕ × ArrayOf word_order)). length xs) items in
     let a = length-append c.pop.new.self.items ((c.in-Some.piece, c.in-Some.above) ∷ []) in
     record {
-      room = c.put_level-place.ensures.room (length c.pop.new.self.items + 1) (room-less c.loop-piece.self (length c.loop-piece.upper.items + 1) (length c.pop.new.self.items + 1 + 1) (omega (arith, l, a)) c.loop-piece.invariant.room);
+      room =
+          c.put_level-place.ensures.room (length c.pop.new.self.items + 1) (room-less c.loop-piece.self (length c.loop-piece.upper.items + 1)
+          (length c.pop.new.self.items + 1 + 1) (omega (arith, l, a)) c.loop-piece.invariant.room);
       stands = stands-put c.args.self.now c.loop-piece.self c.put_level-place.new.self _ c.put_level-place.result c.loop-piece.invariant.stands c.put_level-place.ensures.put;
       singles = single.0;
-      grafting = λ before key left made graft hung. grafting-up before c.loop-piece.self c.put_level-place.new.self _ _ _ _ c.loop-piece.upper.items c.pop.new.self.items c.loop-piece.level c.in-Some.above c.link.new.level c.in-Some.piece c.put_level-place.result (c.loop-piece.invariant.grafting before key left made graft hung) items single.1 c.put_level-place.ensures.put c.link.ensures;
+      grafting =
+          λ before key left made graft hung. grafting-up before c.loop-piece.self c.put_level-place.new.self _ _ _ _ c.loop-piece.upper.items c.pop.new.self.items
+          c.loop-piece.level c.in-Some.above c.link.new.level c.in-Some.piece c.put_level-place.result
+          (c.loop-piece.invariant.grafting before key left made graft hung) items single.1 c.put_level-place.ensures.put c.link.ensures;
     }
 
 pub vacate-requires : goal.vacate-requires
@@ -45,12 +50,14 @@ vacate-requires c =
     let stands = stands-put c.args.self.now c.loop-piece.self top _ c.put_level-place-2.result c.loop-piece.invariant.stands c.put_level-place-2.ensures.put in
     record {
       taken = subst (λ (arena : Arena). IsTaken (child_at arena c.args.at)) (sym c.lead.ensures) (
-          taken-led top c.args.from c.put_level-place-2.result c.args.at (stands-value c.args.self.now top c.args.from stands c.requires.entry) (stands-taken c.args.self.now top c.args.at stands c.requires.taken));
+          taken-led top c.args.from c.put_level-place-2.result c.args.at (stands-value c.args.self.now top c.args.from stands c.requires.entry)
+          (stands-taken c.args.self.now top c.args.at stands c.requires.taken));
     }
 
 pub returns : goal.returns
 returns c = λ before key left made graft hung.
     let nothing = no-items c.loop-piece.upper.items (sym c.loop-piece.upper.ok.0 ∙ c.in_default.ensures.cases.0) in
     grafted before c.loop-piece.self c.put_level-place-2.new.self c.vacate.new.self key c.args.from c.args.at left made graft c.loop-piece.level
-    (subst (λ upper. IsGrafting before c.loop-piece.self graft.clash.leads.front graft.clash.held (pieces (left_of key left)) graft.clash.value upper c.loop-piece.level) nothing (c.loop-piece.invariant.grafting before key left made graft hung))
+    (subst (λ upper. IsGrafting before c.loop-piece.self graft.clash.leads.front graft.clash.held (pieces (left_of key left)) graft.clash.value upper c.loop-piece.level) nothing
+    (c.loop-piece.invariant.grafting before key left made graft hung))
     c.put_level-place-2.result c.put_level-place-2.ensures.put (subst (λ (arena : Arena). IsVacated arena c.vacate.new.self c.args.at) c.lead.ensures c.vacate.ensures.vacated)

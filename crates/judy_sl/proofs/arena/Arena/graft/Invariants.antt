@@ -15,7 +15,8 @@ invariant-loop-piece l = record {
   room : HasRoom l.self (length l.upper.items + 1);
   stands : StandsStill l.fn.self l.self;
   singles : AreSingle l.upper.items;
-  grafting : (before : Arena) (key : List ℕ) (left : ℕ) (made : Branch) (graft : IsGraft before key l.from l.at left made) → AreHung before l.fn.self made l.fn.branch → IsGrafting before l.self graft.clash.leads.front graft.clash.held (pieces (left_of key left)) graft.clash.value l.upper.items l.level;
+  grafting : (before : Arena) (key : List ℕ) (left : ℕ) (made : Branch) (graft : IsGraft before key l.from l.at left made) → AreHung before l.fn.self made l.fn.branch →
+      IsGrafting before l.self graft.clash.leads.front graft.clash.held (pieces (left_of key left)) graft.clash.value l.upper.items l.level;
 }
 
 abbrev pub decreases-loop-piece : goal.decreases-loop-piece

@@ -15,7 +15,8 @@ pub returns-then-is_some : goal.returns-then-is_some
 returns-then-is_some c =
     let words = c.args.level.now.map in
     let held = some_value c.args.found (sym c.is_some.ensures ∙ c.if-is_some.true) in
-    sym (none_before (part_len (entry_keys (world_of c.args.self.now))) c.args.piece held.0 (entries words) (entries_sorted words) (sym (len-entries words) ∙ sym c.len.ensures.count ∙ c.if-len-eq1.true) (sym (get-entries words c.args.piece) ∙ sym c.requires.found ∙ held.1))
+    sym (none_before (part_len (entry_keys (world_of c.args.self.now))) c.args.piece held.0 (entries words) (entries_sorted words)
+    (sym (len-entries words) ∙ sym c.len.ensures.count ∙ c.if-len-eq1.true) (sym (get-entries words c.args.piece) ∙ sym c.requires.found ∙ held.1))
 
 pub returns : goal.returns
 returns c = from_none (world_of c.args.self.now) c.args.level.now.map c.keys_between.result c.args.piece c.keys_between.ensures

@@ -28,7 +28,8 @@ returns-then-apart-clause-is_turn c =
     let beyond = apart-beyond words (piece_of c.loop-rest.rest.now) c.in-Some.entry.0 apart c.args.look.side nearest in
     let absent = apart-absent words (piece_of c.loop-rest.rest.now) c.in-Some.entry.0 apart c.args.look.side nearest in
     let none = none_absent c.args.look (world_of c.args.self.now) (seat_in c.loop-rest.child) words on.is_level (piece_of c.loop-rest.rest.now) (pieces (drop 8 c.loop-rest.rest.now)) absent in
-    rw c.nearer.ensures (scan_left c.args.look (world_of c.args.self.now) c.args.key.now c.loop-rest.child words c.loop-rest.rest.now on c.loop-rest-test.true (Some c.in-Some.entry) beyond (subst (IsEntryOf words) c.in-Some.is c.from.ensures.value) none)
+    rw c.nearer.ensures (scan_left c.args.look (world_of c.args.self.now) c.args.key.now c.loop-rest.child words c.loop-rest.rest.now on c.loop-rest-test.true
+    (Some c.in-Some.entry) beyond (subst (IsEntryOf words) c.in-Some.is c.from.ensures.value) none)
 
 pub child-requires : goal.child-requires
 child-requires c =
@@ -36,7 +37,8 @@ child-requires c =
     let on = c.loop-rest.invariant.on in
     let held = subst (IsEntryOf words) c.in-Some.is c.from.ensures.value in
     let entry = ap (get words) (sym c.loop-rest.invariant.piece ∙ sym c.if-apart.false) ∙ held in
-    taken_of c.args.self.now c.in-Some.entry.1 ((c.requires.is_arena.is_world.levels (seat_in c.loop-rest.child) words on.is_level).leads (piece_of c.loop-rest.rest.now) c.in-Some.entry.1 entry (piece-IsInner c.loop-rest.rest.now on.text c.loop-rest-test.true)).1
+    taken_of c.args.self.now c.in-Some.entry.1 ((c.requires.is_arena.is_world.levels (seat_in c.loop-rest.child) words on.is_level).leads
+    (piece_of c.loop-rest.rest.now) c.in-Some.entry.1 entry (piece-IsInner c.loop-rest.rest.now on.text c.loop-rest-test.true)).1
 
 pub meets-met-requires : goal.meets-met-requires
 meets-met-requires c = rw take_rest (text-drop 8 c.loop-rest.rest.now c.loop-rest.invariant.on.text)
@@ -48,28 +50,39 @@ loop-rest-preserved c =
     let entry = ap (get words) (sym c.loop-rest.invariant.piece ∙ sym c.if-apart.false) ∙ held in
     let child = c.in-Level.ensures in
     record {
-      on = rw take_rest (scan_moved c.args.look (world_of c.args.self.now) c.args.key.now c.loop-rest.child words c.loop-rest.rest.now c.loop-rest.invariant.on c.loop-rest-test.true c.in-Some.entry.1 c.in-Level.next.now.map entry (ap node_of child));
+      on =
+          rw take_rest (scan_moved c.args.look (world_of c.args.self.now) c.args.key.now c.loop-rest.child words c.loop-rest.rest.now c.loop-rest.invariant.on
+          c.loop-rest-test.true c.in-Some.entry.1 c.in-Level.next.now.map entry (ap node_of child));
       piece = c.first_piece-piece.ensures;
     }
 
 pub returns-then-met-clause-is_turn : goal.returns-then-met-clause-is_turn
 returns-then-met-clause-is_turn c =
     let entry = ap (get c.loop-rest.level.now.map) (sym c.loop-rest.invariant.piece ∙ sym c.if-apart.false) ∙ subst (IsEntryOf c.loop-rest.level.now.map) c.in-Some.is c.from.ensures.value in
-    let met = met_along c.args.look (world_of c.args.self.now) c.loop-rest.rest.now c.in-Tail.tail.0 c.loop-rest.invariant.on.text (subst HasText c.in-Tail.ensures (c.requires.is_arena.texts c.in-Some.entry.1)) c.meets-met.ensures in
-    rw (c.nearer-then-met.ensures, c.if-apart.false ∙ c.loop-rest.invariant.piece) (scan_tail c.args.look (world_of c.args.self.now) c.args.key.now c.loop-rest.child c.loop-rest.level.now.map c.loop-rest.rest.now c.loop-rest.invariant.on c.loop-rest-test.true c.in-Some.entry.1 c.in-Tail.tail.1 (pieces c.in-Tail.tail.0) entry (ap node_of c.in-Tail.ensures) (met ∙ c.if-met.true))
+    let met = met_along c.args.look (world_of c.args.self.now) c.loop-rest.rest.now c.in-Tail.tail.0 c.loop-rest.invariant.on.text
+    (subst HasText c.in-Tail.ensures (c.requires.is_arena.texts c.in-Some.entry.1)) c.meets-met.ensures in
+    rw (c.nearer-then-met.ensures, c.if-apart.false ∙ c.loop-rest.invariant.piece) (scan_tail c.args.look
+    (world_of c.args.self.now) c.args.key.now c.loop-rest.child c.loop-rest.level.now.map c.loop-rest.rest.now c.loop-rest.invariant.on c.loop-rest-test.true
+    c.in-Some.entry.1 c.in-Tail.tail.1 (pieces c.in-Tail.tail.0) entry (ap node_of c.in-Tail.ensures) (met ∙ c.if-met.true))
 
 pub returns-else-met-clause-is_turn : goal.returns-else-met-clause-is_turn
 returns-else-met-clause-is_turn c =
     let words = c.loop-rest.level.now.map in
     let on = c.loop-rest.invariant.on in
     let entry = ap (get words) (sym c.loop-rest.invariant.piece ∙ sym c.if-apart.false) ∙ subst (IsEntryOf words) c.in-Some.is c.from.ensures.value in
-    let met = met_along c.args.look (world_of c.args.self.now) c.loop-rest.rest.now c.in-Tail.tail.0 on.text (subst HasText c.in-Tail.ensures (c.requires.is_arena.texts c.in-Some.entry.1)) c.meets-met.ensures in
+    let met = met_along c.args.look (world_of c.args.self.now) c.loop-rest.rest.now c.in-Tail.tail.0 on.text
+    (subst HasText c.in-Tail.ensures (c.requires.is_arena.texts c.in-Some.entry.1)) c.meets-met.ensures in
     let nearest = subst (λ p. IsNearestEntry c.args.look.side false words p (piece_in c.beyond.result)) c.loop-rest.invariant.piece c.beyond.ensures.nearest in
-    let none = none_child c.args.look (world_of c.args.self.now) (seat_in c.loop-rest.child) words on.is_level (piece_of c.loop-rest.rest.now) c.in-Some.entry.1 (pieces (drop 8 c.loop-rest.rest.now)) entry (piece-IsInner c.loop-rest.rest.now on.text c.loop-rest-test.true) (none_tail c.args.look (world_of c.args.self.now) (suc c.in-Some.entry.1) (pieces (drop 8 c.loop-rest.rest.now)) (pieces c.in-Tail.tail.0) c.in-Tail.tail.1 (ap node_of c.in-Tail.ensures) (met ∙ c.if-met.false)) in
-    rw c.nearer-else-met.ensures (scan_left c.args.look (world_of c.args.self.now) c.args.key.now c.loop-rest.child words c.loop-rest.rest.now on c.loop-rest-test.true c.beyond.result nearest c.beyond.ensures.value none)
+    let none = none_child c.args.look (world_of c.args.self.now) (seat_in c.loop-rest.child) words on.is_level (piece_of c.loop-rest.rest.now) c.in-Some.entry.1
+    (pieces (drop 8 c.loop-rest.rest.now)) entry (piece-IsInner c.loop-rest.rest.now on.text c.loop-rest-test.true)
+    (none_tail c.args.look (world_of c.args.self.now) (suc c.in-Some.entry.1) (pieces (drop 8 c.loop-rest.rest.now)) (pieces c.in-Tail.tail.0) c.in-Tail.tail.1
+    (ap node_of c.in-Tail.ensures) (met ∙ c.if-met.false)) in
+    rw c.nearer-else-met.ensures (scan_left c.args.look (world_of c.args.self.now) c.args.key.now c.loop-rest.child words c.loop-rest.rest.now on c.loop-rest-test.true
+    c.beyond.result nearest c.beyond.ensures.value none)
 
 pub returns-clause-is_turn : goal.returns-clause-is_turn
 returns-clause-is_turn c =
     let words = c.loop-rest.level.now.map in
     let nearest = subst (λ p. IsNearestEntry c.args.look.side c.args.look.itself words p (piece_in c.last_entry.result)) c.loop-rest.invariant.piece c.last_entry.ensures.nearest in
-    rw c.nearer-2.ensures (scan_last c.args.look (world_of c.args.self.now) c.args.key.now c.loop-rest.child words c.loop-rest.rest.now c.loop-rest.invariant.on c.last_entry.result (omega arith) nearest c.last_entry.ensures.value)
+    rw c.nearer-2.ensures (scan_last c.args.look (world_of c.args.self.now) c.args.key.now c.loop-rest.child words c.loop-rest.rest.now c.loop-rest.invariant.on c.last_entry.result
+    (omega arith) nearest c.last_entry.ensures.value)

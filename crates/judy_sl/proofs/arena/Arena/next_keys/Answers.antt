@@ -17,7 +17,8 @@ page_keys-requires-clause-fits c =
     omega (arith, ap (keys_behind_all (world_of c.args.self.now)) page, c.requires.fits)
 
 pub returns-clause-page : goal.returns-clause-page
-returns-clause-page c = page_full c.args.entries.now c.args.page.now c.fill.new.out c.fill.result c.requires.there (omega (arith, c.fill.ensures.count, c.requires.there)) c.fill.auto.out c.fill.ensures.out
+returns-clause-page c =
+    page_full c.args.entries.now c.args.page.now c.fill.new.out c.fill.result c.requires.there (omega (arith, c.fill.ensures.count, c.requires.there)) c.fill.auto.out c.fill.ensures.out
 
 pub returns-clause-keys : goal.returns-clause-keys
 returns-clause-keys c =

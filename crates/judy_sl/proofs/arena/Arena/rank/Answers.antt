@@ -36,7 +36,8 @@ overflow_add-result c =
     let first = first_keys_below c.args.self.now c.requires.is_arena c.args.firsts.now c.requires.firsts (piece_of c.args.key.now) in
     let entry = c.lesser_in.ensures ∙ ap (rank c.args.self.now.root.map) c.first_piece-piece.ensures in
     let more = c.below.ensures ∙ ap (sum_below (entries c.args.firsts.now)) c.first_piece-piece.ensures in
-    let own = c.rank_own.ensures ∙ ap (λ (found : Option ℕ). ranked_own (world_of c.args.self.now) c.args.itself found c.args.key.now) (c.get.ensures ∙ ap (get c.args.self.now.root.map) c.first_piece-piece.ensures) in
+    let own = c.rank_own.ensures ∙ ap (λ (found : Option ℕ). ranked_own (world_of c.args.self.now) c.args.itself found c.args.key.now)
+    (c.get.ensures ∙ ap (get c.args.self.now.root.map) c.first_piece-piece.ensures) in
     let whole = level_ranked c.requires.is_arena.is_world 0 c.args.self.now.root.map refl c.args.itself c.args.key.now (text_of_key c.args.key.now c.requires.is_key) in
     omega (arith, first, entry, more, own, ranked_most c.args.itself (map_of c.args.self.now) c.args.key.now, c.requires.few, whole)
 
@@ -45,6 +46,7 @@ returns c =
     let first = first_keys_below c.args.self.now c.requires.is_arena c.args.firsts.now c.requires.firsts (piece_of c.args.key.now) in
     let entry = c.lesser_in.ensures ∙ ap (rank c.args.self.now.root.map) c.first_piece-piece.ensures in
     let more = c.below.ensures ∙ ap (sum_below (entries c.args.firsts.now)) c.first_piece-piece.ensures in
-    let own = c.rank_own.ensures ∙ ap (λ (found : Option ℕ). ranked_own (world_of c.args.self.now) c.args.itself found c.args.key.now) (c.get.ensures ∙ ap (get c.args.self.now.root.map) c.first_piece-piece.ensures) in
+    let own = c.rank_own.ensures ∙ ap (λ (found : Option ℕ). ranked_own (world_of c.args.self.now) c.args.itself found c.args.key.now)
+    (c.get.ensures ∙ ap (get c.args.self.now.root.map) c.first_piece-piece.ensures) in
     let whole = level_ranked c.requires.is_arena.is_world 0 c.args.self.now.root.map refl c.args.itself c.args.key.now (text_of_key c.args.key.now c.requires.is_key) in
     omega (arith, first, entry, more, own, whole)

@@ -19,7 +19,8 @@ loop-level-init c = record { text = c.requires.is_text; there = c.requires.there
 
 pub keys_before-lesser-requires-clause-told : goal.keys_before-lesser-requires-clause-told
 keys_before-lesser-requires-clause-told c =
-    subst (StandsWith (world_of c.args.self.now) c.in-Level.level.now.map) (sym c.keys_told.ensures) (level_stands c.args.self.now c.requires.counted c.loop-level.at (keys_told (child_at c.args.self.now c.loop-level.at)) c.in-Level.level.now c.in-Level.ensures)
+    subst (StandsWith (world_of c.args.self.now) c.in-Level.level.now.map) (sym c.keys_told.ensures)
+    (level_stands c.args.self.now c.requires.counted c.loop-level.at (keys_told (child_at c.args.self.now c.loop-level.at)) c.in-Level.level.now c.in-Level.ensures)
 
 pub keys_told-requires : goal.keys_told-requires
 keys_told-requires c = level_asked c.args.self.now c.loop-level.at (keys_told (child_at c.args.self.now c.loop-level.at)) c.in-Level.level.now c.in-Level.ensures
@@ -36,7 +37,8 @@ overflow_add-lesser c =
 pub returns-in_default : goal.returns-in_default
 returns-in_default c =
     let none = ap (get c.in-Level.level.now.map) (sym c.first_piece-piece.ensures) ∙ sym c.get-found.ensures ∙ c.in_default.is in
-    let here = rank_absent c.args.itself c.loop-level.rest.now c.loop-level.invariant.text c.requires.is_arena.is_world (suc c.loop-level.at) c.in-Level.level.now.map (ap node_of c.in-Level.ensures) none in
+    let here = rank_absent c.args.itself c.loop-level.rest.now c.loop-level.invariant.text c.requires.is_arena.is_world (suc c.loop-level.at) c.in-Level.level.now.map
+    (ap node_of c.in-Level.ensures) none in
     let before = c.keys_before-lesser.ensures ∙ ap (keys_below (part_len (entry_keys (world_of c.args.self.now))) (entries c.in-Level.level.now.map)) c.first_piece-piece.ensures in
     let whole = c.loop-level.invariant.whole in
     omega arith
@@ -44,7 +46,8 @@ returns-in_default c =
 pub overflow_add-result : goal.overflow_add-result
 overflow_add-result c =
     let entry = ap (get c.in-Level.level.now.map) (sym c.first_piece-piece.ensures) ∙ sym c.get-found.ensures ∙ c.in-Some.is in
-    let here = rank_final c.args.itself c.loop-level.rest.now c.loop-level.invariant.text c.requires.is_arena.is_world (suc c.loop-level.at) c.in-Level.level.now.map (ap node_of c.in-Level.ensures) c.if-rest-lt8.true c.in-Some.next entry in
+    let here = rank_final c.args.itself c.loop-level.rest.now c.loop-level.invariant.text c.requires.is_arena.is_world (suc c.loop-level.at) c.in-Level.level.now.map
+    (ap node_of c.in-Level.ensures) c.if-rest-lt8.true c.in-Some.next entry in
     let before = c.keys_before-lesser.ensures ∙ ap (keys_below (part_len (entry_keys (world_of c.args.self.now))) (entries c.in-Level.level.now.map)) c.first_piece-piece.ensures in
     let whole = c.loop-level.invariant.whole in
     let all = ranked_most c.args.itself (map_behind (world_of c.args.self.now) (suc c.args.child)) c.args.key.now in
@@ -55,7 +58,8 @@ overflow_add-result c =
 pub returns-then-rest-lt8 : goal.returns-then-rest-lt8
 returns-then-rest-lt8 c =
     let entry = ap (get c.in-Level.level.now.map) (sym c.first_piece-piece.ensures) ∙ sym c.get-found.ensures ∙ c.in-Some.is in
-    let here = rank_final c.args.itself c.loop-level.rest.now c.loop-level.invariant.text c.requires.is_arena.is_world (suc c.loop-level.at) c.in-Level.level.now.map (ap node_of c.in-Level.ensures) c.if-rest-lt8.true c.in-Some.next entry in
+    let here = rank_final c.args.itself c.loop-level.rest.now c.loop-level.invariant.text c.requires.is_arena.is_world (suc c.loop-level.at) c.in-Level.level.now.map
+    (ap node_of c.in-Level.ensures) c.if-rest-lt8.true c.in-Some.next entry in
     let before = c.keys_before-lesser.ensures ∙ ap (keys_below (part_len (entry_keys (world_of c.args.self.now))) (entries c.in-Level.level.now.map)) c.first_piece-piece.ensures in
     let whole = c.loop-level.invariant.whole in
     let one = c.from.ensures ∙ one_told c.args.itself in
@@ -64,13 +68,16 @@ returns-then-rest-lt8 c =
 pub loop-level-preserved : goal.loop-level-preserved
 loop-level-preserved c =
     let entry = ap (get c.in-Level.level.now.map) (sym c.first_piece-piece.ensures) ∙ sym c.get-found.ensures ∙ c.in-Some.is in
-    let here = rank_inner c.args.itself c.loop-level.rest.now c.loop-level.invariant.text c.requires.is_arena.is_world (suc c.loop-level.at) c.in-Level.level.now.map (ap node_of c.in-Level.ensures) c.if-rest-lt8.false c.in-Some.next entry in
+    let here = rank_inner c.args.itself c.loop-level.rest.now c.loop-level.invariant.text c.requires.is_arena.is_world (suc c.loop-level.at) c.in-Level.level.now.map
+    (ap node_of c.in-Level.ensures) c.if-rest-lt8.false c.in-Some.next entry in
     let before = c.keys_before-lesser.ensures ∙ ap (keys_below (part_len (entry_keys (world_of c.args.self.now))) (entries c.in-Level.level.now.map)) c.first_piece-piece.ensures in
     let whole = c.loop-level.invariant.whole in
     let inner = piece-IsInner c.loop-level.rest.now c.loop-level.invariant.text c.if-rest-lt8.false in
     rw take_rest (record {
       text = text-drop 8 c.loop-level.rest.now c.loop-level.invariant.text;
-      there = taken_of c.args.self.now c.in-Some.next (((c.requires.is_arena.is_world.levels (suc c.loop-level.at) c.in-Level.level.now.map (ap node_of c.in-Level.ensures)).leads (piece_of c.loop-level.rest.now) c.in-Some.next entry inner).1);
+      there =
+          taken_of c.args.self.now c.in-Some.next (((c.requires.is_arena.is_world.levels (suc c.loop-level.at) c.in-Level.level.now.map (ap node_of c.in-Level.ensures)).leads
+          (piece_of c.loop-level.rest.now) c.in-Some.next entry inner).1);
       whole = omega arith;
     })
 

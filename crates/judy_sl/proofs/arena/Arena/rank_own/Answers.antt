@@ -14,7 +14,8 @@ returns-then-key-lt8 c =
     c.from.ensures
     ∙ one_told c.args.itself
     ∙ sym (ap (λ (found : Option ℕ). ranked_own (world_of c.args.self.now) c.args.itself found c.args.key.now) c.in-Some.is
-    ∙ ap (λ b. cond b (one_if c.args.itself) (ranked c.args.itself (map_behind (world_of c.args.self.now) (suc c.in-Some.at)) (drop 8 c.args.key.now))) (lt-ltb (length c.args.key.now) 8 c.if-key-lt8.true))
+    ∙ ap (λ b. cond b (one_if c.args.itself) (ranked c.args.itself (map_behind (world_of c.args.self.now) (suc c.in-Some.at)) (drop 8 c.args.key.now)))
+    (lt-ltb (length c.args.key.now) 8 c.if-key-lt8.true))
 
 pub rank_behind-requires-clause-there : goal.rank_behind-requires-clause-there
 rank_behind-requires-clause-there c = (c.requires.leads c.in-Some.at c.in-Some.is c.if-key-lt8.false).0
@@ -30,4 +31,5 @@ returns c =
     c.rank_behind.ensures
     ∙ ap (ranked c.args.itself (map_behind (world_of c.args.self.now) (suc c.in-Some.at))) (take_rest c.args.key.now 8)
     ∙ sym (ap (λ (found : Option ℕ). ranked_own (world_of c.args.self.now) c.args.itself found c.args.key.now) c.in-Some.is
-    ∙ ap (λ b. cond b (one_if c.args.itself) (ranked c.args.itself (map_behind (world_of c.args.self.now) (suc c.in-Some.at)) (drop 8 c.args.key.now))) (le-ltb (length c.args.key.now) 8 c.if-key-lt8.false))
+    ∙ ap (λ b. cond b (one_if c.args.itself) (ranked c.args.itself (map_behind (world_of c.args.self.now) (suc c.in-Some.at)) (drop 8 c.args.key.now)))
+    (le-ltb (length c.args.key.now) 8 c.if-key-lt8.false))

@@ -17,7 +17,8 @@ record PageBack (world : World) (all page : Pairs) (start end before keys : ℕ)
   split : before ≡ keys_behind_all world (take start all) + keys
   behind : keys ≡ keys_behind_all world (take (end - start) (drop start all))
 
-page_back : (world : World) (all left page : Pairs) (start end before keys long : ℕ) → start ≤ end → before ≡ keys_behind_all world (take end all) → left ≡ drop start all → long ≡ end - start → page ≡ take long left → keys ≡ keys_behind_all world (take long left) → PageBack world all page start end before keys
+page_back : (world : World) (all left page : Pairs) (start end before keys long : ℕ) → start ≤ end → before ≡ keys_behind_all world (take end all) →
+    left ≡ drop start all → long ≡ end - start → page ≡ take long left → keys ≡ keys_behind_all world (take long left) → PageBack world all page start end before keys
 page_back world all left page start end before keys long least told is fills read count =
     let same = ap (λ n. take n left) fills ∙ ap (take (end - start)) is in
     let more = front_more world all start end least in
@@ -66,27 +67,36 @@ next_keys-before-requires-clause-fits c =
 pub overflow_sub-before : goal.overflow_sub-before
 overflow_sub-before c =
     let opened = length-take-le (c.pages.end - c.saturating_sub-start.result) c.pages.page (omega (arith, c.saturating_sub-start.ensures, c.pages.invariant.room)) in
-    let back = page_back (world_of c.args.self.now) (entries c.args.level.now.map) c.entries_at-entries.result c.next_keys-before.new.page c.saturating_sub-start.result c.pages.end c.pages.before c.next_keys-before.result _ (omega (arith, c.saturating_sub-start.ensures)) c.pages.invariant.told c.entries_at-entries.ensures opened c.next_keys-before.ensures.page c.next_keys-before.ensures.keys in
+    let back = page_back (world_of c.args.self.now) (entries c.args.level.now.map) c.entries_at-entries.result c.next_keys-before.new.page c.saturating_sub-start.result
+    c.pages.end c.pages.before c.next_keys-before.result _ (omega (arith, c.saturating_sub-start.ensures)) c.pages.invariant.told c.entries_at-entries.ensures
+    opened c.next_keys-before.ensures.page c.next_keys-before.ensures.keys in
     omega (arith, back.split)
 
 pub page_spot-requires-clause-leads : goal.page_spot-requires-clause-leads
 page_spot-requires-clause-leads c =
     let opened = length-take-le (c.pages.end - c.saturating_sub-start.result) c.pages.page (omega (arith, c.saturating_sub-start.ensures, c.pages.invariant.room)) in
-    let back = page_back (world_of c.args.self.now) (entries c.args.level.now.map) c.entries_at-entries.result c.next_keys-before.new.page c.saturating_sub-start.result c.pages.end c.pages.before c.next_keys-before.result _ (omega (arith, c.saturating_sub-start.ensures)) c.pages.invariant.told c.entries_at-entries.ensures opened c.next_keys-before.ensures.page c.next_keys-before.ensures.keys in
+    let back = page_back (world_of c.args.self.now) (entries c.args.level.now.map) c.entries_at-entries.result c.next_keys-before.new.page c.saturating_sub-start.result
+    c.pages.end c.pages.before c.next_keys-before.result _ (omega (arith, c.saturating_sub-start.ensures)) c.pages.invariant.told c.entries_at-entries.ensures
+    opened c.next_keys-before.ensures.page c.next_keys-before.ensures.keys in
     let world = world_of c.args.self.now in
     let start = c.saturating_sub-start.result in
-    subst (λ (pairs : Pairs). All (LeadsOn world) pairs) (sym back.same) (All-take (LeadsOn world) (c.pages.end - start) (drop start (entries c.args.level.now.map)) (All-drop (LeadsOn world) start (entries c.args.level.now.map) c.requires.leads))
+    subst (λ (pairs : Pairs). All (LeadsOn world) pairs) (sym back.same) (All-take (LeadsOn world) (c.pages.end - start) (drop start (entries c.args.level.now.map))
+    (All-drop (LeadsOn world) start (entries c.args.level.now.map) c.requires.leads))
 
 pub unreachable-requires : goal.unreachable-requires
 unreachable-requires c =
     let opened = length-take-le (c.pages.end - c.saturating_sub-start.result) c.pages.page (omega (arith, c.saturating_sub-start.ensures, c.pages.invariant.room)) in
-    let back = page_back (world_of c.args.self.now) (entries c.args.level.now.map) c.entries_at-entries.result c.next_keys-before.new.page c.saturating_sub-start.result c.pages.end c.pages.before c.next_keys-before.result _ (omega (arith, c.saturating_sub-start.ensures)) c.pages.invariant.told c.entries_at-entries.ensures opened c.next_keys-before.ensures.page c.next_keys-before.ensures.keys in
+    let back = page_back (world_of c.args.self.now) (entries c.args.level.now.map) c.entries_at-entries.result c.next_keys-before.new.page c.saturating_sub-start.result
+    c.pages.end c.pages.before c.next_keys-before.result _ (omega (arith, c.saturating_sub-start.ensures)) c.pages.invariant.told c.entries_at-entries.ensures
+    opened c.next_keys-before.ensures.page c.next_keys-before.ensures.keys in
     omega (arith, back.split, back.behind, ap (keys_behind_all (world_of c.args.self.now)) back.same, c.pages.invariant.sought, c.if-before-place.true, c.in_default.ensures)
 
 pub returns-then-before-place : goal.returns-then-before-place
 returns-then-before-place c =
     let opened = length-take-le (c.pages.end - c.saturating_sub-start.result) c.pages.page (omega (arith, c.saturating_sub-start.ensures, c.pages.invariant.room)) in
-    let back = page_back (world_of c.args.self.now) (entries c.args.level.now.map) c.entries_at-entries.result c.next_keys-before.new.page c.saturating_sub-start.result c.pages.end c.pages.before c.next_keys-before.result _ (omega (arith, c.saturating_sub-start.ensures)) c.pages.invariant.told c.entries_at-entries.ensures opened c.next_keys-before.ensures.page c.next_keys-before.ensures.keys in
+    let back = page_back (world_of c.args.self.now) (entries c.args.level.now.map) c.entries_at-entries.result c.next_keys-before.new.page c.saturating_sub-start.result
+    c.pages.end c.pages.before c.next_keys-before.result _ (omega (arith, c.saturating_sub-start.ensures)) c.pages.invariant.told c.entries_at-entries.ensures
+    opened c.next_keys-before.ensures.page c.next_keys-before.ensures.keys in
     let world = world_of c.args.self.now in
     let all = entries c.args.level.now.map in
     let start = c.saturating_sub-start.result in
@@ -102,7 +112,9 @@ returns-then-before-place c =
 pub pages-preserved : goal.pages-preserved
 pages-preserved c =
     let opened = length-take-le (c.pages.end - c.saturating_sub-start.result) c.pages.page (omega (arith, c.saturating_sub-start.ensures, c.pages.invariant.room)) in
-    let back = page_back (world_of c.args.self.now) (entries c.args.level.now.map) c.entries_at-entries.result c.next_keys-before.new.page c.saturating_sub-start.result c.pages.end c.pages.before c.next_keys-before.result _ (omega (arith, c.saturating_sub-start.ensures)) c.pages.invariant.told c.entries_at-entries.ensures opened c.next_keys-before.ensures.page c.next_keys-before.ensures.keys in
+    let back = page_back (world_of c.args.self.now) (entries c.args.level.now.map) c.entries_at-entries.result c.next_keys-before.new.page c.saturating_sub-start.result
+    c.pages.end c.pages.before c.next_keys-before.result _ (omega (arith, c.saturating_sub-start.ensures)) c.pages.invariant.told c.entries_at-entries.ensures
+    opened c.next_keys-before.ensures.page c.next_keys-before.ensures.keys in
     let split = back.split in
     let past = c.if-before-place.false in
     let start = c.saturating_sub-start.ensures in

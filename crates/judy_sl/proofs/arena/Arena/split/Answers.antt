@@ -14,7 +14,9 @@ use Rattle.judy_sl.proofs.arena.Arena.split.Goals as goal
 done : (c : After-graft-top) → IsGrafted c.make_room.new.self c.graft-top.new.self c.args.key.now c.args.left c.graft-top.result
 done c =
     c.graft-top.ensures c.make_room.new.self c.args.key.now c.args.left c.in_ok-made.made
-    (split-graft c.args.self.now c.requires.is_arena c.requires.led c.requires.counted c.args.key.now c.requires.is_key c.args.from c.args.at c.args.left c.requires.clash c.read_tail-value.new.key.items c.as_slice.result.now c.read_tail-value.result c.read_tail-value.ensures c.as_slice.ensures.value c.in_ok-made.made c.in_ok-made.ensures c.make_room.new.self c.make_room.ensures.same)
+    (split-graft c.args.self.now c.requires.is_arena c.requires.led c.requires.counted c.args.key.now c.requires.is_key c.args.from c.args.at c.args.left
+    c.requires.clash c.read_tail-value.new.key.items c.as_slice.result.now c.read_tail-value.result c.read_tail-value.ensures c.as_slice.ensures.value c.in_ok-made.made
+    c.in_ok-made.ensures c.make_room.new.self c.make_room.ensures.same)
     c.in_ok-hang_both.ensures.hung
 
 pub read_tail-value-requires-clause-tail : goal.read_tail-value-requires-clause-tail
@@ -22,13 +24,18 @@ read_tail-value-requires-clause-tail c = clash-tail c.args.self.now c.args.key.n
 
 pub hang_both-requires : goal.hang_both-requires
 hang_both-requires c =
-    split-sound c.args.self.now c.requires.is_arena c.requires.led c.requires.counted c.args.key.now c.requires.is_key c.args.from c.args.at c.args.left c.requires.clash c.read_tail-value.new.key.items c.as_slice.result.now c.read_tail-value.result c.read_tail-value.ensures c.as_slice.ensures.value c.in_ok-made.made c.in_ok-made.ensures
+    split-sound c.args.self.now c.requires.is_arena c.requires.led c.requires.counted c.args.key.now c.requires.is_key c.args.from c.args.at c.args.left
+    c.requires.clash c.read_tail-value.new.key.items c.as_slice.result.now c.read_tail-value.result c.read_tail-value.ensures c.as_slice.ensures.value c.in_ok-made.made c.in_ok-made.ensures
 
 pub graft-top-requires-clause-taken : goal.graft-top-requires-clause-taken
-graft-top-requires-clause-taken c = hung-taken c.args.self.now c.args.key.now c.args.from c.args.at c.args.left c.requires.clash c.make_room.new.self c.hang_both.new.self c.make_room.ensures.same c.in_ok-made.made c.hang_both.new.branch c.in_ok-hang_both.ensures.hung
+graft-top-requires-clause-taken c =
+    hung-taken c.args.self.now c.args.key.now c.args.from c.args.at c.args.left c.requires.clash c.make_room.new.self c.hang_both.new.self c.make_room.ensures.same
+    c.in_ok-made.made c.hang_both.new.branch c.in_ok-hang_both.ensures.hung
 
 pub graft-top-requires-clause-entry : goal.graft-top-requires-clause-entry
-graft-top-requires-clause-entry c = hung-entry c.args.self.now c.args.key.now c.args.from c.args.at c.args.left c.requires.clash c.make_room.new.self c.hang_both.new.self c.make_room.ensures.same c.in_ok-made.made c.hang_both.new.branch c.in_ok-hang_both.ensures.hung
+graft-top-requires-clause-entry c =
+    hung-entry c.args.self.now c.args.key.now c.args.from c.args.at c.args.left c.requires.clash c.make_room.new.self c.hang_both.new.self c.make_room.ensures.same
+    c.in_ok-made.made c.hang_both.new.branch c.in_ok-hang_both.ensures.hung
 
 -- The way goes on from the top level, which is there.
 pub child-requires : goal.child-requires
@@ -57,15 +64,18 @@ walk_on-requires-clause-on c =
 
 pub unreachable-requires-in-Gap : goal.unreachable-requires-in-Gap
 unreachable-requires-in-Gap c =
-    split-gap c.args.self.now c.make_room.new.self c.graft-top.new.self c.args.key.now c.make_room.ensures.same (done (goal.at.unreachable-requires-in-Gap c).After-graft-top) c.in-Gap.field-0 c.in-Gap.field-1 (c.in-Gap.ensures.way (text_of_key c.args.key.now c.requires.is_key))
+    split-gap c.args.self.now c.make_room.new.self c.graft-top.new.self c.args.key.now c.make_room.ensures.same
+    (done (goal.at.unreachable-requires-in-Gap c).After-graft-top) c.in-Gap.field-0 c.in-Gap.field-1 (c.in-Gap.ensures.way (text_of_key c.args.key.now c.requires.is_key))
 
 pub unreachable-requires-in-Clash : goal.unreachable-requires-in-Clash
 unreachable-requires-in-Clash c =
-    split-clash c.args.self.now c.make_room.new.self c.graft-top.new.self c.args.key.now c.make_room.ensures.same (done (goal.at.unreachable-requires-in-Clash c).After-graft-top) c.in-Clash.field-0 c.in-Clash.field-1 c.in-Clash.field-2 (c.in-Clash.ensures.way (text_of_key c.args.key.now c.requires.is_key))
+    split-clash c.args.self.now c.make_room.new.self c.graft-top.new.self c.args.key.now c.make_room.ensures.same
+    (done (goal.at.unreachable-requires-in-Clash c).After-graft-top) c.in-Clash.field-0 c.in-Clash.field-1 c.in-Clash.field-2 (c.in-Clash.ensures.way (text_of_key c.args.key.now c.requires.is_key))
 
 pub returns-clause-added : goal.returns-clause-added
 returns-clause-added c =
-    split-added c.args.self.now c.make_room.new.self c.graft-top.new.self c.args.key.now c.make_room.ensures.same (done (goal.at.returns-clause-added c).After-graft-top) c.in-At.place (c.in-At.ensures.way (text_of_key c.args.key.now c.requires.is_key))
+    split-added c.args.self.now c.make_room.new.self c.graft-top.new.self c.args.key.now c.make_room.ensures.same (done (goal.at.returns-clause-added c).After-graft-top) c.in-At.place
+    (c.in-At.ensures.way (text_of_key c.args.key.now c.requires.is_key))
 
 pub returns-clause-counted : goal.returns-clause-counted
 returns-clause-counted c = split-counted c.args.self.now c.make_room.new.self c.graft-top.new.self c.args.key.now c.make_room.ensures.same (done (goal.at.returns-clause-counted c).After-graft-top)

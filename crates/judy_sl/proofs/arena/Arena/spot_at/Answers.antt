@@ -37,8 +37,10 @@ pub returns-then-entries-eq1 : goal.returns-then-entries-eq1
 returns-then-entries-eq1 c =
     let one = sym c.len-entries.ensures.count ∙ c.if-entries-eq1.true in
     let spot = c.entry_spot-then-entries-eq1.result in
-    subst (λ left. IsSpotOf (world_of c.args.self.now) c.args.level.now.map c.args.place (record { piece = spot.piece; value = spot.value; place = left })) (sym c.entry_spot-then-entries-eq1.ensures.place)
-    (only_spot (world_of c.args.self.now) c.args.level.now.map c.args.place spot.piece spot.value one c.entry_spot-then-entries-eq1.ensures.at c.entry_spot-then-entries-eq1.ensures.held c.requires.within)
+    subst (λ left. IsSpotOf (world_of c.args.self.now) c.args.level.now.map c.args.place (record { piece = spot.piece; value = spot.value; place = left }))
+    (sym c.entry_spot-then-entries-eq1.ensures.place)
+    (only_spot (world_of c.args.self.now) c.args.level.now.map c.args.place spot.piece spot.value one c.entry_spot-then-entries-eq1.ensures.at
+    c.entry_spot-then-entries-eq1.ensures.held c.requires.within)
 
 pub read_spot-requires-clause-leads : goal.read_spot-requires-clause-leads
 read_spot-requires-clause-leads c =
@@ -65,7 +67,9 @@ read_back-requires-clause-within c =
     omega (arith, all, stands.told, c.requires.within, c.from-keys.ensures)
 
 pub returns-then-place-keys : goal.returns-then-place-keys
-returns-then-place-keys c = spot_of (world_of c.args.self.now) c.args.level.now.map c.args.place c.read_spot.result (subst (λ (all : List (ℕ × ℕ)). IsSpotIn (world_of c.args.self.now) all c.args.place c.read_spot.result) c.iter.ensures c.read_spot.ensures)
+returns-then-place-keys c =
+    spot_of (world_of c.args.self.now) c.args.level.now.map c.args.place c.read_spot.result (subst (λ (all : List (ℕ × ℕ)). IsSpotIn
+    (world_of c.args.self.now) all c.args.place c.read_spot.result) c.iter.ensures c.read_spot.ensures)
 
 pub returns-else-place-keys : goal.returns-else-place-keys
 returns-else-place-keys c = spot_of (world_of c.args.self.now) c.args.level.now.map c.args.place c.read_back.result c.read_back.ensures

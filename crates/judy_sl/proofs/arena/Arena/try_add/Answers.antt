@@ -16,7 +16,8 @@ use Rattle.judy_sl.proofs.arena.Arena.try_add.Goals as goal
 pub returns-in_err-added-clause-absent : goal.returns-in_err-added-clause-absent
 returns-in_err-added-clause-absent c =
     let key = c.is_key.ensures.0 c.if-not-is_key.false in
-    shown-refused _ c.from_residual.result c.from_residual.ensures.1 (first-absent c.args.self.now c.requires.is_arena c.args.key.now key c.first_piece-piece.result c.first_piece-piece.ensures c.in_err-added.ensures.absent)
+    shown-refused _ c.from_residual.result c.from_residual.ensures.1 (first-absent c.args.self.now c.requires.is_arena c.args.key.now key c.first_piece-piece.result
+    c.first_piece-piece.ensures c.in_err-added.ensures.absent)
 
 pub returns-in-Ok-clause-absent : goal.returns-in-Ok-clause-absent
 returns-in-Ok-clause-absent c =
@@ -78,7 +79,8 @@ pub returns-in-Ok-clause-counted : goal.returns-in-Ok-clause-counted
 returns-in-Ok-clause-counted c =
     let key = c.is_key.ensures.0 c.if-not-is_key.false in
     let added = sym c.if-not-added.false ∙ c.in_ok-added.ensures.answer in
-    tried-counted c.args.self.now c.requires.is_arena c.requires.led c.requires.counted c.args.key.now key c.first_piece-piece.result c.first_piece-piece.ensures (put-absent c.args.self.now.root.map c.first_piece-piece.result added)
+    tried-counted c.args.self.now c.requires.is_arena c.requires.led c.requires.counted c.args.key.now key c.first_piece-piece.result c.first_piece-piece.ensures
+    (put-absent c.args.self.now.root.map c.first_piece-piece.result added)
     c.put_if_absent.new.self c.put_tail_next.new.self c.next_place-next.result _ _ (words_is c) c.in-Ok.ensures.put (returns-in-Ok-clause-added c)
 
 pub returns-in-Err-clause-counted : goal.returns-in-Err-clause-counted

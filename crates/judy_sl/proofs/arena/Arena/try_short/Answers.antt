@@ -12,7 +12,8 @@ use Rattle.judy_sl.proofs.arena.Arena.try_short.Goals as goal
 pub returns-in_err-added-clause-absent : goal.returns-in_err-added-clause-absent
 returns-in_err-added-clause-absent c =
     let key = c.is_key.ensures.0 c.if-not-is_key.false in
-    shown-refused _ c.from_residual.result c.from_residual.ensures.1 (first-absent c.args.self.now c.requires.is_arena c.args.key.now key c.first_piece-piece.result c.first_piece-piece.ensures c.in_err-added.ensures.absent)
+    shown-refused _ c.from_residual.result c.from_residual.ensures.1 (first-absent c.args.self.now c.requires.is_arena c.args.key.now key c.first_piece-piece.result
+    c.first_piece-piece.ensures c.in_err-added.ensures.absent)
 
 pub returns-then-added-clause-absent : goal.returns-then-added-clause-absent
 returns-then-added-clause-absent c =
@@ -23,7 +24,8 @@ pub returns-then-added-clause-added : goal.returns-then-added-clause-added
 returns-then-added-clause-added c =
     let none = put-absent c.args.self.now.root.map c.first_piece-piece.result (sym c.if-added.true ∙ c.in_ok-added.ensures.answer) in
     let words = c.in_ok-added.ensures.put ∙ ap (with_map c.args.self.now.root) (put-new c.args.self.now.root.map c.first_piece-piece.result 0 (sym c.if-added.true ∙ c.in_ok-added.ensures.answer)) in
-    short-added c.args.self.now c.requires.is_arena c.args.key.now (c.is_key.ensures.0 c.if-not-is_key.false) c.first_piece-piece.result c.first_piece-piece.ensures none c.put_if_absent.new.self words c.requires.short
+    short-added c.args.self.now c.requires.is_arena c.args.key.now (c.is_key.ensures.0 c.if-not-is_key.false) c.first_piece-piece.result c.first_piece-piece.ensures
+    none c.put_if_absent.new.self words c.requires.short
 
 pub returns-then-added-clause-first : goal.returns-then-added-clause-first
 returns-then-added-clause-first c =
@@ -34,7 +36,8 @@ pub returns-then-added-clause-counted : goal.returns-then-added-clause-counted
 returns-then-added-clause-counted c =
     let none = put-absent c.args.self.now.root.map c.first_piece-piece.result (sym c.if-added.true ∙ c.in_ok-added.ensures.answer) in
     let words = c.in_ok-added.ensures.put ∙ ap (with_map c.args.self.now.root) (put-new c.args.self.now.root.map c.first_piece-piece.result 0 (sym c.if-added.true ∙ c.in_ok-added.ensures.answer)) in
-    short-counted c.args.self.now c.requires.is_arena c.requires.led c.requires.counted c.args.key.now (c.is_key.ensures.0 c.if-not-is_key.false) c.first_piece-piece.result c.first_piece-piece.ensures none c.put_if_absent.new.self words (returns-then-added-clause-added c)
+    short-counted c.args.self.now c.requires.is_arena c.requires.led c.requires.counted c.args.key.now
+    (c.is_key.ensures.0 c.if-not-is_key.false) c.first_piece-piece.result c.first_piece-piece.ensures none c.put_if_absent.new.self words (returns-then-added-clause-added c)
 
 pub returns-else-added-clause-counted : goal.returns-else-added-clause-counted
 returns-else-added-clause-counted c =

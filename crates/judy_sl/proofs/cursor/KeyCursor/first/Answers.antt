@@ -1,4 +1,5 @@
 use Rattle.std.proofs.Common.{true}
+use Rattle.judy_tails.specs.Rooms.{bytes_in}
 use Rattle.judy_sl.specs.Arenas.{world_of}
 use Rattle.judy_sl.specs.Scans.{upward}
 use Rattle.judy_sl.proofs.lemmas.scans.ScanMaps.{scanned}
@@ -6,14 +7,25 @@ use Rattle.judy_sl.proofs.lemmas.scans.RunWays.{text_after}
 use Rattle.judy_sl.proofs.cursor.KeyCursor.first.Goals as goal
 
 pub invariant_of-self : goal.invariant_of-self
-invariant_of-self c = record {
-  is_arena = c.self.invariant.is_arena;
-  is_text = text_after (upward true) (world_of c.self.inside.arena.now) c.self.inside.key c.seek.new.key c.seek.result c.self.invariant.is_text c.seek.ensures.neighbour;
-  leads = c.seek.ensures.leads;
-}
+invariant_of-self c =
+    let key = bytes_in c.self.inside.key in
+    let after = bytes_in c.seek.new.key in (
+      c.seek.ensures.whole,
+      record {
+        is_arena = c.self.invariant.1.is_arena;
+        is_text = text_after (upward true) (world_of c.self.inside.arena.now) key after c.seek.result c.self.invariant.1.is_text c.seek.ensures.neighbour;
+        leads = c.seek.ensures.leads;
+      },
+    )
 
 pub returns-clause-key : goal.returns-clause-key
-returns-clause-key c = rw (← c.self.view_is) (scanned (upward true) c.self.inside.arena.now c.self.inside.key c.self.invariant.is_text c.seek.new.key c.seek.result c.seek.ensures.neighbour).0
+returns-clause-key c =
+    let key = bytes_in c.self.inside.key in
+    let after = bytes_in c.seek.new.key in
+    rw (← c.self.view_is) (scanned (upward true) c.self.inside.arena.now key c.self.invariant.1.is_text after c.seek.result c.seek.ensures.neighbour).0
 
 pub returns-clause-value : goal.returns-clause-value
-returns-clause-value c = rw (← c.self.view_is) (scanned (upward true) c.self.inside.arena.now c.self.inside.key c.self.invariant.is_text c.seek.new.key c.seek.result c.seek.ensures.neighbour).1
+returns-clause-value c =
+    let key = bytes_in c.self.inside.key in
+    let after = bytes_in c.seek.new.key in
+    rw (← c.self.view_is) (scanned (upward true) c.self.inside.arena.now key c.self.invariant.1.is_text after c.seek.result c.seek.ensures.neighbour).1

@@ -13,7 +13,8 @@ loop-words-init c =
       tt,
       tt,
       λ index words found.
-          let here : get c.self.inside.words index ≡ Some words = sym (words-here c.self.inside.words c.self.inside.numbers.items index) ∙ ap (λ (levels : Slab LevelParts). words_in (get levels index)) c.self.view_is ∙ found in
+          let here : get c.self.inside.words index ≡ Some words = sym (words-here c.self.inside.words c.self.inside.numbers.items index) ∙
+          ap (λ (levels : Slab LevelParts). words_in (get levels index)) c.self.view_is ∙ found in
           inl (rw left ((Contains-entries c.self.inside.words index words).1 here)),
     )
 

@@ -31,7 +31,12 @@ returns-clause-put c =
     let after = c.insert_reserved-index.new.self in
     let all = all-numbered c.self.inside.words numbers c.args.self.now c.self.view_is c.requires in
     subst (λ (levels : Slab LevelParts). Updates levels (side_by_side after (set numbers index c.args.keys)) index (parts_of c.args.keys (Some c.args.words))) c.self.view_is
-    (put-both c.self.inside.words after numbers index c.args.keys (Some c.args.words) (omega (arith, all, c.insert_reserved-index.ensures.key_in_range, c.insert_reserved-index.ensures.capacity)) c.insert_reserved-index.ensures.updates)
+    (put-both c.self.inside.words after numbers index c.args.keys (Some c.args.words) (omega (
+      arith,
+      all,
+      c.insert_reserved-index.ensures.key_in_range,
+      c.insert_reserved-index.ensures.capacity,
+    )) c.insert_reserved-index.ensures.updates)
 
 pub returns-clause-len : goal.returns-clause-len
 returns-clause-len c =

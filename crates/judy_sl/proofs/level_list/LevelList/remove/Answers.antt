@@ -16,5 +16,7 @@ returns c =
     let numbers = c.self.inside.numbers.items in
     record {
       words = subst (λ (levels : Slab LevelParts). words_in (get levels c.args.index) ≡ Some c.remove.result) c.self.view_is (words-here words numbers c.args.index ∙ c.remove.ensures.value);
-      removed = subst (λ (levels : Slab LevelParts). Updates levels (side_by_side c.remove.new.self numbers) c.args.index None) c.self.view_is (updated words c.remove.new.self numbers c.args.index None c.remove.ensures.updates);
+      removed =
+          subst (λ (levels : Slab LevelParts). Updates levels (side_by_side c.remove.new.self numbers) c.args.index None) c.self.view_is
+          (updated words c.remove.new.self numbers c.args.index None c.remove.ensures.updates);
     }

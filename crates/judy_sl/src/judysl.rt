@@ -1,0 +1,263 @@
+//! The array that maps keys without zero bytes to words.
+
+ghost use Rattle.std.specs.Prelude.{◌≡◌, ◌+◌, ◌*◌, ◌<◌, ◌≤◌, ◌↔◌, length, Some, IfOk, OnOk, IfErr, IsTrue, IsFalse};
+ghost use Rattle.std.specs.Borrow.{sem};
+ghost use Rattle.std.specs.FinMap as map;
+ghost use Rattle.std.specs.Option.{option_copied_mut};
+ghost use Rattle.judy_model.specs.Arrays as array;
+ghost use Rattle.judy_model.specs.Keys.{IsStringKey};
+ghost use Rattle.judy_sl.specs.Pieces.{EndsWell};
+ghost use Rattle.judy_sl.specs.Lends.{LendsSlot, LendsIns, IsRefusal};
+
+use crate::arena::{Arena, Way};
+use crate::error::SlError;
+use crate::firsts;
+use crate::keys::is_key;
+use crate::passed::{FEW_PIECES, MOST_PIECES, Passed, are_few};
+use crate::pieces::ends_in_zero;
+use judy_sums::Sums;
+use std::alloc::Global;
+use std::marker::Model;
+
+/// An array that maps keys, strings of at most 1,024 bytes without zeros, to words. It holds at most as many keys
+/// as its limit (limit: this project's own).
+#[derive(Drop)]
+pub struct JudySl {
+    limit: u64,
+    count: u64,
+    pub(crate) arena: Arena,
+    // How many keys begin with each first piece, less one.
+    pub(crate) firsts: Sums,
+    // Whether one of the last two inserts put a key in whose first piece led nowhere. The next one is then tried as
+    // such a one, which finds its place and puts it in by one way down the first level.
+    expects_new: bool,
+    // Whether the last one did.
+    added: bool,
+}
+
+impl Model for JudySl {
+    ghost use Rattle.std.specs.Coded.{coded_list, coded_ℕ};
+    ghost use Rattle.judy_model.specs.Keys.{byte_order};
+    ghost use Rattle.judy_model.specs.Arrays.{ArrayOf, array_code};
+
+    ghost Value = { ArrayOf byte_order };
+
+    ghost coded = { array_code (coded_list coded_ℕ) };
+
+    ghost use Rattle.judy_sl.specs.Arenas.{array_of, map_of, IsStrings};
+    ghost use Rattle.judy_sl.specs.Counted.{AreCounted};
+    ghost use Rattle.judy_sl.specs.Firsts.{AreFirsts};
+
+    ghost view = { λ a. array_of a.limit a.arena };
+
+    ghost invariant = { λ a. IsStrings a.limit a.count a.arena × AreCounted a.arena
+        × AreFirsts (map_of a.arena) a.firsts };
+}
+
+impl JudySl {
+    ghost use Rattle.judy_sl.specs.Arenas.{array_of, map_of, IsStrings};
+    ghost use Rattle.judy_sl.specs.Counted.{AreCounted};
+    ghost use Rattle.judy_sl.specs.Firsts.{AreFirsts};
+
+    /// The empty array that holds at most `limit` keys, from 1 to 4,294,967,295 (limit: this project's own).
+    /// It asks for no memory before the first insert.
+    pub fn new(alloc: Global, limit: u64) -> JudySl
+        requires some { 1 ≤ limit }
+        requires most { limit ≤ 4294967295 }
+        ensures { result ≡ array.empty_array limit }
+    {
+        JudySl {
+            limit,
+            count: 0,
+            arena: Arena::new(alloc),
+            firsts: Sums::new(alloc),
+            expects_new: true,
+            added: true,
+        }
+    }
+
+    // The array of an arena in which no two keys begin with the same piece.
+    pub(crate) fn of(limit: u64, count: u64, arena: Arena) -> JudySl
+        requires strings { IsStrings limit count arena }
+        requires counted { AreCounted arena }
+        requires firsts { AreFirsts (map_of arena) map.empty }
+        ensures { result ≡ array_of limit arena }
+    {
+        let firsts = Sums::new(arena.alloc);
+        JudySl {
+            limit,
+            count,
+            arena,
+            firsts,
+            expects_new: true,
+            added: true,
+        }
+    }
+
+    /// The slot of the key, which is put in with the value 0 where it is absent; a key that is there keeps its value,
+    /// and is never refused. What the caller leaves in the slot is then the key's value. (Manual: JSLI, JudySLIns.)
+    ///
+    /// `BadKey` where the bytes are no key. `Full` where they are an absent one and the array holds as many keys as its
+    /// limit (both limits are this project's own). `NoMemory` only where they are an absent one and the array isn't
+    /// full.
+    /// Each leaves the array as it was.
+    pub fn ins(&mut self, key: &[u8]) -> Result<&mut u64, SlError>
+        ensures* writes_back { sem 𝓛 (LendsIns self.entry key.now result) }
+        ensures value { IfOk result
+            (λ slot. Some slot.now ≡ map.get (array.ins self.old.map key.now) key.now) }
+        ensures accepted { OnOk result
+            (IsStringKey key.now × IsFalse (array.is_full self.old key.now)) }
+        ensures refused { IfErr result (IsRefusal self.old key.now) }
+    {
+        if ends_in_zero(key) {
+            return Err(SlError::BadKey);
+        }
+        if are_few(key) {
+            self.ins_noted::<FEW_PIECES>(key)
+        } else {
+            self.ins_noted::<MOST_PIECES>(key)
+        }
+    }
+
+    // The same for bytes of which the last isn't zero, where so many levels at most are on a key's way.
+    fn ins_noted<const N: usize>(&mut self, key: &[u8]) -> Result<&mut u64, SlError>
+        requires most { N ≤ MOST_PIECES }
+        requires ends { EndsWell key.now }
+        requires few { IsStringKey key.now → length key.now < 8 * N + 8 }
+        ensures* writes_back { sem 𝓛 (LendsIns self.entry key.now result) }
+        ensures value { IfOk result
+            (λ slot. Some slot.now ≡ map.get (array.ins self.old.map key.now) key.now) }
+        ensures accepted { OnOk result
+            (IsStringKey key.now × IsFalse (array.is_full self.old key.now)) }
+        ensures refused { IfErr result (IsRefusal self.old key.now) }
+    {
+        let tries = self.expects_new & (self.count != self.limit);
+        if let Some(place) = self.arena.try_add(key, tries)? {
+            self.count += 1;
+            self.added = true;
+            return Ok(self.arena.lend(place));
+        }
+        let mut passed = Passed::<N>::new();
+        match self.arena.walk(key, &mut passed) {
+            Way::At(place) => {
+                self.expects_new = self.added;
+                self.added = false;
+                Ok(self.arena.lend(place))
+            }
+            way => {
+                if !is_key(key) {
+                    return Err(SlError::BadKey);
+                }
+                if self.count == self.limit {
+                    return Err(SlError::Full);
+                }
+                let passed = passed.as_slice();
+                let made = firsts::insert_counted(
+                    &mut self.arena,
+                    &mut self.firsts,
+                    key,
+                    way,
+                    passed,
+                )?;
+                self.count += 1;
+                let first = way.ends_first();
+                self.expects_new = first | self.added;
+                self.added = first;
+                Ok(self.arena.lend(made))
+            }
+        }
+    }
+
+    /// The value of the key, and `None` where it is absent; bytes that are no key answer as an absent one.
+    /// (Manual: JSLG, JudySLGet.)
+    pub fn get(&self, key: &[u8]) -> Option<u64>
+        ensures { result ≡ map.get self.now.map key.now }
+    {
+        let arena = &self.arena;
+        if ends_in_zero(key) {
+            return None;
+        }
+        arena.get(key)
+    }
+
+    /// The slot of the key, and `None` where it is absent; bytes that are no key answer as an absent one. What the
+    /// caller leaves in the slot is then the key's value. (Manual: JSLG, JudySLGet, whose answer is this slot.)
+    pub fn slot(&mut self, key: &[u8]) -> Option<&mut u64>
+        ensures* writes_back { sem 𝓛 (LendsSlot self.entry key.now result) }
+        ensures value { option_copied_mut result ≡ map.get self.old.map key.now }
+    {
+        let arena = &self.arena;
+        if ends_in_zero(key) {
+            return None;
+        }
+        match arena.walk(key, &mut ()) {
+            Way::At(place) => self.arena.slot(place),
+            Way::Gap(_, _) => None,
+            Way::Clash(_, _, _) => None,
+        }
+    }
+
+    /// Takes the key out, and answers whether it was there; bytes that are no key answer as an absent one. It can't
+    /// fail and asks for no memory of its own. With the last key goes all the memory. (Manual: JSLD, JudySLDel.)
+    pub fn del(&mut self, key: &[u8]) -> bool
+        ensures answer { result ≡ map.contains_key self.old.map key.now }
+        ensures deleted { self.new ≡ array.with_map self.old (array.del self.old.map key.now) }
+    {
+        let arena = &self.arena;
+        if !is_key(key) {
+            return false;
+        }
+        let found = firsts::del(&mut self.arena, &mut self.firsts, key);
+        if found {
+            self.count -= 1;
+            self.give_back();
+        }
+        found
+    }
+
+    // Gives back what is left of an array that holds no key: the lists of its levels and of its tails.
+    fn give_back(&mut self)
+        ensures { self.new ≡ self.old }
+    {
+        if self.is_empty() {
+            self.free_array();
+        }
+    }
+
+    /// How many keys the array holds: at most its limit. (This project's own.)
+    pub fn len(&self) -> u64
+        ensures count { result ≡ map.len self.now.map }
+        ensures within { result ≤ self.now.limit }
+    {
+        self.count
+    }
+
+    /// Whether the array holds no key.
+    pub fn is_empty(&self) -> bool
+        ensures { IsTrue result ↔ (self.now.map ≡ map.empty) }
+    {
+        self.count == 0
+    }
+
+    /// How many keys the array may hold: at least 1 (limit: this project's own).
+    pub fn limit(&self) -> u64
+        ensures value { result ≡ self.now.limit }
+        ensures some { 1 ≤ result }
+    {
+        self.limit
+    }
+
+    /// Takes every key out, gives their memory back, and answers how many they were. The array keeps its limit and
+    /// may be used again. (Manual: JSLFA, JudySLFreeArray, which answers the bytes freed.)
+    pub fn free_array(&mut self) -> u64
+        ensures freed { result ≡ map.len self.old.map }
+        ensures emptied { self.new ≡ array.empty_array self.old.limit }
+    {
+        let freed = self.count;
+        let alloc = self.arena.alloc;
+        self.arena = Arena::new(alloc);
+        self.firsts = Sums::new(alloc);
+        self.count = 0;
+        freed
+    }
+}
