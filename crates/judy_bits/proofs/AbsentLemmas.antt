@@ -18,7 +18,8 @@ turned_bit word place fits inside = ap (λ bit. bit == 1) (bit_at_not w64 word p
 
 module _ (words : List ℕ) (fit : (word : ℕ) → word < 4 → slice_index words word < 2 ^ 64) where
   others : List ℕ
-  others = (18446744073709551615 - slice_index words 0) ∷ (18446744073709551615 - slice_index words 1) ∷ (18446744073709551615 - slice_index words 2) ∷ (18446744073709551615 - slice_index words 3) ∷ []
+  others = (18446744073709551615 - slice_index words 0) ∷ (18446744073709551615 - slice_index words 1) ∷ (18446744073709551615 - slice_index words 2) ∷
+      (18446744073709551615 - slice_index words 3) ∷ []
 
   other_word : (word : ℕ) → word < 4 → slice_index others word ≡ 18446744073709551615 - slice_index words word
   unfolding others
@@ -29,7 +30,8 @@ module _ (words : List ℕ) (fit : (word : ℕ) → word < 4 → slice_index wor
   other_word (suc (suc (suc (suc n)))) inside = let never : ⊥ = omega arith in absurd never
 
   -- The words turned over have the bits of those bytes that are no members.
-  pub members_of-absent : members_of ((18446744073709551615 - slice_index words 0) ∷ (18446744073709551615 - slice_index words 1) ∷ (18446744073709551615 - slice_index words 2) ∷ (18446744073709551615 - slice_index words 3) ∷ []) ≡ absent (members_of words)
+  pub members_of-absent : members_of ((18446744073709551615 - slice_index words 0) ∷ (18446744073709551615 - slice_index words 1) ∷ (18446744073709551615 - slice_index words 2) ∷
+      (18446744073709551615 - slice_index words 3) ∷ []) ≡ absent (members_of words)
   unfolding members_of absent others
   members_of-absent = chosen_agree (is_set others) (λ byte. not (has (members_of words) byte)) 0 256
       (λ at low high.

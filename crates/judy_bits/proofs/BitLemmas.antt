@@ -1,5 +1,6 @@
 -- Bits of words, and how many of them are 1.
-use Rattle.std.proofs.Common.{◌≡◌, ℕ, zero, suc, ◌+◌, ◌-◌, ◌*◌, ◌/◌, ◌%◌, ◌^◌, ◌<◌, ◌≤◌, ◌==◌, Bool, true, false, cond, List, [], ◌∷◌, length, slice_index, sym, refl, ap, ◌∙◌, subst, arith, ⊎_elim, bit_and}
+use Rattle.std.proofs.Common.{◌≡◌, ℕ, zero, suc, ◌+◌, ◌-◌, ◌*◌, ◌/◌, ◌%◌, ◌^◌, ◌<◌, ◌≤◌, ◌==◌, Bool, true, false, cond, List, [], ◌∷◌, length, slice_index, sym, refl, ap, ◌∙◌}
+use Rattle.std.proofs.Common.{subst, arith, ⊎_elim, bit_and}
 use Rattle.std.specs.Int.{w64, bit_at, trailing_zeros, leading_zeros}
 use Rattle.std.specs.Int.Count.{ones, ones_cat, ones-ones, ones-le}
 use Rattle.std.proofs.lemmas.List.{length-append}
@@ -150,7 +151,9 @@ length-chosen_word words word count within =
     ∙ length-chosen_bits (slice_index words word) count
 
 -- How many are below a place in a word.
-pub length-chosen_to : (words : List ℕ) (word count : ℕ) → count ≤ 64 → length (chosen (is_set words) 0 (64 * word + count)) ≡ length (chosen (is_set words) 0 (64 * word)) + ones (slice_index words word % 2 ^ count)
+pub length-chosen_to : (words : List ℕ) (word count : ℕ) → count ≤ 64 → length (chosen (is_set words) 0 (64 * word + count)) ≡
+    length (chosen (is_set words) 0 (64 * word)) + ones (slice_index words word % 2 ^ count)
 length-chosen_to words word count within =
     ap length (chosen_split (is_set words) 0 (64 * word) count) ∙ length-append (chosen (is_set words) 0 (64 * word)) (chosen (is_set words) (0 + 64 * word) count)
-    ∙ ap (λ n. length (chosen (is_set words) 0 (64 * word)) + n) (ap (λ at. length (chosen (is_set words) at count)) (let e : 0 + 64 * word ≡ 64 * word = omega arith in e) ∙ length-chosen_word words word count within)
+    ∙ ap (λ n. length (chosen (is_set words) 0 (64 * word)) + n) (ap (λ at. length (chosen (is_set words) at count)) (let e : 0 + 64 * word ≡ 64 * word = omega arith in e) ∙
+    length-chosen_word words word count within)

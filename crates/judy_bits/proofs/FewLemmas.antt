@@ -1,5 +1,6 @@
 -- What the calls on a few bytes answer of the set that they are.
-use Rattle.std.proofs.Common.{◌≡◌, ◌≢◌, ℕ, zero, suc, ◌+◌, ◌-◌, ◌<◌, ◌≤◌, ◌==◌, true, false, cond, nat_lt, List, [], ◌∷◌, ◌++◌, length, count_by, take, drop, get_or, slice_get, Some, None, is_some, sym, refl, ap, ◌∙◌, subst, arith, is_le, le-leb}
+use Rattle.std.proofs.Common.{◌≡◌, ◌≢◌, ℕ, zero, suc, ◌+◌, ◌-◌, ◌<◌, ◌≤◌, ◌==◌, true, false, cond, nat_lt, List, [], ◌∷◌, ◌++◌, length, count_by, take, drop, get_or, slice_get}
+use Rattle.std.proofs.Common.{Some, None, is_some, sym, refl, ap, ◌∙◌, subst, arith, is_le, le-leb}
 use Rattle.std.specs.List.{AllByRecursion, All, insert, remove}
 use Rattle.std.proofs.lemmas.Bool.{false_from_ne_true}
 use Rattle.std.proofs.lemmas.List.{take_all}
@@ -25,7 +26,9 @@ rank-le xs byte = length-filter-le _ xs
 
 -- All members are at or below 255.
 pub count_up_to-all : (xs : List ℕ) → IsByteSet xs → count_up_to xs 255 ≡ length xs
-count_up_to-all xs is = ap length (filter_all (λ member. is_le (word_order member 255)) xs (all_by_recursion _ xs (λ k d inside. let small : get_or xs k d < 256 = is.bytes k d inside in is_le_word (get_or xs k d) 255 ∙ le-leb (get_or xs k d) 255 (omega arith))))
+count_up_to-all xs is =
+    ap length (filter_all (λ member. is_le (word_order member 255)) xs (all_by_recursion _ xs (λ k d inside. let small : get_or xs k d < 256 = is.bytes k d inside in
+    is_le_word (get_or xs k d) 255 ∙ le-leb (get_or xs k d) 255 (omega arith))))
 
 module _ (array : List ℕ) (count : ℕ) (padded : IsPadded 255 array count) (is : IsByteSet (take count array)) where
   long : length (take count array) ≡ count
@@ -67,7 +70,8 @@ module _ (array : List ℕ) (count : ℕ) (padded : IsPadded 255 array count) (i
       ∙ sym (find_before_count word_order (λ key. is_le (word_order key byte)) (le-IsDownward nat_cmp_total byte) (take count array) is.ascending)
 
   -- A byte more.
-  pub added : (byte at : ℕ) → byte < 256 → count < 7 → has (take count array) byte ≡ false → at ≡ rank (take count array) byte → (new : List ℕ) → new ≡ take at array ++ byte ∷ take (6 - at) (drop at array)
+  pub added : (byte at : ℕ) → byte < 256 → count < 7 → has (take count array) byte ≡ false → at ≡ rank (take count array) byte → (new : List ℕ) →
+      new ≡ take at array ++ byte ∷ take (6 - at) (drop at array)
       → (take (count + 1) new ≡ with_byte (take count array) byte) × (IsPadded 255 new (count + 1) × IsByteSet (take (count + 1) new))
   added byte at small room absent ranked new is_new =
       let within : at ≤ count = let most = rank-le (take count array) byte in let h = long in omega arith in
@@ -75,8 +79,13 @@ module _ (array : List ℕ) (count : ℕ) (padded : IsPadded 255 array count) (i
       let size = length-opened 255 array count at padded byte within in
       let value : take (count + 1) new ≡ with_byte (take count array) byte =
       ap (take (count + 1)) parts ∙ take-from 255 (insert (take count array) at byte) (count + 1) size
-      ∙ ap (λ n. insert (take count array) n byte) ranked ∙ sym (with_other (take count array) byte is.ascending absent) in
-      (value, (subst (λ l. IsPadded 255 l (count + 1)) (sym parts) (IsPadded-from 255 (insert (take count array) at byte) (count + 1) size (omega arith)), subst IsByteSet (sym value) (with_byte-IsByteSet (take count array) byte is small)))
+      ∙ ap (λ n. insert (take count array) n byte) ranked ∙ sym (with_other (take count array) byte is.ascending absent) in (
+        value,
+        (
+          subst (λ l. IsPadded 255 l (count + 1)) (sym parts) (IsPadded-from 255 (insert (take count array) at byte) (count + 1) size (omega arith)),
+          subst IsByteSet (sym value) (with_byte-IsByteSet (take count array) byte is small),
+        ),
+      )
 
   -- A byte less.
   pub taken : (byte at : ℕ) → slice_get (take count array) at ≡ Some byte → (new : List ℕ) → new ≡ remove array at ++ 255 ∷ []
@@ -86,11 +95,17 @@ module _ (array : List ℕ) (count : ℕ) (padded : IsPadded 255 array count) (i
       let parts = is_new ∙ closed 255 array count at padded inside in
       let size = length-closed 255 array count at padded inside in
       let value : take (count - 1) new ≡ without_byte (take count array) byte =
-      ap (take (count - 1)) parts ∙ take-from 255 (remove (take count array) at) (count - 1) size ∙ sym (without_at (take count array) at byte is.ascending there) in
-      (value, (subst (λ l. IsPadded 255 l (count - 1)) (sym parts) (IsPadded-from 255 (remove (take count array) at) (count - 1) size (let h = padded.within in omega arith)), subst IsByteSet (sym value) (without_byte-IsByteSet (take count array) byte is)))
+      ap (take (count - 1)) parts ∙ take-from 255 (remove (take count array) at) (count - 1) size ∙ sym (without_at (take count array) at byte is.ascending there) in (
+        value,
+        (
+          subst (λ l. IsPadded 255 l (count - 1)) (sym parts) (IsPadded-from 255 (remove (take count array) at) (count - 1) size (let h = padded.within in omega arith)),
+          subst IsByteSet (sym value) (without_byte-IsByteSet (take count array) byte is),
+        ),
+      )
 
 -- The places of an array of seven, one by one, before another number.
-pub listed : (array : List ℕ) (more at : ℕ) → at < 7 → get_or (get_or array 0 0 ∷ get_or array 1 0 ∷ get_or array 2 0 ∷ get_or array 3 0 ∷ get_or array 4 0 ∷ get_or array 5 0 ∷ get_or array 6 0 ∷ more ∷ []) at 0 ≡ get_or array at 0
+pub listed : (array : List ℕ) (more at : ℕ) → at < 7 → get_or (get_or array 0 0 ∷ get_or array 1 0 ∷ get_or array 2 0 ∷ get_or array 3 0 ∷ get_or array 4 0 ∷ get_or
+    array 5 0 ∷ get_or array 6 0 ∷ more ∷ []) at 0 ≡ get_or array at 0
 listed array more zero inside = refl
 listed array more (suc zero) inside = refl
 listed array more (suc (suc zero)) inside = refl

@@ -66,7 +66,9 @@ module _ (word index part left place width half : ℕ) (halving : IsHalving word
       record {
         some = omega arith;
         inside = let within = halving.inside in omega arith;
-        bits = ap (λ n. n / 2 ^ half) (halving.bits ∙ ap (λ n. word / 2 ^ place % 2 ^ n) split) ∙ field_of (word / 2 ^ place) (width - half) half ∙ ap (λ n. n % 2 ^ (width - half)) (shr-shr word place half);
+        bits =
+            ap (λ n. n / 2 ^ half) (halving.bits ∙ ap (λ n. word / 2 ^ place % 2 ^ n) split) ∙ field_of (word / 2 ^ place) (width - half) half ∙
+            ap (λ n. n % 2 ^ (width - half)) (shr-shr word place half);
         holds = omega arith;
         below = omega arith;
       }

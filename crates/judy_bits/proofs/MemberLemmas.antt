@@ -1,5 +1,6 @@
 -- What the calls on four words answer of the set that they are.
-use Rattle.std.proofs.Common.{◌≡◌, ◌≢◌, ℕ, zero, suc, ◌+◌, ◌-◌, ◌*◌, ◌/◌, ◌%◌, ◌^◌, ◌<◌, ◌≤◌, ◌==◌, min, false, cond, nat_lt, List, [], ◌∷◌, length, slice_index, get_or, Some, None, sym, refl, ap, ◌∙◌, arith, ⊎_elim, bit_and, bit_or}
+use Rattle.std.proofs.Common.{◌≡◌, ◌≢◌, ℕ, zero, suc, ◌+◌, ◌-◌, ◌*◌, ◌/◌, ◌%◌, ◌^◌, ◌<◌, ◌≤◌, ◌==◌, min, false, cond, nat_lt, List, [], ◌∷◌, length, slice_index, get_or, Some}
+use Rattle.std.proofs.Common.{None, sym, refl, ap, ◌∙◌, arith, ⊎_elim, bit_and, bit_or}
 use Rattle.std.specs.Int.{w64, bit_at}
 use Rattle.std.specs.Int.Count.{ones}
 use Rattle.std.proofs.Math.ListN.{set}
@@ -12,7 +13,8 @@ use Rattle.judy_model.proofs.lemmas.queries.Places.{length-filter-le}
 use Rattle.judy_bits.specs.ByteSets.{IsByteSet, has, rank, nth, next_from, prev_from, with_byte, without_byte}
 use Rattle.std.proofs.lemmas.Option.{slice_get_past}
 use Rattle.judy_bits.specs.BitWords.{is_set, members_of, IsSelected, IsLowestFrom, IsHighestBelow, NoneBelow}
-use Rattle.judy_bits.proofs.Ranges.{chosen, chosen_none, chosen_with, chosen_without, chosen-IsByteSet, has-chosen, rank-chosen, nth-chosen, next_from-chosen, next_from-chosen_none, prev_from-chosen, prev_from-chosen_none}
+use Rattle.judy_bits.proofs.Ranges.{chosen, chosen_none, chosen_with, chosen_without, chosen-IsByteSet, has-chosen, rank-chosen, nth-chosen, next_from-chosen}
+use Rattle.judy_bits.proofs.Ranges.{next_from-chosen_none, prev_from-chosen, prev_from-chosen_none}
 use Rattle.judy_bits.proofs.BitLemmas.{length-chosen_to, set_from_bit, unset_from_bit}
 
 -- ---- how many, word by word
@@ -40,13 +42,15 @@ module _ (words : List ℕ) where
   words_below (suc (suc (suc zero))) within = omega arith
   words_below (suc (suc (suc (suc word)))) within = let never : ⊥ = omega arith in absurd never
 
-  pub length-members_of : length (members_of words) ≡ ones (slice_index words 0 % 2 ^ 64) + ones (slice_index words 1 % 2 ^ 64) + ones (slice_index words 2 % 2 ^ 64) + ones (slice_index words 3 % 2 ^ 64)
+  pub length-members_of : length (members_of words) ≡ ones (slice_index words 0 % 2 ^ 64) + ones (slice_index words 1 % 2 ^ 64) + ones (slice_index words 2 % 2 ^ 64) + ones
+      (slice_index words 3 % 2 ^ 64)
   unfolding members_of in_words
   length-members_of = length-chosen_words 4 ∙ omega arith
 
   -- The rank of a byte: the whole words below its own, and the bits below its own.
   pub rank-members_of : (byte : ℕ) → byte < 256 → rank (members_of words) byte
-      ≡ cond (nat_lt 0 (byte / 64)) (ones (slice_index words 0 % 2 ^ 64)) 0 + cond (nat_lt 1 (byte / 64)) (ones (slice_index words 1 % 2 ^ 64)) 0 + cond (nat_lt 2 (byte / 64)) (ones (slice_index words 2 % 2 ^ 64)) 0
+      ≡ cond (nat_lt 0 (byte / 64)) (ones (slice_index words 0 % 2 ^ 64)) 0 + cond (nat_lt 1 (byte / 64)) (ones (slice_index words 1 % 2 ^ 64)) 0 + cond
+      (nat_lt 2 (byte / 64)) (ones (slice_index words 2 % 2 ^ 64)) 0
       + ones (slice_index words (byte / 64) % 2 ^ (byte % 64))
   unfolding members_of
   rank-members_of byte within =
@@ -103,8 +107,10 @@ module _ (words : List ℕ) where
     pub members_of-add : members_of (set words (byte / 64) (bit_or (slice_index words (byte / 64)) (1 * 2 ^ (byte % 64) % 2 ^ 64))) ≡ with_byte (members_of words) byte
     unfolding members_of added
     members_of-add = chosen_with (is_set words) (is_set (set words (byte / 64) added)) 256 byte within
-        (λ at apart. set_other (byte / 64) (byte % 64) added at inside (λ e. apart (omega arith)) (omega arith) (λ other _ differ. bit_at_set_other w64 (slice_index words (byte / 64)) (byte % 64) inside other differ))
-        (ap (is_set (set words (byte / 64) added)) here ∙ set_here (byte / 64) (byte % 64) added inside (omega arith) ∙ ap (λ bit. bit == 1) (bit_at_set_same w64 (slice_index words (byte / 64)) (byte % 64) inside))
+        (λ at apart. set_other (byte / 64) (byte % 64) added at inside (λ e. apart (omega arith)) (omega arith)
+        (λ other _ differ. bit_at_set_other w64 (slice_index words (byte / 64)) (byte % 64) inside other differ))
+        (ap (is_set (set words (byte / 64) added)) here ∙ set_here (byte / 64) (byte % 64) added inside (omega arith) ∙
+        ap (λ bit. bit == 1) (bit_at_set_same w64 (slice_index words (byte / 64)) (byte % 64) inside))
 
     taken : ℕ
     taken = bit_and (slice_index words (byte / 64)) (2 ^ 64 - 1 - 1 * 2 ^ (byte % 64) % 2 ^ 64)
@@ -113,17 +119,21 @@ module _ (words : List ℕ) where
     pub members_of-take : members_of (set words (byte / 64) (bit_and (slice_index words (byte / 64)) (2 ^ 64 - 1 - 1 * 2 ^ (byte % 64) % 2 ^ 64))) ≡ without_byte (members_of words) byte
     unfolding members_of taken
     members_of-take = chosen_without (is_set words) (is_set (set words (byte / 64) taken)) 256 byte within
-        (λ at apart. set_other (byte / 64) (byte % 64) taken at inside (λ e. apart (omega arith)) (omega arith) (λ other low differ. bit_at_clear_other w64 (slice_index words (byte / 64)) (byte % 64) inside other low differ))
-        (ap (is_set (set words (byte / 64) taken)) here ∙ set_here (byte / 64) (byte % 64) taken inside (omega arith) ∙ ap (λ bit. bit == 1) (bit_at_clear_same w64 (slice_index words (byte / 64)) (byte % 64) inside))
+        (λ at apart. set_other (byte / 64) (byte % 64) taken at inside (λ e. apart (omega arith)) (omega arith)
+        (λ other low differ. bit_at_clear_other w64 (slice_index words (byte / 64)) (byte % 64) inside other low differ))
+        (ap (is_set (set words (byte / 64) taken)) here ∙ set_here (byte / 64) (byte % 64) taken inside (omega arith) ∙
+        ap (λ bit. bit == 1) (bit_at_clear_same w64 (slice_index words (byte / 64)) (byte % 64) inside))
 
   -- ---- the member at a place, and the nearest ones
 
   -- The member that has so many below it.
-  pub nth_selected : (at word left place : ℕ) → word < 4 → length (chosen (is_set words) 0 (64 * word)) + left ≡ at → IsSelected (slice_index words word) left place → nth (members_of words) at ≡ Some (64 * word + place)
+  pub nth_selected : (at word left place : ℕ) → word < 4 → length (chosen (is_set words) 0 (64 * word)) + left ≡ at → IsSelected (slice_index words word) left place →
+      nth (members_of words) at ≡ Some (64 * word + place)
   unfolding members_of
   nth_selected at word left place which so_far selected =
       let inside = selected.inside in
-      let rank : at ≡ length (chosen (is_set words) 0 (64 * word + place)) = sym so_far ∙ ap (λ n. length (chosen (is_set words) 0 (64 * word)) + n) (sym selected.below) ∙ sym (length-chosen_to words word place (omega arith)) in
+      let rank : at ≡ length (chosen (is_set words) 0 (64 * word + place)) = sym so_far ∙ ap (λ n. length (chosen (is_set words) 0 (64 * word)) + n) (sym selected.below) ∙
+      sym (length-chosen_to words word place (omega arith)) in
       ap (nth (chosen (is_set words) 0 256)) rank ∙ nth-chosen (is_set words) 256 (64 * word + place) (omega arith) (set_from_bit words word place inside selected.one)
 
   -- A whole word passed.
@@ -131,7 +141,8 @@ module _ (words : List ℕ) where
       → length (chosen (is_set words) 0 (64 * (word + 1))) + (left - ones (slice_index words word % 2 ^ 64)) ≡ at
   chosen_past at word left so_far past =
       let next : 64 * (word + 1) ≡ 64 * word + 64 = omega arith in
-      let counted : length (chosen (is_set words) 0 (64 * (word + 1))) ≡ length (chosen (is_set words) 0 (64 * word)) + ones (slice_index words word % 2 ^ 64) = ap (λ n. length (chosen (is_set words) 0 n)) next ∙ length-chosen_to words word 64 (omega arith) in
+      let counted : length (chosen (is_set words) 0 (64 * (word + 1))) ≡ length (chosen (is_set words) 0 (64 * word)) + ones (slice_index words word % 2 ^ 64) = ap
+      (λ n. length (chosen (is_set words) 0 n)) next ∙ length-chosen_to words word 64 (omega arith) in
       omega arith
 
   pub nth_past : (at : ℕ) → length (chosen (is_set words) 0 256) ≤ at → nth (members_of words) at ≡ None
@@ -152,7 +163,8 @@ module _ (words : List ℕ) where
       ap (is_set words) place ∙ unset_from_bit words word (at - 64 * word) (omega arith) none
 
   -- The next member is in a word where all before it are passed.
-  pub next_in_word : (byte word place : ℕ) → word < 4 → NoneSetBefore byte (64 * word) → IsLowestFrom (slice_index words word) (byte - 64 * word) place → next_from (members_of words) byte ≡ Some (64 * word + place)
+  pub next_in_word : (byte word place : ℕ) → word < 4 → NoneSetBefore byte (64 * word) → IsLowestFrom (slice_index words word) (byte - 64 * word) place →
+      next_from (members_of words) byte ≡ Some (64 * word + place)
   unfolding members_of
   next_in_word byte word place which passed found =
       let inside = found.inside in
@@ -168,7 +180,8 @@ module _ (words : List ℕ) where
   next_in_none byte passed = next_from-chosen_none (is_set words) 256 byte passed
 
   -- The previous member is in a word where all after it are passed.
-  pub prev_in_word : (byte word place : ℕ) → byte < 256 → 64 * word ≤ byte → NoneSet (64 * word + 64) byte → IsHighestBelow (slice_index words word) (min 64 (byte + 1 - 64 * word)) place → prev_from (members_of words) byte ≡ Some (64 * word + place)
+  pub prev_in_word : (byte word place : ℕ) → byte < 256 → 64 * word ≤ byte → NoneSet (64 * word + 64) byte → IsHighestBelow (slice_index words word) (min 64 (byte + 1 - 64 * word)) place →
+      prev_from (members_of words) byte ≡ Some (64 * word + place)
   unfolding members_of
   prev_in_word byte word place small which passed found =
       let inside = found.inside in

@@ -1,5 +1,6 @@
 -- Bytes in an array that is filled up: one more in its place, and one less.
-use Rattle.std.proofs.Common.{◌≡◌, ℕ, zero, suc, ◌+◌, ◌-◌, ◌<◌, ◌≤◌, Bool, cond, nat_lt, List, [], ◌∷◌, ◌++◌, length, filter, count_by, take, drop, get_or, slice_get, Some, sym, refl, ap, ◌∙◌, arith, get_or-take, drop-cons}
+use Rattle.std.proofs.Common.{◌≡◌, ℕ, zero, suc, ◌+◌, ◌-◌, ◌<◌, ◌≤◌, Bool, cond, nat_lt, List, [], ◌∷◌, ◌++◌, length, filter, count_by, take, drop, get_or, slice_get, Some, sym}
+use Rattle.std.proofs.Common.{refl, ap, ◌∙◌, arith, get_or-take, drop-cons}
 use borrow.Rule.Slice.PartMut.{put_mid}
 use Rattle.std.proofs.Math.ListN.{set, drop_of_length-le}
 use Rattle.std.proofs.lemmas.List.{append-nil, take_more, take_all, drop-drop, set_at}
@@ -128,11 +129,13 @@ count_by-padded array count byte is small =
 -- ---- the edits of the array
 
 -- Bytes moved up by one from a place on, and a byte put there.
-pub opened_array : (xs ys : List ℕ) (at byte : ℕ) → length xs ≡ 7 → at < 7 → ys ≡ take (6 - at) (drop at xs) → set (put_mid (at + 1) (7 - (at + 1)) xs ys) at byte ≡ take at xs ++ byte ∷ take (6 - at) (drop at xs)
+pub opened_array : (xs ys : List ℕ) (at byte : ℕ) → length xs ≡ 7 → at < 7 → ys ≡ take (6 - at) (drop at xs) →
+    set (put_mid (at + 1) (7 - (at + 1)) xs ys) at byte ≡ take at xs ++ byte ∷ take (6 - at) (drop at xs)
 opened_array xs ys at byte seven inside moved =
     let none : drop (7 - (at + 1)) (drop (at + 1) xs) ≡ [] = drop_of_length-le (drop (at + 1) xs) (let long = length-drop (at + 1) xs in omega arith) in
     let first : length (take at xs) ≡ at = length-take at xs ∙ (let h = seven in omega arith) in
-    ap (λ l. set l at byte) ((λ t. take_more xs at 0 (omega arith) t ++ (moved t ++ none t)) ∙ (λ t. (take at xs ++ get_or xs at 0 ∷ []) ++ append-nil (take (6 - at) (drop at xs)) t) ∙ append_assoc (take at xs) (get_or xs at 0 ∷ []) (take (6 - at) (drop at xs)))
+    ap (λ l. set l at byte) ((λ t. take_more xs at 0 (omega arith) t ++ (moved t ++ none t)) ∙ (λ t. (take at xs ++ get_or xs at 0 ∷ []) ++ append-nil (take (6 - at) (drop at xs)) t) ∙
+    append_assoc (take at xs) (get_or xs at 0 ∷ []) (take (6 - at) (drop at xs)))
     ∙ set_at (take at xs) (get_or xs at 0) (take (6 - at) (drop at xs)) byte at first
 
 -- Bytes moved down by one onto a place, and 255 put last.
@@ -143,6 +146,7 @@ closed_array xs ys at seven inside moved =
     let six : at + (6 - at) ≡ 6 = omega arith in
     let none : drop 7 xs ≡ [] = drop_of_length-le xs {i = 7} (let h = seven in omega arith) in
     let last : drop (6 - at) (drop at xs) ≡ get_or xs 6 0 ∷ [] = drop-drop (6 - at) at xs ∙ ap (λ n. drop n xs) six ∙ drop-cons xs 6 0 (omega arith) ∙ ap (λ l. get_or xs 6 0 ∷ l) none in
-    let long : length (take at xs ++ drop (suc at) xs) ≡ 6 = length-append (take at xs) (drop (suc at) xs) ∙ (let first = length-take at xs in let second = length-drop (suc at) xs in let h = seven in omega arith) in
+    let long : length (take at xs ++ drop (suc at) xs) ≡ 6 = length-append (take at xs) (drop (suc at) xs) ∙
+    (let first = length-take at xs in let second = length-drop (suc at) xs in let h = seven in omega arith) in
     ap (λ l. set l 6 255) ((λ t. take at xs ++ (rest t ++ last t)) ∙ sym (append_assoc (take at xs) (drop (suc at) xs) (get_or xs 6 0 ∷ [])))
     ∙ set_at (take at xs ++ drop (suc at) xs) (get_or xs 6 0) [] 255 6 long

@@ -1,5 +1,6 @@
 -- The numbers of a range that pass a test, as an ascending list.
-use Rattle.std.proofs.Common.{◌≡◌, ◌≢◌, ℕ, zero, suc, ◌+◌, ◌-◌, ◌<◌, ◌≤◌, ◌==◌, ◌&&◌, ◌||◌, Bool, true, false, cond, not, List, [], ◌∷◌, ◌++◌, length, filter, find, slice_get, Option, Some, None, sym, refl, ap, ◌∙◌, arith, ne_eqb, ⊎_elim, Less, is_lt, is_le, is_gt, is_ge, nat_lt, nat_le, leb-true, le-leb, ltb-true, lt-ltb}
+use Rattle.std.proofs.Common.{◌≡◌, ◌≢◌, ℕ, zero, suc, ◌+◌, ◌-◌, ◌<◌, ◌≤◌, ◌==◌, ◌&&◌, ◌||◌, Bool, true, false, cond, not, List, [], ◌∷◌, ◌++◌, length, filter, find, slice_get}
+use Rattle.std.proofs.Common.{Option, Some, None, sym, refl, ap, ◌∙◌, arith, ne_eqb, ⊎_elim, Less, is_lt, is_le, is_gt, is_ge, nat_lt, nat_le, leb-true, le-leb, ltb-true, lt-ltb}
 use Rattle.std.specs.List.{list_any, range_with_len, AllByRecursion}
 use Rattle.std.specs.List.Sorted.{IsStrictlySortedBy}
 use Rattle.std.specs.Option.{option_or}
@@ -73,7 +74,8 @@ cut_below : (p q : ℕ → Bool) (number rest : ℕ) → ((at : ℕ) → at < nu
 cut_below p q number rest before after =
     filter-filter p q (range_with_len 0 (number + rest))
     ∙ chosen_split (λ x. p x && q x) 0 number rest
-    ∙ (λ t. chosen_agree (λ x. p x && q x) p 0 number (λ at low high. both (p at) (before at (omega arith))) t ++ chosen_none (λ x. p x && q x) (0 + number) rest (λ at low high. neither (p at) (after at (omega arith))) t)
+    ∙ (λ t. chosen_agree (λ x. p x && q x) p 0 number (λ at low high. both (p at) (before at (omega arith))) t ++
+    chosen_none (λ x. p x && q x) (0 + number) rest (λ at low high. neither (p at) (after at (omega arith))) t)
     ∙ append-nil (chosen p 0 number)
 
 -- The same, where the second holds just from a number on.
@@ -82,7 +84,8 @@ cut_from : (p q : ℕ → Bool) (number rest : ℕ) → ((at : ℕ) → at < num
 cut_from p q number rest before after =
     filter-filter p q (range_with_len 0 (number + rest))
     ∙ chosen_split (λ x. p x && q x) 0 number rest
-    ∙ (λ t. chosen_none (λ x. p x && q x) 0 number (λ at low high. neither (p at) (before at (omega arith))) t ++ chosen_agree (λ x. p x && q x) p (0 + number) rest (λ at low high. both (p at) (after at (omega arith))) t)
+    ∙ (λ t. chosen_none (λ x. p x && q x) 0 number (λ at low high. neither (p at) (before at (omega arith))) t ++
+    chosen_agree (λ x. p x && q x) p (0 + number) rest (λ at low high. both (p at) (after at (omega arith))) t)
     ∙ ap (λ at. chosen p at rest) (let e : 0 + number ≡ number = omega arith in e)
 
 module _ (p : ℕ → Bool) (number rest : ℕ) where
@@ -141,7 +144,8 @@ pub nth-chosen : (p : ℕ → Bool) (bound number : ℕ) → number < bound → 
 nth-chosen p bound number within passes =
     let whole : bound ≡ suc number + (bound - suc number) = omega arith in
     ap (λ end. slice_get (chosen p 0 end) (length (chosen p 0 number))) whole
-    ∙ ap (λ xs. slice_get xs (length (chosen p 0 number))) (chosen_at p number (bound - suc number) ∙ ap (λ b. chosen p 0 number ++ cond b (number ∷ chosen p (suc number) (bound - suc number)) (chosen p (suc number) (bound - suc number))) passes)
+    ∙ ap (λ xs. slice_get xs (length (chosen p 0 number))) (chosen_at p number (bound - suc number) ∙
+    ap (λ b. chosen p 0 number ++ cond b (number ∷ chosen p (suc number) (bound - suc number)) (chosen p (suc number) (bound - suc number))) passes)
     ∙ slice_get-seam (chosen p 0 number) number (chosen p (suc number) (bound - suc number))
   where
     slice_get-seam : (xs : List ℕ) (y : ℕ) (ys : List ℕ) → slice_get (xs ++ y ∷ ys) (length xs) ≡ Some y
@@ -194,7 +198,8 @@ find-chosen : (p q : ℕ → Bool) (number from count : ℕ) → from ≤ number
     → ((at : ℕ) → from ≤ at → at < number → (p at && q at) ≡ false) → find q (chosen p from count) ≡ Some number
 find-chosen p q number from zero low high passes finds none = let never : ⊥ = omega arith in absurd never
 find-chosen p q number from (suc count) low high passes finds none = ⊎_elim
-    (λ same. ap (λ b. find q (cond b (from ∷ chosen p (from + 1) count) (chosen p (from + 1) count))) (ap p same ∙ passes) ∙ ap (λ b. cond b (Some from) (find q (chosen p (from + 1) count))) (ap q same ∙ finds) ∙ ap Some same)
+    (λ same. ap (λ b. find q (cond b (from ∷ chosen p (from + 1) count) (chosen p (from + 1) count))) (ap p same ∙ passes) ∙
+    ap (λ b. cond b (Some from) (find q (chosen p (from + 1) count))) (ap q same ∙ finds) ∙ ap Some same)
     (λ apart. let later : from < number = ⊎_elim (λ less. less) (λ more. omega arith) apart in
     find_past p q from (chosen p (from + 1) count) (none from (omega arith) later)
     ∙ find-chosen p q number (from + 1) count (omega arith) (omega arith) passes finds (λ at low high. none at (omega arith) high))
@@ -301,5 +306,6 @@ range_ascending from (suc count) = (range_above from (from + 1) count (omega ari
 pub chosen-IsByteSet : (p : ℕ → Bool) (bound : ℕ) → bound ≤ 256 → IsByteSet (chosen p 0 bound)
 chosen-IsByteSet p bound within = record {
   ascending = ascending-filter word_order p (range_with_len 0 bound) (range_ascending 0 bound);
-  bytes = All-filter p (λ byte. byte < 256) (range_with_len 0 bound) (λ k d inside. let long = length-range_with_len 0 bound in let value = get_or-range_with_len 0 bound k d (omega arith) in omega arith);
+  bytes =
+      All-filter p (λ byte. byte < 256) (range_with_len 0 bound) (λ k d inside. let long = length-range_with_len 0 bound in let value = get_or-range_with_len 0 bound k d (omega arith) in omega arith);
 }

@@ -1,5 +1,6 @@
 -- The laws of sets of bytes.
-use Rattle.std.proofs.Common.{◌≡◌, ◌≢◌, ℕ, ◌<◌, ◌≤◌, ◌==◌, ◌&&◌, ◌||◌, ◌↔◌, inl, ⊎_elim, Bool, true, false, cond, not, List, [], ◌∷◌, filter, slice_get, Some, None, sym, refl, ap, ◌∙◌, arith, true≢false, ne_eqb, is_lt, is_gt, is_le, is_ge}
+use Rattle.std.proofs.Common.{◌≡◌, ◌≢◌, ℕ, ◌<◌, ◌≤◌, ◌==◌, ◌&&◌, ◌||◌, ◌↔◌, inl, ⊎_elim, Bool, true, false, cond, not, List, [], ◌∷◌, filter, slice_get, Some, None, sym, refl, ap}
+use Rattle.std.proofs.Common.{◌∙◌, arith, true≢false, ne_eqb, is_lt, is_gt, is_le, is_ge}
 use Rattle.std.specs.List.{AllByRecursion}
 use Rattle.std.specs.List.Sorted.{IsStrictlySortedBy}
 use Rattle.std.specs.Cmp.{nat_cmp_total}
@@ -70,14 +71,17 @@ prev-IsLast xs byte is =
 -- ---- members after a change
 
 pub has-without_byte : (xs : List ℕ) (byte other : ℕ) → has (without_byte xs byte) other ≡ (not (other == byte) && has xs other)
-has-without_byte xs byte other = any-filter_same (λ member. member == other) (λ member. not (member == byte)) (not (other == byte)) (λ member same. ap (λ n. not (n == byte)) (eqb-true member other same)) xs
+has-without_byte xs byte other =
+    any-filter_same (λ member. member == other) (λ member. not (member == byte)) (not (other == byte)) (λ member same. ap (λ n. not (n == byte)) (eqb-true member other same)) xs
 
 pub has-with_byte : (xs : List ℕ) (byte other : ℕ) → has (with_byte xs byte) other ≡ (other == byte || has xs other)
 has-with_byte xs byte other =
     let low = filter (λ member. is_lt (word_order member byte)) xs in
     let high = filter (λ member. is_gt (word_order member byte)) xs in
-    let low_is : has low other ≡ (is_lt (word_order other byte) && has xs other) = any-filter_same (λ member. member == other) (λ member. is_lt (word_order member byte)) (is_lt (word_order other byte)) (λ member same. ap (λ n. is_lt (word_order n byte)) (eqb-true member other same)) xs in
-    let high_is : has high other ≡ (is_gt (word_order other byte) && has xs other) = any-filter_same (λ member. member == other) (λ member. is_gt (word_order member byte)) (is_gt (word_order other byte)) (λ member same. ap (λ n. is_gt (word_order n byte)) (eqb-true member other same)) xs in
+    let low_is : has low other ≡ (is_lt (word_order other byte) && has xs other) = any-filter_same (λ member. member == other) (λ member. is_lt (word_order member byte))
+    (is_lt (word_order other byte)) (λ member same. ap (λ n. is_lt (word_order n byte)) (eqb-true member other same)) xs in
+    let high_is : has high other ≡ (is_gt (word_order other byte) && has xs other) = any-filter_same (λ member. member == other) (λ member. is_gt (word_order member byte))
+    (is_gt (word_order other byte)) (λ member same. ap (λ n. is_gt (word_order n byte)) (eqb-true member other same)) xs in
     list_any-append (λ member. member == other) low (byte ∷ high)
     ∙ (λ t. low_is t || (byte == other || high_is t))
     ∙ ⊎_elim

@@ -1,5 +1,6 @@
 -- Sets of bytes as ascending lists: where a byte stands, and what the list becomes with it and without it.
-use Rattle.std.proofs.Common.{◌≡◌, ◌≢◌, ℕ, zero, suc, ◌+◌, ◌-◌, ◌<◌, ◌≤◌, ◌==◌, ◌||◌, inl, inr, ⊎_elim, Bool, true, false, cond, not, List, [], ◌∷◌, ◌++◌, length, filter, find, take, slice_get, Some, sym, refl, ap, ◌∙◌, subst, arith, true≢false, ne_eqb, Less, nat_lt, is_lt, is_gt, ltb-true, lt-ltb}
+use Rattle.std.proofs.Common.{◌≡◌, ◌≢◌, ℕ, zero, suc, ◌+◌, ◌-◌, ◌<◌, ◌≤◌, ◌==◌, ◌||◌, inl, inr, ⊎_elim, Bool, true, false, cond, not, List, [], ◌∷◌, ◌++◌, length, filter, find}
+use Rattle.std.proofs.Common.{take, slice_get, Some, sym, refl, ap, ◌∙◌, subst, arith, true≢false, ne_eqb, Less, nat_lt, is_lt, is_gt, ltb-true, lt-ltb}
 use Rattle.std.specs.List.{AllByRecursion, insert, remove}
 use Rattle.std.specs.List.Sorted.{IsStrictlySortedBy}
 use Rattle.std.specs.Cmp.{nat_cmp_total}
@@ -155,14 +156,16 @@ with_next (x ∷ xs) (suc at) byte ascending is =
     with_below x byte (take at xs) less ∙ ap (λ rest. x ∷ rest) (with_next xs at byte ascending.1 is)
 
 -- The same of a set that is made member by member.
-pub added_next : (xs so_far added : List ℕ) (at byte : ℕ) → IsStrictlySortedBy word_order xs → Some byte ≡ slice_get xs at → so_far ≡ take at xs → added ≡ with_byte so_far byte → added ≡ take (at + 1) xs
+pub added_next : (xs so_far added : List ℕ) (at byte : ℕ) → IsStrictlySortedBy word_order xs → Some byte ≡ slice_get xs at → so_far ≡ take at xs →
+    added ≡ with_byte so_far byte → added ≡ take (at + 1) xs
 added_next xs so_far added at byte ascending is same put =
     let next : suc at ≡ at + 1 = omega arith in
     put ∙ ap (λ members. with_byte members byte) same ∙ with_next xs at byte ascending (sym is) ∙ ap (λ n. take n xs) next
 
 -- To take out what isn't there changes nothing.
 pub without_other : (xs : List ℕ) (byte : ℕ) → has xs byte ≡ false → without_byte xs byte ≡ xs
-without_other xs byte absent = filter_all (λ member. not (member == byte)) xs (all_weaker (λ x. x ≢ byte) (λ x. not (x == byte) ≡ true) (λ x apart. ap not (ne_eqb x byte apart)) xs (not_among xs byte absent))
+without_other xs byte absent =
+    filter_all (λ member. not (member == byte)) xs (all_weaker (λ x. x ≢ byte) (λ x. not (x == byte) ≡ true) (λ x apart. ap not (ne_eqb x byte apart)) xs (not_among xs byte absent))
 
 -- To take out the member at a place leaves the others.
 pub without_at : (xs : List ℕ) (at byte : ℕ) → IsStrictlySortedBy word_order xs → slice_get xs at ≡ Some byte → without_byte xs byte ≡ remove xs at
@@ -184,8 +187,10 @@ without_at (x ∷ xs) (suc at) byte ascending is =
 ascending-append : (xs ys : List ℕ) → IsStrictlySortedBy word_order xs → IsStrictlySortedBy word_order ys → ((x y : ℕ) → Among xs x → Among ys y → x < y) → IsStrictlySortedBy word_order (xs ++ ys)
 unfolding IsStrictlySortedBy
 ascending-append [] ys first second between = second
-ascending-append (x ∷ xs) ys first second between =
-    (all_append (λ y. word_order x y ≡ Less) xs ys first.0 (all_from_among (λ y. word_order x y ≡ Less) ys (λ y here. less_word x y (between x y (inl refl) here))), ascending-append xs ys first.1 second (λ a b here there. between a b (inr here) there))
+ascending-append (x ∷ xs) ys first second between = (
+  all_append (λ y. word_order x y ≡ Less) xs ys first.0 (all_from_among (λ y. word_order x y ≡ Less) ys (λ y here. less_word x y (between x y (inl refl) here))),
+  ascending-append xs ys first.1 second (λ a b here there. between a b (inr here) there),
+)
   where
     all_append : (P : ℕ → Type 0) (xs ys : List ℕ) → AllByRecursion P xs → AllByRecursion P ys → AllByRecursion P (xs ++ ys)
     all_append P [] ys first second = second
@@ -198,7 +203,8 @@ with_byte-ascending xs byte ascending =
     let low = filter (λ member. is_lt (word_order member byte)) xs in
     let high = filter (λ member. is_gt (word_order member byte)) xs in
     ascending-append low (byte ∷ high) (ascending-filter word_order (λ member. is_lt (word_order member byte)) xs ascending)
-    (first byte high (λ y here. less_word byte y (ltb-true byte y (sym (is_gt_word y byte) ∙ (among_from_filter (λ member. is_gt (word_order member byte)) xs y here).1))) (ascending-filter word_order (λ member. is_gt (word_order member byte)) xs ascending))
+    (first byte high (λ y here. less_word byte y (ltb-true byte y (sym (is_gt_word y byte) ∙ (among_from_filter (λ member. is_gt (word_order member byte)) xs y here).1)))
+    (ascending-filter word_order (λ member. is_gt (word_order member byte)) xs ascending))
     (λ x y before after.
     let less = lt_from_word x byte (among_from_filter (λ member. is_lt (word_order member byte)) xs x before).1 in
     ⊎_elim (λ e. omega arith) (λ later. let more = ltb-true byte y (sym (is_gt_word y byte) ∙ (among_from_filter (λ member. is_gt (word_order member byte)) xs y later).1) in omega arith) after)
@@ -213,7 +219,9 @@ with_byte-IsByteSet xs byte is small =
     let high_small = All-filter (λ member. is_gt (word_order member byte)) (λ b. b < 256) xs is.bytes in
     record {
       ascending = with_byte-ascending xs byte is.ascending;
-      bytes = All-append (λ b. b < 256) (filter (λ member. is_lt (word_order member byte)) xs) (byte ∷ filter (λ member. is_gt (word_order member byte)) xs) low_small (All-cons (λ b. b < 256) byte (filter (λ member. is_gt (word_order member byte)) xs) small high_small);
+      bytes =
+          All-append (λ b. b < 256) (filter (λ member. is_lt (word_order member byte)) xs) (byte ∷ filter (λ member. is_gt (word_order member byte)) xs) low_small
+          (All-cons (λ b. b < 256) byte (filter (λ member. is_gt (word_order member byte)) xs) small high_small);
     }
 
 -- A set without a byte is a set.
@@ -250,7 +258,8 @@ length-without_byte xs byte ascending = elim (has xs byte) as (λ b. has xs byte
 pub length-with_byte-le : (xs : List ℕ) (byte : ℕ) → IsStrictlySortedBy word_order xs → length (with_byte xs byte) ≤ length xs + 1
 length-with_byte-le xs byte ascending =
     let long = length-with_byte xs byte ascending in
-    let most : cond (has xs byte) (length xs) (length xs + 1) ≤ length xs + 1 = elim (has xs byte) as (λ b. cond b (length xs) (length xs + 1) ≤ length xs + 1) [ true ↦ omega arith | false ↦ omega arith ] in
+    let most : cond (has xs byte) (length xs) (length xs + 1) ≤ length xs + 1 = elim (has xs byte) as
+    (λ b. cond b (length xs) (length xs + 1) ≤ length xs + 1) [ true ↦ omega arith | false ↦ omega arith ] in
     omega arith
 
 pub length-with_byte-ge : (xs : List ℕ) (byte : ℕ) → IsStrictlySortedBy word_order xs → length xs ≤ length (with_byte xs byte)
@@ -262,7 +271,8 @@ length-with_byte-ge xs byte ascending =
 pub length-without_byte-ge : (xs : List ℕ) (byte : ℕ) → IsStrictlySortedBy word_order xs → length xs ≤ length (without_byte xs byte) + 1
 length-without_byte-ge xs byte ascending =
     let long = length-without_byte xs byte ascending in
-    let least : length xs ≤ cond (has xs byte) (length xs - 1) (length xs) + 1 = elim (has xs byte) as (λ b. length xs ≤ cond b (length xs - 1) (length xs) + 1) [ true ↦ omega arith | false ↦ omega arith ] in
+    let least : length xs ≤ cond (has xs byte) (length xs - 1) (length xs) + 1 = elim (has xs byte) as
+    (λ b. length xs ≤ cond b (length xs - 1) (length xs) + 1) [ true ↦ omega arith | false ↦ omega arith ] in
     omega arith
 
 pub length-without_byte-le : (xs : List ℕ) (byte : ℕ) → length (without_byte xs byte) ≤ length xs

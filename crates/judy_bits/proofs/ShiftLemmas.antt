@@ -21,7 +21,8 @@ pub moved_twice : (word width : ℕ) → word * 256 ^ width < 2 ^ 64 → word * 
 moved_twice word width within =
     let half = 2 ^ (4 * width) in
     let both : word * half * half ≡ word * 256 ^ width =
-    mul_assoc word half half ∙ ap (λ unit. word * unit) (sym (pow-add 2 (4 * width) (4 * width)) ∙ ap (λ n. 2 ^ n) (let e : 4 * width + 4 * width ≡ 8 * width = omega arith in e) ∙ byte_digits width) in
+    mul_assoc word half half ∙ ap (λ unit. word * unit) (sym (pow-add 2 (4 * width) (4 * width)) ∙ ap (λ n. 2 ^ n) (let e : 4 * width + 4 * width ≡ 8 * width = omega arith in e) ∙
+    byte_digits width) in
     let most : word * half ≤ word * half * half = le-mul_of_pos_right (word * half) (pow_pos (4 * width)) in
     let first : word * half % 2 ^ 64 ≡ word * half = mod-eq_of_lt (omega arith) in
     ap (λ n. n * half % 2 ^ 64) first ∙ mod-eq_of_lt (omega arith) ∙ both

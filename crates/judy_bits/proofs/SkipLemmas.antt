@@ -19,7 +19,8 @@ seven_of xs seven = let never : ⊥ = omega arith in absurd never
 
 -- The number is all eight bytes without the count.
 pub number_of-skip : (array : List ℕ) (count : ℕ) → IsLed array count
-    → from_be_bytes w64 (get_or array 0 0 ∷ get_or array 1 0 ∷ get_or array 2 0 ∷ get_or array 3 0 ∷ get_or array 4 0 ∷ get_or array 5 0 ∷ get_or array 6 0 ∷ count ∷ []) / 256 ≡ number_of (drop (7 - count) array)
+    → from_be_bytes w64 (get_or array 0 0 ∷ get_or array 1 0 ∷ get_or array 2 0 ∷ get_or array 3 0 ∷ get_or array 4 0 ∷ get_or array 5 0 ∷ get_or array 6 0 ∷ count ∷ []) / 256 ≡
+    number_of (drop (7 - count) array)
 number_of-skip array count is =
     number_of_seven (get_or array 0 0) (get_or array 1 0) (get_or array 2 0) (get_or array 3 0) (get_or array 4 0) (get_or array 5 0) (get_or array 6 0) count (let within = is.within in omega arith)
     ∙ ap number_of (seven_of array is.seven) ∙ ap number_of (sym (led-drop array count is)) ∙ number_of-led (7 - length (drop (7 - count) array)) (drop (7 - count) array)

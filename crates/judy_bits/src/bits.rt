@@ -38,8 +38,8 @@ pub(crate) fn fewer_ones(count: usize) -> u64
     (1 << count) - 1
 }
 
-/// How many bits below a place are 1, where the bit there is 1 too; none where it is 0. The bits above the place are moved out of the word,
-/// so that its own becomes the highest.
+/// How many bits below a place are 1, where the bit there is 1 too; none where it is 0. The bits above the place are
+/// moved out of the word, so that its own becomes the highest.
 pub(crate) fn ones_below_one(word: u64, place: u8) -> Option<u32>
     requires { place < 64 }
     ensures { result
@@ -79,9 +79,9 @@ pub(crate) fn highest_below(word: u64, limit: usize) -> Option<usize>
     }
 }
 
-/// The place of the 1 that has so many others below it: six halvings of the word, each by one count. Which half it is can't be foreseen,
-/// so nothing is done in one half alone but two small sums, and the widths follow each other whatever was counted: a compiler makes six
-/// steps without a branch of it.
+/// The place of the 1 that has so many others below it: six halvings of the word, each by one count. Which half it is
+/// can't be foreseen, so nothing is done in one half alone but two small sums, and the widths follow each other
+/// whatever was counted: a compiler makes six steps without a branch of it.
 pub(crate) fn select(word: u64, index: u32) -> usize
     requires { index < count_ones word }
     ensures { IsSelected word index result }

@@ -81,7 +81,8 @@ impl Bits256 {
         (count(first) + count(second) + count(third) + count(fourth)) as usize
     }
 
-    /// The place of a member, where it is known how many members are below its word's first byte; none where the byte isn't a member.
+    /// The place of a member, where it is known how many members are below its word's first byte; none where the byte
+    /// isn't a member.
     // As a set's: a call would cost as much as the count.
     #[inline(always)]
     pub(crate) fn place_behind(&self, byte: u8, front: usize) -> Option<usize>

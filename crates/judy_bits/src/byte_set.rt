@@ -97,7 +97,8 @@ impl ByteSet {
     }
 
     /// How many members are below the byte.
-    // A call, since the ways down ask it of a byte without a child alone: compiled into them it costs each step some instructions.
+    // A call, since the ways down ask it of a byte without a child alone: compiled into them it costs each step some
+    // instructions.
     #[inline(never)]
     pub fn rank(&self, byte: u8) -> usize
         ensures { result ≡ set.rank self.now byte }
@@ -156,7 +157,8 @@ impl ByteSet {
     }
 }
 
-/// Makes a byte a member. The members change where they stand, and are moved only where their number asks for another form.
+/// Makes a byte a member. The members change where they stand, and are moved only where their number asks for another
+/// form.
 fn add_to(members: &mut Members, byte: u8)
     requires { IsInForm members.old }
     ensures value { members_in members.new ≡ set.with_byte (members_in members.old) byte }

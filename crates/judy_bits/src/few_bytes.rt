@@ -101,8 +101,8 @@ impl FewBytes {
         below
     }
 
-    /// The place of a member, which is its rank; none where the byte isn't a member. All places are compared at once, and the count
-    /// beside them, so that they are one load.
+    /// The place of a member, which is its rank; none where the byte isn't a member. All places are compared at once,
+    /// and the count beside them, so that they are one load.
     // As a set's: a call would cost as much as the comparison.
     #[inline(always)]
     pub(crate) fn place(&self, byte: u8) -> Option<usize>

@@ -4,8 +4,8 @@ ghost use Rattle.std.specs.Prelude.{◌≡◌, ◌≢◌, ◌<◌, ◌≤◌, �
 
 use std::simd::prelude::*;
 
-/// The first of so many places, at most 16, that holds a byte; as many or more where none does. It takes a few instructions, whatever the
-/// bytes. (This project's own.)
+/// The first of so many places, at most 16, that holds a byte; as many or more where none does. It takes a few
+/// instructions, whatever the bytes. (This project's own.)
 ///
 ///     first_place(*b"fig\0\0\0\0\0", 0) // 3
 #[inline(always)]

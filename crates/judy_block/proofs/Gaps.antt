@@ -25,7 +25,8 @@ module _ (ws : List ℕ) (i n : ℕ) (fits : i + n ≤ length ws) where
   above : drop (i + n) moved ≡ drop i (take used ws)
   above =
       let all : used ≡ i + (used - i) = omega arith in
-      ap (drop (i + n)) moved_is ∙ drop_at (take (i + n) ws) (take (used - i) (drop i ws)) (i + n) (length-take-le (i + n) ws fits) ∙ sym (drop-take i (used - i) ws) ∙ ap (λ k. drop i (take k ws)) (sym all)
+      ap (drop (i + n)) moved_is ∙ drop_at (take (i + n) ws) (take (used - i) (drop i ws)) (i + n) (length-take-le (i + n) ws fits) ∙ sym (drop-take i (used - i) ws) ∙
+      ap (λ k. drop i (take k ws)) (sym all)
 
   pub gap_opened : take i moved ++ (replicate n 0 ++ drop (i + n) moved) ≡ with_gap i n (take used ws)
   gap_opened = ap (λ l. l ++ (replicate n 0 ++ drop (i + n) moved)) below ∙ ap (λ l. take i (take used ws) ++ (replicate n 0 ++ l)) above

@@ -1,6 +1,7 @@
 -- Words that moved up, all or a part of them; words that moved up by two, and those before them that moved up by one, with two words put where they stood.
 use Rattle.std.proofs.Common.{◌≡◌, ℕ, zero, suc, ◌+◌, ◌-◌, ◌<◌, ◌≤◌, ◌∙◌, List, [], ◌∷◌, ◌++◌, length, take, drop, set, refl, sym, ap, arith}
-use Rattle.std.proofs.lemmas.List.{take-take, take-append-le, take-append-drop, take-set, drop-set, drop-drop, length-take, length-take-le, length-drop, length-append, drop-take, drop_all, append-nil, append_assoc}
+use Rattle.std.proofs.lemmas.List.{take-take, take-append-le, take-append-drop, take-set, drop-set, drop-drop, length-take, length-take-le, length-drop, length-append, drop-take}
+use Rattle.std.proofs.lemmas.List.{drop_all, append-nil, append_assoc}
 use Rattle.std.specs.List.{copy_within, insert}
 use lib.Seq.{drop_at}
 use borrow.Rule.Slice.PartMut.{put_mid}

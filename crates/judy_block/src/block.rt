@@ -16,7 +16,7 @@ use std::mem::size_of;
 /// A block of words in memory of its own: at most `capacity` words, and a tag. Words are counted from 0.
 ///
 /// It owns one allocation, which its drop gives back. `Cells` and `Deed` can't be let go otherwise, so
-/// each block is freed exactly once.
+/// no block is freed twice.
 pub struct Block {
     cells: Cells,
     deed: Deed<Global>,
@@ -48,8 +48,8 @@ impl Block {
         Ok(Block { cells, deed, alloc })
     }
 
-    /// A block of such words and with such a tag, with room for `capacity` words, from 1 to 65,535, into which the words have to fit. The
-    /// error is want of memory; nothing is kept then.
+    /// A block of such words and with such a tag, with room for `capacity` words, from 1 to 65,535, into which the
+    /// words have to fit. The error is want of memory; nothing is kept then.
     // Mostly the number of words is known where this is called, so that all is a few stores there.
     #[inline(always)]
     pub fn of_words(
@@ -153,8 +153,8 @@ impl Block {
         open_words(&mut cells[1..], i, n);
     }
 
-    /// Puts a word in at place `i`, and then another at place `j`, which is behind it and at most behind the last word. Both have to
-    /// fit the capacity.
+    /// Puts a word in at place `i`, and then another at place `j`, which is behind it and at most behind the last word.
+    /// Both have to fit the capacity.
     ///
     /// Each of the words from place `i` on is moved once, the last first.
     pub fn insert_two(&mut self, i: usize, word: u64, j: usize, other: u64)
@@ -233,7 +233,8 @@ fn insert_words(words: &mut [u64], i: usize, word: u64, j: usize, other: u64)
     words[i] = word;
 }
 
-// Moves words up by `N` places; the last `N` go. That the distance is a constant of a function of its own makes it one `memmove`.
+// Moves words up by `N` places; the last `N` go. That the distance is a constant of a function of its own makes it one
+// `memmove`.
 fn move_up<const N: usize>(words: &mut [u64])
     requires { N ≤ length words.old }
     ensures { words.new ≡ copy_within words.old 0 (length words.old - N) N }

@@ -1,5 +1,6 @@
 -- Nodes with one key more.
-use Rattle.std.proofs.Common.{◌≡◌, ◌≢◌, ℕ, zero, suc, ◌+◌, ◌-◌, ◌*◌, ◌/◌, ◌%◌, ◌^◌, ◌<◌, ◌≤◌, Bool, true, false, true≢false, cond, List, [], ◌∷◌, ◌++◌, length, take, drop, get_or, Option, Some, None, is_some, sym, refl, ap, ◌∙◌, subst, arith}
+use Rattle.std.proofs.Common.{◌≡◌, ◌≢◌, ℕ, zero, suc, ◌+◌, ◌-◌, ◌*◌, ◌/◌, ◌%◌, ◌^◌, ◌<◌, ◌≤◌, Bool, true, false, true≢false, cond, List, [], ◌∷◌, ◌++◌, length, take, drop, get_or}
+use Rattle.std.proofs.Common.{Option, Some, None, is_some, sym, refl, ap, ◌∙◌, subst, arith}
 use Rattle.std.proofs.Math.Nat.{pow-le-pow_right}
 use Rattle.std.proofs.lemmas.List.{take-append-le, take_all, take_at, drop_more, append_assoc, length_push}
 use Rattle.std.specs.List.{insert}
@@ -38,13 +39,16 @@ pub unit_fits : (width : ℕ) → width ≤ 8 → 256 ^ width ≤ 2 ^ 64
 unit_fits width most = let bound = pow-le-pow_right {n = 256} (omega arith) most in omega arith
 
 -- A node of any kind that has one key more than a child had, and tells its width or none, is a child too.
-pub child-told : {V : _} (words width key value : ℕ) (old : Tree) (kind : KindOf V) → IsChild words width old → IsLevel words kind → ((tree_of words kind).width ≢ 0 → (tree_of words kind).width ≡ width)
+pub child-told : {V : _} (words width key value : ℕ) (old : Tree) (kind : KindOf V) → IsChild words width old → IsLevel words kind →
+    ((tree_of words kind).width ≢ 0 → (tree_of words kind).width ≡ width)
     → (tree_of words kind).pairs ≡ with_pair key value old.pairs → has (keys_of old.pairs) key ≡ false → key < 256 ^ width → (words ≡ 0 → value ≡ 0) → IsChild words width (tree_of words kind)
 child-told words width key value old kind is level wide pairs absent fits free = level-child words width kind level (record {
   low_width = is.low_width;
   high_width = is.high_width;
   wide = wide;
-  below = subst (λ ps. AllBelow (256 ^ width) (keys_of ps)) (sym pairs) (map-AllBelow words 0 (256 ^ width) (with_pair key value old.pairs) (map-with_pair words 0 (256 ^ width) key value old.pairs is.map (omega arith) fits absent free));
+  below =
+      subst (λ ps. AllBelow (256 ^ width) (keys_of ps)) (sym pairs) (map-AllBelow words 0 (256 ^ width) (with_pair key value old.pairs)
+      (map-with_pair words 0 (256 ^ width) key value old.pairs is.map (omega arith) fits absent free));
 })
 
 -- The same for one that tells the width that the child told.
@@ -89,7 +93,8 @@ filled_nine out list pairs key value at count is long room there put =
     filled_front out list nine (take (count + 1) (out ++ drop count nine)) pairs (drop (count + 1) (out ++ drop count nine)) key value at count is long room there refl put
 
 -- Sorted pairs, one of them new.
-module _ (words width key value : ℕ) (old : Pairs) (map : IsMap words 0 (256 ^ width) old) (absent : has (keys_of old) key ≡ false) (fits : key < 256 ^ width) (free : words ≡ 0 → value ≡ 0) (pairs : Pairs)
+module _ (words width key value : ℕ) (old : Pairs) (map : IsMap words 0 (256 ^ width) old) (absent : has (keys_of old) key ≡ false) (fits : key < 256 ^ width)
+    (free : words ≡ 0 → value ≡ 0) (pairs : Pairs)
     (are : pairs ≡ with_pair key value old) where
   pub more-map : IsMap words 0 (256 ^ width) pairs
   more-map = subst (IsMap words 0 (256 ^ width)) (sym are) (map-with_pair words 0 (256 ^ width) key value old map (omega arith) fits absent free)
@@ -98,7 +103,8 @@ module _ (words width key value : ℕ) (old : Pairs) (map : IsMap words 0 (256 ^
   more-low = subst (IsMap words 0 (256 ^ width)) (sym (low_pairs_same words 0 (256 ^ width) pairs more-map)) more-map
 
 -- The node made of them.
-pub more-added : (words width key value : ℕ) (old : Tree) → IsChild words width old → has (keys_of old.pairs) key ≡ false → key < 256 ^ width → (words ≡ 0 → value ≡ 0) → (pairs : Pairs) → pairs ≡ with_pair key value old.pairs
+pub more-added : (words width key value : ℕ) (old : Tree) → IsChild words width old → has (keys_of old.pairs) key ≡ false → key < 256 ^ width → (words ≡ 0 → value ≡ 0) →
+    (pairs : Pairs) → pairs ≡ with_pair key value old.pairs
     → (tree : Tree) → IsBuilt words width pairs tree → IsAdded key value old tree
 more-added words width key value old is absent fits free pairs are tree built = record {
   absent = absent;

@@ -1,5 +1,6 @@
 -- Sorted pairs put behind those of a branch: in its last child, or as a child behind it.
-use Rattle.std.proofs.Common.{◌≡◌, ◌≢◌, ℕ, zero, suc, ◌+◌, ◌*◌, ◌/◌, ◌%◌, ◌^◌, ◌<◌, ◌≤◌, false, List, [], ◌∷◌, ◌++◌, length, take, drop, set, get_or, Some, slice_get, refl, sym, ap, ◌∙◌, subst, arith, length-append, append_assoc, append-nil}
+use Rattle.std.proofs.Common.{◌≡◌, ◌≢◌, ℕ, zero, suc, ◌+◌, ◌*◌, ◌/◌, ◌%◌, ◌^◌, ◌<◌, ◌≤◌, false, List, [], ◌∷◌, ◌++◌, length, take, drop, set, get_or, Some, slice_get, refl, sym}
+use Rattle.std.proofs.Common.{ap, ◌∙◌, subst, arith, length-append, append_assoc, append-nil}
 use Rattle.std.proofs.Math.Nat.{div-div-eq-div-mul, mul_comm}
 use Rattle.std.proofs.Math.Arith.{mod-mul}
 use Rattle.std.specs.List.{insert}
@@ -26,12 +27,14 @@ use Rattle.judy_change.proofs.KidInserts.{IsKid, kid_there}
 -- ---- keys that begin alike
 
 -- One more of them.
-begin_next : (unit front : ℕ) (pairs : Pairs) (at : ℕ) (d : ℕ × ℕ) → AllBegin unit front (take at pairs) → at < length pairs → (get_or pairs at d).0 / unit ≡ front → AllBegin unit front (take (suc at) pairs)
+begin_next : (unit front : ℕ) (pairs : Pairs) (at : ℕ) (d : ℕ × ℕ) → AllBegin unit front (take at pairs) → at < length pairs → (get_or pairs at d).0 / unit ≡ front →
+    AllBegin unit front (take (suc at) pairs)
 begin_next unit front [] at d all within is = absurd (omega (arith, within))
 begin_next unit front (pair ∷ pairs) zero d all within is = (is, tt)
 begin_next unit front (pair ∷ pairs) (suc at) d all within is = (all.0, begin_next unit front pairs at d all.1 (omega (arith, within)) is)
 
-pub begin_more : (unit front : ℕ) (pairs : Pairs) (at : ℕ) (d : ℕ × ℕ) → AllBegin unit front (take at pairs) → at < length pairs → (get_or pairs at d).0 / unit ≡ front → AllBegin unit front (take (at + 1) pairs)
+pub begin_more : (unit front : ℕ) (pairs : Pairs) (at : ℕ) (d : ℕ × ℕ) → AllBegin unit front (take at pairs) → at < length pairs → (get_or pairs at d).0 / unit ≡ front →
+    AllBegin unit front (take (at + 1) pairs)
 begin_more unit front pairs at d all within is = subst (λ n. AllBegin unit front (take n pairs)) (let e : suc at ≡ at + 1 = omega arith in e) (begin_next unit front pairs at d all within is)
 
 -- Their bytes in the middle are the same.
@@ -61,16 +64,20 @@ begin_map words top unit front n pairs map all some =
     map-down words 0 top (front * unit) unit (take n pairs) (subst (IsMap words 0 top) (begin_shift unit front (take n pairs) all) first) some
 
 -- What stands in a key's place above a child's bytes, and what is left for the child.
-pub key_parts : (width bytes key block byte rest first : ℕ) → IsKeyOf (256 ^ width) block key byte rest → key ≡ first % 256 ^ (bytes + width) → (first / 256 ^ width % 256 ^ bytes ≡ block + byte) × (rest ≡ first % 256 ^ width)
+pub key_parts : (width bytes key block byte rest first : ℕ) → IsKeyOf (256 ^ width) block key byte rest → key ≡ first % 256 ^ (bytes + width) →
+    (first / 256 ^ width % 256 ^ bytes ≡ block + byte) × (rest ≡ first % 256 ^ width)
 key_parts width bytes key block byte rest first is low =
-    let whole : first % 256 ^ (bytes + width) ≡ first / 256 ^ width % 256 ^ bytes * 256 ^ width + first % 256 ^ width = ap (λ n. first % n) (pow-add 256 bytes width) ∙ mod-mul first (unit_pos bytes) (unit_pos width) in
-    let same = same_from_place (first / 256 ^ width % 256 ^ bytes) (first % 256 ^ width) (block + byte) rest (256 ^ width) (mod_below first (256 ^ width) (unit_pos width)) is.rest_is (sym whole ∙ sym low ∙ is.key_is) in
+    let whole : first % 256 ^ (bytes + width) ≡ first / 256 ^ width % 256 ^ bytes * 256 ^ width + first % 256 ^ width = ap (λ n. first % n) (pow-add 256 bytes width) ∙
+    mod-mul first (unit_pos bytes) (unit_pos width) in
+    let same = same_from_place (first / 256 ^ width % 256 ^ bytes) (first % 256 ^ width) (block + byte) rest (256 ^ width) (mod_below first (256 ^ width) (unit_pos width)) is.rest_is
+    (sym whole ∙ sym low ∙ is.key_is) in
     (same.0, sym same.1)
 
 -- ---- none, and all
 
 -- What is put behind in the one node below a root.
-pub appended_root : (words count : ℕ) (pairs : Pairs) (old new : Tree) → IsMap words 0 (256 ^ 8) pairs → IsLonger 8 count pairs old new → IsAppended count pairs (record old { width = 8 }) (record new { width = 8 })
+pub appended_root : (words count : ℕ) (pairs : Pairs) (old new : Tree) → IsMap words 0 (256 ^ 8) pairs → IsLonger 8 count pairs old new →
+    IsAppended count pairs (record old { width = 8 }) (record new { width = 8 })
 appended_root words count pairs old new map put = record {
   within = put.within;
   longer =
@@ -172,7 +179,8 @@ module _ (words width : ℕ) (skipped bytes : List ℕ) (kids : List Tree) (coun
         ∙ ap (λ ps. lower ++ ps) (append-nil (shift start (kid.pairs ++ low_pairs unit front)) ∙ shift-append start kid.pairs (low_pairs unit front))
         ∙ sym (append_assoc lower (shift start kid.pairs) (shift start (low_pairs unit front)))
         ∙ (λ t. (lower ++ sym (append-nil (shift start kid.pairs)) t) ++ front_shared t)
-        ∙ ap (λ ps. ps ++ low_pairs whole front) ((λ t. lower ++ (shift start kid.pairs ++ sym none_behind t)) ∙ sym (old_pairs words width skipped bytes kids count is byte 0 (unit_pos width) at kid here there))
+        ∙ ap (λ ps. ps ++ low_pairs whole front) ((λ t. lower ++ (shift start kid.pairs ++ sym none_behind t)) ∙
+        sym (old_pairs words width skipped bytes kids count is byte 0 (unit_pos width) at kid here there))
 
     kid_children : IsChild words width new → AreChildren words width 0 bytes (set kids at new)
     kid_children child =
@@ -233,7 +241,8 @@ module _ {words width : ℕ} {skipped bytes : List ℕ} {kids : List Tree} {coun
   pub kid_fewer : length kid.pairs ≤ count
   kid_fewer = child_fewer words width skipped bytes kids count it.is byte rest it.fits at kid it.here (kid_there it)
 
-  module _ (pairs : Pairs) (head_is : first_key pairs / 256 ^ width % 256 ^ (length skipped + 1) ≡ number_of skipped * 256 + byte) (last : length kids ≤ at + 1) (n : ℕ) (new : Tree) (put : IsLonger width n pairs kid new)
+  module _ (pairs : Pairs) (head_is : first_key pairs / 256 ^ width % 256 ^ (length skipped + 1) ≡ number_of skipped * 256 + byte) (last : length kids ≤ at + 1)
+      (n : ℕ) (new : Tree) (put : IsLonger width n pairs kid new)
       (child : IsChild words width new) where
     pub kid_level : IsBranch words width skipped bytes (set kids at new) (count + n)
     kid_level = last_level words width skipped bytes kids count it.is byte pairs head_is n put.within put.alike at kid it.here (kid_there it) last new put child

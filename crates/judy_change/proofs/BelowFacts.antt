@@ -1,5 +1,6 @@
 -- A branch below which a key is taken out.
-use Rattle.std.proofs.Common.{◌≡◌, ◌≢◌, ℕ, zero, suc, ◌+◌, ◌-◌, ◌*◌, ◌^◌, ◌<◌, ◌≤◌, Bool, true, false, true≢false, ◌&&◌, ◌||◌, IsFalse, cond, eqb, Some, None, List, [], ◌∷◌, length, set, get_or, slice_get, sym, refl, ap, ◌∙◌, subst, ◌⊎◌, inl, inr, ⊎_elim, arith}
+use Rattle.std.proofs.Common.{◌≡◌, ◌≢◌, ℕ, zero, suc, ◌+◌, ◌-◌, ◌*◌, ◌^◌, ◌<◌, ◌≤◌, Bool, true, false, true≢false, ◌&&◌, ◌||◌, IsFalse, cond, eqb, Some, None, List, [], ◌∷◌}
+use Rattle.std.proofs.Common.{length, set, get_or, slice_get, sym, refl, ap, ◌∙◌, subst, ◌⊎◌, inl, inr, ⊎_elim, arith}
 use Rattle.std.specs.List.{remove}
 use Rattle.std.specs.Vec.{with_item}
 use Rattle.std.proofs.lemmas.Bool.{cases_order, eqb-false, eq-eqb}
@@ -35,7 +36,8 @@ set-there (first ∷ xs) (suc at) x is = ap (λ rest. first ∷ rest) (set-there
 
 branch_is : (words w v : ℕ) (s r b c : List ℕ) (k l : List Tree) (n m : ℕ) → w ≡ v → s ≡ r → b ≡ c → k ≡ l → n ≡ m → IsBranch words w s b k n → IsBranch words v r c l m
 branch_is words w v s r b c k l n m ew es eb ek en is =
-    subst (λ x. IsBranch words x r c l m) ew (subst (λ x. IsBranch words w x c l m) es (subst (λ x. IsBranch words w s x l m) eb (subst (λ x. IsBranch words w s b x m) ek (subst (λ x. IsBranch words w s b k x) en is))))
+    subst (λ x. IsBranch words x r c l m) ew (subst (λ x. IsBranch words w x c l m) es (subst (λ x. IsBranch words w s x l m) eb
+    (subst (λ x. IsBranch words w s b x m) ek (subst (λ x. IsBranch words w s b k x) en is))))
 
 -- ---- a key without a child
 
@@ -61,10 +63,12 @@ value-missing words width block rest low byte (first ∷ bytes) (kid ∷ kids) r
       | false ↦ λ apart rest. (eqb-false first byte apart, rest)
     ] refl
 
-    none_at : (words width block rest byte first : ℕ) (kid : Tree) → rest < 256 ^ width → byte < first → IsChild words width kid → value_in (shift ((block + first) * 256 ^ width) kid.pairs) ((block + byte) * 256 ^ width + rest) ≡ None
+    none_at : (words width block rest byte first : ℕ) (kid : Tree) → rest < 256 ^ width → byte < first → IsChild words width kid →
+        value_in (shift ((block + first) * 256 ^ width) kid.pairs) ((block + byte) * 256 ^ width + rest) ≡ None
     none_at words width block rest byte first kid rest_is above is =
         let start = part_before (256 ^ width) block byte first above in
-        value-below words ((block + first) * 256 ^ width) ((block + first) * 256 ^ width + 256 ^ width) ((block + byte) * 256 ^ width + rest) (shift ((block + first) * 256 ^ width) kid.pairs) (omega arith) (part-map words width ((block + first) * 256 ^ width) kid is)
+        value-below words ((block + first) * 256 ^ width) ((block + first) * 256 ^ width + 256 ^ width) ((block + byte) * 256 ^ width + rest)
+        (shift ((block + first) * 256 ^ width) kid.pairs) (omega arith) (part-map words width ((block + first) * 256 ^ width) kid is)
 
 is_false : (b : Bool) → IsFalse b → b ≡ false
 is_false true is = cc
@@ -133,7 +137,8 @@ module _ {V : _} (words key byte place rest : ℕ) (old : BranchOf V) (kid : Tre
   below_some-only value is = below_some value (only_value value is)
 
   -- The child keeps other keys.
-  pub below_gone : (new : BranchOf V) (left : Tree) (value : ℕ) (shrunk : Bool) → IsGone words old.width rest kid left value shrunk → new.width ≡ old.width → new.skip ≡ old.skip → new.bytes ≡ old.bytes
+  pub below_gone : (new : BranchOf V) (left : Tree) (value : ℕ) (shrunk : Bool) → IsGone words old.width rest kid left value shrunk → new.width ≡ old.width →
+      new.skip ≡ old.skip → new.bytes ≡ old.bytes
       → new.children.items ≡ set old.children.items place left → new.population + 1 ≡ old.population → IsGoneBelow words key old new value shrunk
   below_gone new left value shrunk is ew es eb ek en =
       let block = number_of old.skip * 256 in
@@ -147,7 +152,9 @@ module _ {V : _} (words key byte place rest : ℕ) (old : BranchOf V) (kid : Tre
       record {
         found = found;
         gone = (λ t. branch_pairs (ew t) (es t) (eb t) (ek t)) ∙ gone;
-        branch = branch_is words old.width new.width old.skip new.skip old.bytes new.bytes (set old.children.items place left) new.children.items (old.population - 1) new.population (sym ew) (sym es) (sym eb) (sym ek) (omega arith)
+        branch =
+            branch_is words old.width new.width old.skip new.skip old.bytes new.bytes (set old.children.items place left) new.children.items (old.population - 1) new.population
+            (sym ew) (sym es) (sym eb) (sym ek) (omega arith)
             (record {
               parts = record {
                 some_width = whole.parts.some_width;
@@ -161,11 +168,13 @@ module _ {V : _} (words key byte place rest : ℕ) (old : BranchOf V) (kid : Tre
         width = λ t. length (es t) + 1 + ew t;
         tight = λ none yes. ap (λ ks. loose_in (forms_in ks)) ek ∙ loose-set place old.children.items left none (is.tight (loose-at place old.children.items kid none kid_there) yes);
         short = λ none kept. subst (Has33 (width_of old) (pairs_below old)) (sym at.key_is)
-            (has-33 words old.width block rest (width_of old) place byte old.bytes old.children.items kid at.rest_is (omega arith) whole.parts.children byte_there kid_there (is.short (loose-at place old.children.items kid none kid_there) kept));
+            (has-33 words old.width block rest (width_of old) place byte old.bytes old.children.items kid at.rest_is (omega arith) whole.parts.children byte_there kid_there
+            (is.short (loose-at place old.children.items kid none kid_there) kept));
       }
 
   -- It has one key less.
-  pub below_fewer : (left : Tree) (value : ℕ) (shrunk : Bool) → IsGone words old.width rest kid left value shrunk → (d : Tree) → length left.pairs + 1 ≡ length (get_or old.children.items place d).pairs
+  pub below_fewer : (left : Tree) (value : ℕ) (shrunk : Bool) → IsGone words old.width rest kid left value shrunk → (d : Tree) →
+      length left.pairs + 1 ≡ length (get_or old.children.items place d).pairs
   below_fewer left value shrunk is d =
       let same = ap (λ (k : Tree). length k.pairs) (kid_is ∙ get_or_default old.children.items place kid d inside) in
       let gone = ap length is.gone in
@@ -190,7 +199,9 @@ module _ {V : _} (words key byte place rest : ℕ) (old : BranchOf V) (kid : Tre
       record {
         found = found;
         gone = (λ t. branch_pairs (ew t) (es t) (bytes_are t) (ek t)) ∙ gone;
-        branch = branch_is words old.width new.width old.skip new.skip (remove old.bytes place) new.bytes (remove old.children.items place) new.children.items (old.population - 1) new.population (sym ew) (sym es) (sym bytes_are) (sym ek) (omega arith)
+        branch =
+            branch_is words old.width new.width old.skip new.skip (remove old.bytes place) new.bytes (remove old.children.items place) new.children.items
+            (old.population - 1) new.population (sym ew) (sym es) (sym bytes_are) (sym ek) (omega arith)
             (record {
               parts = record {
                 some_width = whole.parts.some_width;
@@ -251,7 +262,8 @@ gone_at words key old mid value shrunk settled new whole below is =
           (or_false shrunk settled kept);
     }
 
-pub branch_gone : {V : _} (words width key : ℕ) (old mid : BranchOf V) (value : ℕ) (shrunk settled both : Bool) (new : Tree) → IsWholeBranch words old → width_of old ≡ width → IsGoneBelow words key old mid value shrunk
+pub branch_gone : {V : _} (words width key : ℕ) (old mid : BranchOf V) (value : ℕ) (shrunk settled both : Bool) (new : Tree) → IsWholeBranch words old →
+    width_of old ≡ width → IsGoneBelow words key old mid value shrunk
     → IsSettled words width (pairs_below mid) (loose_below mid) new settled → both ≡ (shrunk && settled) → IsGone words width key (tree_below old) new value both
 branch_gone words width key old mid value shrunk settled both new whole wide below is flag =
     subst (λ w. IsGone words w key (tree_below old) new value both) wide
@@ -272,6 +284,8 @@ two_left words key old mid value shrunk whole below =
 pub same_tree : {V : _} (words : ℕ) (old : BranchOf V) (place : ℕ) (left : Tree) → IsWholeBranch words old → set old.children.items place left ≡ old.children.items
     → IsSame words old (record old { children = with_item old.children place left })
 same_tree words old place left whole same = record {
-  branch = branch_is words old.width old.width old.skip old.skip old.bytes old.bytes old.children.items (set old.children.items place left) old.population old.population refl refl refl (sym same) refl whole;
+  branch =
+      branch_is words old.width old.width old.skip old.skip old.bytes old.bytes old.children.items (set old.children.items place left) old.population old.population refl refl refl
+      (sym same) refl whole;
   tree = ap (λ ks. branch_tree old.width old.skip old.bytes ks old.population) same;
 }

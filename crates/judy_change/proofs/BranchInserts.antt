@@ -29,7 +29,8 @@ abbrev pub AreOf : ℕ → BranchParts → Type 0
 AreOf words parts = IsBranch words parts.width parts.skip parts.bytes parts.kids parts.count
 
 -- A branch with more keys than one that wasn't loose, and no fewer children, isn't loose either.
-pub grown_tight : (skipped bytes more : List ℕ) (count added : ℕ) (old new : List Tree) → IsTight (branch_tree 0 skipped bytes old count) → length bytes ≤ length more → loose_in (forms_in new) ≤ loose_in (forms_in old)
+pub grown_tight : (skipped bytes more : List ℕ) (count added : ℕ) (old new : List Tree) → IsTight (branch_tree 0 skipped bytes old count) → length bytes ≤ length more →
+    loose_in (forms_in new) ≤ loose_in (forms_in old)
     → loose_in (branch skipped more (count + added) ∷ forms_in new) ≡ 0
 grown_tight skipped bytes more count added old new tight longer less =
     let parts = tight-parts (branch skipped bytes count) (forms_in old) tight in
@@ -124,7 +125,9 @@ module _ (words width : ℕ) (skipped bytes : List ℕ) (kids : List Tree) (coun
           some_width = is.parts.some_width;
           within = is.parts.within;
           skipped_bytes = is.parts.skipped_bytes;
-          children = subst (λ ks. AreChildren words width 0 bytes ks) (sym (set_is new)) (subst (λ bs. AreChildren words width 0 bs (before ++ new ∷ behind)) (sym cut.bytes_are) (children-with words width 0 front back before behind byte new cut.around child));
+          children =
+              subst (λ ks. AreChildren words width 0 bytes ks) (sym (set_is new)) (subst (λ bs. AreChildren words width 0 bs (before ++ new ∷ behind))
+              (sym cut.bytes_are) (children-with words width 0 front back before behind byte new cut.around child));
           counted = let one = length-with_pair key value old.pairs in let all = ap length more_pairs in let counted = is.parts.counted in omega arith;
         };
         holds = is.holds;

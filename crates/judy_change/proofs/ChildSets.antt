@@ -1,6 +1,7 @@
 -- A branch with a child changed, put in or taken out: its children in three parts, those before a byte, that of the byte, and
 -- those behind it.
-use Rattle.std.proofs.Common.{◌≡◌, ℕ, zero, suc, ◌+◌, ◌*◌, ◌^◌, ◌<◌, ◌≤◌, ◌||◌, ⊎_elim, false, List, [], ◌∷◌, ◌++◌, length, take, drop, Some, slice_get, sym, refl, ap, ◌∙◌, subst, arith, true≢false, cond, filter, ne_eqb, is_lt}
+use Rattle.std.proofs.Common.{◌≡◌, ℕ, zero, suc, ◌+◌, ◌*◌, ◌^◌, ◌<◌, ◌≤◌, ◌||◌, ⊎_elim, false, List, [], ◌∷◌, ◌++◌, length, take, drop, Some, slice_get, sym, refl, ap, ◌∙◌, subst}
+use Rattle.std.proofs.Common.{arith, true≢false, cond, filter, ne_eqb, is_lt}
 use Rattle.std.proofs.Math.Nat.{add-mul}
 use Rattle.std.proofs.lemmas.Nat.{mul-le}
 use Rattle.std.proofs.lemmas.Bool.{cases_order, eq-eqb}
@@ -35,8 +36,12 @@ children-with words width low (b ∷ front) rest [] behind byte kid around is = 
 children-with words width low (b ∷ front) rest (k ∷ before) behind byte kid around is =
     let are = around.first in
     let less = around.below in
-    let here = less.0 in
-    (are.0, are.1, are.2, children-with words width (b + 1) front rest before behind byte kid (record { least = omega arith; small = around.small; first = are.3; below = less.1; last = around.last }) is)
+    let here = less.0 in (
+      are.0,
+      are.1,
+      are.2,
+      children-with words width (b + 1) front rest before behind byte kid (record { least = omega arith; small = around.small; first = are.3; below = less.1; last = around.last }) is,
+    )
 
 -- A child at a place.
 pub record IsAt (words width low : ℕ) (bytes : List ℕ) (kids : List Tree) (at byte : ℕ) (kid : Tree) : Type 0 where
@@ -45,7 +50,8 @@ pub record IsAt (words width low : ℕ) (bytes : List ℕ) (kids : List Tree) (a
   pub bytes_are : bytes ≡ take at bytes ++ byte ∷ drop (suc at) bytes
   pub kids_are : kids ≡ take at kids ++ kid ∷ drop (suc at) kids
 
-pub child-at : (words width low : ℕ) (bytes : List ℕ) (kids : List Tree) (at byte : ℕ) (kid : Tree) → AreChildren words width low bytes kids → slice_get bytes at ≡ Some byte → slice_get kids at ≡ Some kid
+pub child-at : (words width low : ℕ) (bytes : List ℕ) (kids : List Tree) (at byte : ℕ) (kid : Tree) → AreChildren words width low bytes kids → slice_get bytes at ≡ Some byte →
+    slice_get kids at ≡ Some kid
     → IsAt words width low bytes kids at byte kid
 child-at words width low [] kids at byte kid are here there = cc
 child-at words width low (b ∷ bytes) [] at byte kid are here there = cc
@@ -53,7 +59,13 @@ child-at words width low (b ∷ bytes) (k ∷ kids) zero byte kid are here there
     let same : b ≡ byte = cc in
     let is : k ≡ kid = cc in
     record {
-      around = record { least = subst (λ n. low ≤ n) same are.0; small = subst (λ n. n < 256) same are.1; first = tt; below = tt; last = subst (λ n. AreChildren words width (n + 1) bytes kids) same are.3 };
+      around = record {
+        least = subst (λ n. low ≤ n) same are.0;
+        small = subst (λ n. n < 256) same are.1;
+        first = tt;
+        below = tt;
+        last = subst (λ n. AreChildren words width (n + 1) bytes kids) same are.3;
+      };
       is = subst (IsChild words width) is are.2;
       bytes_are = ap (λ n. n ∷ bytes) same;
       kids_are = ap (λ n. n ∷ kids) is;
@@ -87,7 +99,8 @@ child-gap words width low (b ∷ bytes) (k ∷ kids) byte are absent from small 
     (λ (same : b ≡ byte). absurd (true≢false (sym (ap (λ t. t || has bytes byte) (eq-eqb b byte same)) ∙ absent)))
     (λ apart. ⊎_elim
     (λ (less : b < byte).
-    let count : rank (b ∷ bytes) byte ≡ suc (rank bytes byte) = ap (λ t. length (cond t (b ∷ filter (λ member. is_lt (word_order member byte)) bytes) (filter (λ member. is_lt (word_order member byte)) bytes))) (is_below b byte less) in
+    let count : rank (b ∷ bytes) byte ≡ suc (rank bytes byte) = ap (λ t. length (cond t (b ∷ filter (λ member. is_lt (word_order member byte)) bytes)
+    (filter (λ member. is_lt (word_order member byte)) bytes))) (is_below b byte less) in
     let later : has bytes byte ≡ false = ap (λ t. t || has bytes byte) (sym (ne_eqb b byte (λ e. omega arith))) ∙ absent in
     let rest = child-gap words width (b + 1) bytes kids byte are.3 later (omega arith) small in
     subst (λ n. AreAround words width low (take n (b ∷ bytes)) (drop n (b ∷ bytes)) (take n (k ∷ kids)) (drop n (k ∷ kids)) byte) (sym count)
@@ -122,7 +135,8 @@ join-below words width low block top (byte ∷ bytes) (kid ∷ kids) from are be
     let unit = 256 ^ width in
     let start = (block + byte) * unit in
     let next = (block + (byte + 1)) * unit in
-    let step : next ≡ start + unit = ap (λ n. n * unit) (let e : block + (byte + 1) ≡ block + byte + 1 = omega arith in e) ∙ add-mul (block + byte) 1 unit ∙ (let e : start + 1 * unit ≡ start + unit = omega arith in e) in
+    let step : next ≡ start + unit = ap (λ n. n * unit) (let e : block + (byte + 1) ≡ block + byte + 1 = omega arith in e) ∙ add-mul (block + byte) 1 unit ∙
+    (let e : start + 1 * unit ≡ start + unit = omega arith in e) in
     let lower : (block + low) * unit ≤ start = mul-le (block + low) unit (block + byte) unit (omega arith) (omega arith) in
     let upper : next ≤ (block + top) * unit = mul-le (block + (byte + 1)) unit (block + top) unit (omega arith) (omega arith) in
     map-append words ((block + low) * unit) next ((block + top) * unit) (shift start kid.pairs) (join unit block bytes kids) (omega arith) upper
@@ -148,7 +162,8 @@ module _ (words width block : ℕ) (front rest : List ℕ) (before behind : List
   upper-map : IsMap words (start + unit) ((block + 256) * unit) upper
   upper-map =
       let small = around.small in
-      let step : (block + (byte + 1)) * unit ≡ start + unit = ap (λ n. n * unit) (let e : block + (byte + 1) ≡ block + byte + 1 = omega arith in e) ∙ add-mul (block + byte) 1 unit ∙ (let e : start + 1 * unit ≡ start + unit = omega arith in e) in
+      let step : (block + (byte + 1)) * unit ≡ start + unit = ap (λ n. n * unit) (let e : block + (byte + 1) ≡ block + byte + 1 = omega arith in e) ∙
+      add-mul (block + byte) 1 unit ∙ (let e : start + 1 * unit ≡ start + unit = omega arith in e) in
       subst (λ n. IsMap words n ((block + 256) * unit) upper) step (join-map words width (byte + 1) block rest behind (omega arith) around.last)
 
   -- All pairs with those of the byte's child, and without them.

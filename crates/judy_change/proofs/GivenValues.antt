@@ -68,11 +68,13 @@ bit_front words skipped key block held = ⊎_elim
     (cases_order key (skipped * 256))
 
 -- Where the value of a key stands, as a search tells.
-pub leaf_spot : {V : _} (words : ℕ) (kind : KindOf V) (count : ℕ) (block : Contents) (key at : ℕ) → kind ≡ Leaf count block → IsLevel words kind → Some at ≡ place (keys_of (leaf_list words count block).pairs) key → IsSeat words kind key at 0
+pub leaf_spot : {V : _} (words : ℕ) (kind : KindOf V) (count : ℕ) (block : Contents) (key at : ℕ) → kind ≡ Leaf count block → IsLevel words kind →
+    Some at ≡ place (keys_of (leaf_list words count block).pairs) key → IsSeat words kind key at 0
 leaf_spot words kind count block key at is level found =
     subst (λ k. IsSeat words k key at 0) (sym is) (leaf-seat words count key at block (subst (IsLevel words) is level) found)
 
-pub bit_spot : {V : _} (words : ℕ) (kind : KindOf V) (skipped : ℕ) (block : Contents) (key low at : ℕ) → kind ≡ Bit skipped block → key ≡ skipped * 256 + low → Some at ≡ place (keys_of (bit_list words block).pairs) low → IsSeat words kind key (4 + at) 0
+pub bit_spot : {V : _} (words : ℕ) (kind : KindOf V) (skipped : ℕ) (block : Contents) (key low at : ℕ) → kind ≡ Bit skipped block → key ≡ skipped * 256 + low →
+    Some at ≡ place (keys_of (bit_list words block).pairs) low → IsSeat words kind key (4 + at) 0
 bit_spot words kind skipped block key low at is key_is found =
     subst (λ k. IsSeat words k key (4 + at) 0) (sym is) (at, low, refl, key_is, (bit-seat words low at block found).0)
 
@@ -127,10 +129,12 @@ module _ {words width : ℕ} {skipped bytes : List ℕ} {kids : List Tree} {coun
   kid_there_put true one value was new is = (kid_value ∙ is.0, kid_over (one refl) value new is.1)
   kid_there_put false one value was new is = (kid_has it ∙ is.0, kid_same it new is.1)
 
-  pub kid_there_branch : (replaces : Bool) → (replaces ≡ true → words ≡ 1) → (value was : ℕ) (new : Tree) → IsThere replaces rest value was kid new → IsBranch words width skipped bytes (set kids at new) count
+  pub kid_there_branch : (replaces : Bool) → (replaces ≡ true → words ≡ 1) → (value was : ℕ) (new : Tree) → IsThere replaces rest value was kid new →
+      IsBranch words width skipped bytes (set kids at new) count
   kid_there_branch true one value was new is = kid_over_branch (one refl) value new is.1
   kid_there_branch false one value was new is = subst (λ ks. IsBranch words width skipped bytes ks count) (sym (kids_same it new is.1)) it.is
 
-  pub kid_there_sums : (replaces : Bool) → (replaces ≡ true → words ≡ 1) → (value was : ℕ) (new : Tree) → IsThere replaces rest value was kid new → (sums : Sums) → AreSums sums kids → AreSums sums (set kids at new)
+  pub kid_there_sums : (replaces : Bool) → (replaces ≡ true → words ≡ 1) → (value was : ℕ) (new : Tree) → IsThere replaces rest value was kid new → (sums : Sums) →
+      AreSums sums kids → AreSums sums (set kids at new)
   kid_there_sums true one value was new is = kid_over_sums (one refl) value new is.1
   kid_there_sums false one value was new is = λ sums are. subst (AreSums sums) (sym (kids_same it new is.1)) are

@@ -95,7 +95,8 @@ module _ {V : _} (words key : ℕ) (old : BranchOf V) (whole : IsWholeBranch wor
   apart_absent apart = ⊎_elim
       (λ same. absurd (apart same))
       (λ order. ⊎_elim
-      (λ (below : key / unit < number). none_at Below (subst (λ n. key < n) (sym (whole_unit number old.width)) (below_block key unit number (unit_pos (1 + old.width)) below)) (λ byte place rest never. cc))
+      (λ (below : key / unit < number). none_at Below (subst (λ n. key < n) (sym (whole_unit number old.width)) (below_block key unit number (unit_pos (1 + old.width)) below))
+      (λ byte place rest never. cc))
       (λ (above : number < key / unit). none_at Above (last above) (λ byte place rest never. cc))
       order)
       (cases_order (key / unit) number)
@@ -110,7 +111,8 @@ module _ {V : _} (words key : ℕ) (old : BranchOf V) (whole : IsWholeBranch wor
 -- ---- a branch on the way, as it was lent
 
 -- It is a child of the same width where it skips as many bytes as before and has as many behind its own.
-pub still_child : {V : _} (words width : ℕ) (kind : KindOf V) (b : _) (lent new : BranchOf V) → kind ≡ Branch b → IsChild words width (tree_of words kind) → lent ≡ b.value → new.skip ≡ lent.skip → new.width ≡ lent.width
+pub still_child : {V : _} (words width : ℕ) (kind : KindOf V) (b : _) (lent new : BranchOf V) → kind ≡ Branch b → IsChild words width (tree_of words kind) →
+    lent ≡ b.value → new.skip ≡ lent.skip → new.width ≡ lent.width
     → IsWholeBranch words new → IsChild words width (tree_below new)
 still_child words width kind b lent new is child same skip wide whole =
     let kept : width_of new ≡ width_of b.value = (λ t. length (skip t) + 1 + wide t) ∙ ap width_of same in

@@ -14,7 +14,8 @@ use Rattle.judy_change.proofs.Without.{value-below, value-above, value-front, va
 
 -- ---- what children keep
 
-pub children-set : (words width low at : ℕ) (bytes : List ℕ) (kids : List Tree) (kid : Tree) → AreChildren words width low bytes kids → IsChild words width kid → AreChildren words width low bytes (set kids at kid)
+pub children-set : (words width low at : ℕ) (bytes : List ℕ) (kids : List Tree) (kid : Tree) → AreChildren words width low bytes kids → IsChild words width kid →
+    AreChildren words width low bytes (set kids at kid)
 children-set words width low at [] [] kid are is = tt
 children-set words width low at [] (other ∷ kids) kid are is = absurd are
 children-set words width low at (byte ∷ bytes) [] kid are is = absurd are
@@ -73,11 +74,14 @@ loose-drop (suc at) (other ∷ kids) tight =
 
 -- A key of a byte lies in that byte's part.
 pub part_end : (unit block byte next : ℕ) → next ≡ byte + 1 → (block + next) * unit ≡ (block + byte) * unit + unit
-part_end unit block byte next is = ap (λ n. n * unit) (let e : block + next ≡ block + byte + 1 = omega arith in e) ∙ add-mul (block + byte) 1 unit ∙ (let e : (block + byte) * unit + 1 * unit ≡ (block + byte) * unit + unit = omega arith in e)
+part_end unit block byte next is =
+    ap (λ n. n * unit) (let e : block + next ≡ block + byte + 1 = omega arith in e) ∙ add-mul (block + byte) 1 unit ∙
+    (let e : (block + byte) * unit + 1 * unit ≡ (block + byte) * unit + unit = omega arith in e)
 
 -- The parts before a byte's end where its own begins.
 pub part_before : (unit block low byte : ℕ) → low < byte → (block + low) * unit + unit ≤ (block + byte) * unit
-part_before unit block low byte below = subst (λ n. n ≤ (block + byte) * unit) (part_end unit block low (low + 1) refl) (mul-le (block + (low + 1)) unit (block + byte) unit (omega arith) (omega arith))
+part_before unit block low byte below =
+    subst (λ n. n ≤ (block + byte) * unit) (part_end unit block low (low + 1) refl) (mul-le (block + (low + 1)) unit (block + byte) unit (omega arith) (omega arith))
 
 pub byte_above : (words width low at byte : ℕ) (bytes : List ℕ) (kids : List Tree) → AreChildren words width low bytes kids → slice_get bytes at ≡ Some byte → low ≤ byte
 byte_above words width low at byte [] kids are there = cc
@@ -90,11 +94,13 @@ byte_above words width low (suc at) byte (other ∷ bytes) (kid ∷ kids) are th
 
 -- A child's pairs where they stand in the branch.
 pub part-map : (words width start : ℕ) (kid : Tree) → IsChild words width kid → IsMap words start (start + 256 ^ width) (shift start kid.pairs)
-part-map words width start kid is = map-wider words (start + 0) (start + 256 ^ width) start (start + 256 ^ width) (shift start kid.pairs) (omega arith) (omega arith) (map-shift words 0 (256 ^ width) start kid.pairs is.map)
+part-map words width start kid is =
+    map-wider words (start + 0) (start + 256 ^ width) start (start + 256 ^ width) (shift start kid.pairs) (omega arith) (omega arith) (map-shift words 0 (256 ^ width) start kid.pairs is.map)
 
 module _ (words width block rest : ℕ) (rest_is : rest < 256 ^ width) where
   -- The parts behind a byte don't have its keys.
-  none_behind : (byte : ℕ) (bytes : List ℕ) (kids : List Tree) → byte < 256 → AreChildren words width (byte + 1) bytes kids → value_in (join (256 ^ width) block bytes kids) ((block + byte) * 256 ^ width + rest) ≡ None
+  none_behind : (byte : ℕ) (bytes : List ℕ) (kids : List Tree) → byte < 256 → AreChildren words width (byte + 1) bytes kids →
+      value_in (join (256 ^ width) block bytes kids) ((block + byte) * 256 ^ width + rest) ≡ None
   none_behind byte bytes kids small are =
       let end = part_end (256 ^ width) block byte (byte + 1) refl in
       value-below words ((block + (byte + 1)) * 256 ^ width) ((block + 256) * 256 ^ width) ((block + byte) * 256 ^ width + rest) (join (256 ^ width) block bytes kids) (omega arith)
@@ -155,7 +161,8 @@ module _ (words width block rest : ℕ) (rest_is : rest < 256 ^ width) where
       let same = same_Some first byte there in
       let start = (block + first) * 256 ^ width in
       let none = without-absent (join (256 ^ width) block bytes kids) (start + rest) (none_behind first bytes kids are.1 are.3) in
-      let all : without (start + rest) (shift start other.pairs) ≡ [] = without-shift start rest other.pairs ∙ ap (λ k. shift start (without rest k.pairs)) (same_Some other kid is) ∙ ap (shift start) gone in
+      let all : without (start + rest) (shift start other.pairs) ≡ [] = without-shift start rest other.pairs ∙ ap (λ k. shift start (without rest k.pairs)) (same_Some other kid is) ∙
+      ap (shift start) gone in
       sym none
       ∙ ap (λ front. front ++ without (start + rest) (join (256 ^ width) block bytes kids)) (sym all)
       ∙ sym (without-append (start + rest) (shift start other.pairs) (join (256 ^ width) block bytes kids))

@@ -25,7 +25,8 @@ pub record IsKid (words width : ℕ) (skipped bytes : List ℕ) (kids : List Tre
   pub here : slice_get bytes at ≡ Some byte
   pub kid_is : kid ≡ get_or kids at kid
 
-pub kid_of : {words width : ℕ} {skipped bytes : List ℕ} {kids : List Tree} {count byte rest at : ℕ} {kid : Tree} → IsBranch words width skipped bytes kids count → rest < 256 ^ width → slice_get bytes at ≡ Some byte
+pub kid_of : {words width : ℕ} {skipped bytes : List ℕ} {kids : List Tree} {count byte rest at : ℕ} {kid : Tree} → IsBranch words width skipped bytes kids count →
+    rest < 256 ^ width → slice_get bytes at ≡ Some byte
     → kid ≡ get_or kids at kid → IsKid words width skipped bytes kids count byte rest at kid
 kid_of is fits here kid_is = record { is = is; fits = fits; here = here; kid_is = kid_is }
 

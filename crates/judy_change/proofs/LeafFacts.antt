@@ -1,5 +1,6 @@
 -- Leaves, bitmap leaves and immediates without a key.
-use Rattle.std.proofs.Common.{◌≡◌, ◌≢◌, ℕ, zero, suc, ◌+◌, ◌-◌, ◌*◌, ◌/◌, ◌%◌, ◌^◌, ◌<◌, ◌≤◌, true, false, true≢false, Some, None, List, [], ◌∷◌, length, get_or, slice_get, sym, refl, ap, ◌∙◌, subst, eqb, Bool, Option, MatchOption, ◌⊎◌, ⊎_elim, arith}
+use Rattle.std.proofs.Common.{◌≡◌, ◌≢◌, ℕ, zero, suc, ◌+◌, ◌-◌, ◌*◌, ◌/◌, ◌%◌, ◌^◌, ◌<◌, ◌≤◌, true, false, true≢false, Some, None, List, [], ◌∷◌, length, get_or, slice_get, sym}
+use Rattle.std.proofs.Common.{refl, ap, ◌∙◌, subst, eqb, Bool, Option, MatchOption, ◌⊎◌, ⊎_elim, arith}
 use Rattle.std.specs.List.{remove}
 use Rattle.std.proofs.lemmas.Nat.{le-div}
 use Rattle.std.proofs.lemmas.Option.{slice_get_within}
@@ -37,7 +38,12 @@ leaf_tight words width list kind new level tree wide low high map close =
     subst (IsTightOf words width list.pairs) (sym close)
     (record {
       child = level-child words width kind level
-          (record { low_width = low; high_width = high; wide = λ _. ap (λ t. t.width) tree ∙ wide; below = subst (λ ps. AllBelow (256 ^ width) (keys_of ps)) (ap (λ t. t.pairs) (sym tree)) (map-AllBelow words 0 (256 ^ width) list.pairs map) });
+          (record {
+            low_width = low;
+            high_width = high;
+            wide = λ _. ap (λ t. t.width) tree ∙ wide;
+            below = subst (λ ps. AllBelow (256 ^ width) (keys_of ps)) (ap (λ t. t.pairs) (sym tree)) (map-AllBelow words 0 (256 ^ width) list.pairs map);
+          });
       same = ap (λ t. t.pairs) tree;
       tight = ap (λ t. loose_in t.form) tree;
     })
@@ -65,7 +71,8 @@ module _ (words width key at : ℕ) (pairs : Pairs) (low : 1 ≤ width) (high : 
   taken_map = subst (IsMap words 0 (256 ^ width)) (sym taken_pairs) (map-without words 0 (256 ^ width) key pairs map)
 
 -- A key is gone, and what is left settled.
-pub gone_settled : (words width key value loose : ℕ) (old new : Tree) (left : Pairs) → IsChild words width old → value_in old.pairs key ≡ Some value → left ≡ without key old.pairs → (IsTight old → loose ≡ 0) → (IsTight old → 33 ≤ length old.pairs)
+pub gone_settled : (words width key value loose : ℕ) (old new : Tree) (left : Pairs) → IsChild words width old → value_in old.pairs key ≡ Some value →
+    left ≡ without key old.pairs → (IsTight old → loose ≡ 0) → (IsTight old → 33 ≤ length old.pairs)
     → key < 256 ^ width → (shrunk : _) → IsSettled words width left loose new shrunk → IsGone words width key old new value shrunk
 gone_settled words width key value loose old new left child found gone tight many below shrunk settled =
     let fewer = length-without words 0 (256 ^ width) key value old.pairs child.map found in
@@ -120,7 +127,8 @@ module _ (words width key at count : ℕ) (block : Contents) (level : IsLeaf wor
         map = subst (λ l. IsMap words 0 (256 ^ width) l.pairs) (sym is) (taken_map words width key at pairs child.low_width child.high_width child.map place);
       }
 
-  pub leaf_gone : (value : ℕ) (list : KeyList) (new : Tree) → list ≡ record { width = block.tag; pairs = remove (leaf_list words count block).pairs at } → value ≡ get_or (values_of (leaf_list words count block).pairs) at 0
+  pub leaf_gone : (value : ℕ) (list : KeyList) (new : Tree) → list ≡ record { width = block.tag; pairs = remove (leaf_list words count block).pairs at } →
+      value ≡ get_or (values_of (leaf_list words count block).pairs) at 0
       → IsTightOf words width list.pairs new → IsGone words width key (leaf_tree words count block) new value true
   leaf_gone value list new is value_is tight =
       let pairs = (leaf_list words count block).pairs in
@@ -133,7 +141,8 @@ module _ (words width key at count : ℕ) (block : Contents) (level : IsLeaf wor
       }
 
   -- The leaf is changed where it stands, and is one still.
-  pub leaf_stays : (left : ℕ) (after : Contents) → IsLeafParts words left after → leaf_list words left after ≡ left_list (leaf_list words count block) at → immediate_limit words width + 1 < count → IsLeaf words left after
+  pub leaf_stays : (left : ℕ) (after : Contents) → IsLeafParts words left after → leaf_list words left after ≡ left_list (leaf_list words count block) at →
+      immediate_limit words width + 1 < count → IsLeaf words left after
   leaf_stays left after parts is many =
       let fewer = (leaf_left (leaf_list words left after) is).fewer in
       let wide = (leaf_left (leaf_list words left after) is).wide in
@@ -141,12 +150,14 @@ module _ (words width key at count : ℕ) (block : Contents) (level : IsLeaf wor
       let were = leaf_long words count block level.parts in
       record { parts = parts; more = subst (λ w. immediate_limit words w < left) (sym wide) (omega arith) }
 
-  pub leaf_gone-here : (left value : ℕ) (after : Contents) → IsLeaf words left after → leaf_list words left after ≡ left_list (leaf_list words count block) at → value ≡ get_or (values_of (leaf_list words count block).pairs) at 0
+  pub leaf_gone-here : (left value : ℕ) (after : Contents) → IsLeaf words left after → leaf_list words left after ≡ left_list (leaf_list words count block) at →
+      value ≡ get_or (values_of (leaf_list words count block).pairs) at 0
       → IsGone words width key (leaf_tree words count block) (leaf_tree words left after) value true
   leaf_gone-here left value after stays is value_is =
       let list = leaf_list words left after in
       let kept = leaf_left list is in
-      leaf_gone value list (leaf_tree words left after) is value_is (leaf_tight {V = ℕ} words width list (Leaf left after) (leaf_tree words left after) stays refl kept.wide child.low_width child.high_width kept.map refl)
+      leaf_gone value list (leaf_tree words left after) is value_is (leaf_tight {V = ℕ} words width list (Leaf left after)
+      (leaf_tree words left after) stays refl kept.wide child.low_width child.high_width kept.map refl)
 
 -- ---- a bitmap leaf without a key
 
@@ -166,7 +177,8 @@ other_key words skipped key pairs map apart = ⊎_elim
     ne_or one other apart = ⊎_elim (λ same. absurd (apart same)) (λ h. h) (cases_order one other)
 
 -- What a search in a bitmap leaf tells.
-pub bit_none : (words skipped key : ℕ) (pairs : Pairs) → IsMap words 0 256 pairs → (key / 256 ≡ skipped → set.place (keys_of pairs) (key % 256) ≡ None) → value_in (shift (skipped * 256) pairs) key ≡ None
+pub bit_none : (words skipped key : ℕ) (pairs : Pairs) → IsMap words 0 256 pairs → (key / 256 ≡ skipped → set.place (keys_of pairs) (key % 256) ≡ None) →
+    value_in (shift (skipped * 256) pairs) key ≡ None
 bit_none words skipped key pairs map none = ⊎_elim
     (λ (h : (eqb (key / 256) skipped ≡ true) × (key / 256 ≡ skipped)).
     let key_is : skipped * 256 + key % 256 ≡ key = let same = h.1 in omega arith in
@@ -194,7 +206,8 @@ module _ (words width key at skipped : ℕ) (block : Contents) (level : IsBit wo
 
   pub bit_left : shift (skipped * 256) (remove (bit_list words block).pairs at) ≡ without key (bit_tree words skipped block).pairs
   bit_left = subst (λ k. shift (skipped * 256) (remove (bit_list words block).pairs at) ≡ without k (shift (skipped * 256) (bit_list words block).pairs)) key_is
-      (ap (shift (skipped * 256)) (taken_pairs words 1 (key % 256) at (bit_list words block).pairs (omega arith) (omega arith) inner_map place) ∙ sym (without-shift (skipped * 256) (key % 256) (bit_list words block).pairs))
+      (ap (shift (skipped * 256)) (taken_pairs words 1 (key % 256) at (bit_list words block).pairs (omega arith) (omega arith) inner_map place) ∙
+      sym (without-shift (skipped * 256) (key % 256) (bit_list words block).pairs))
 
   pub bit_fewer : length (remove (bit_list words block).pairs at) + 1 ≡ length (bit_list words block).pairs
   bit_fewer = taken_length words 1 (key % 256) at (bit_list words block).pairs (omega arith) (omega arith) inner_map place
@@ -210,7 +223,8 @@ module _ (words width key at skipped : ℕ) (block : Contents) (level : IsBit wo
       record { parts = parts; some = omega arith; skips = subst (λ w. skipped < 256 ^ (w - 1)) (sym (ap (λ l. l.width) is)) level.skips }
 
 -- The node of what is left.
-pub kind_left : {V : _} (words width key : ℕ) (old : Tree) (kind : KindOf V) → IsLevel words kind → IsChild words width old → (tree_of words kind).width ≡ width → (tree_of words kind).pairs ≡ without key old.pairs → IsChild words width (tree_of words kind)
+pub kind_left : {V : _} (words width key : ℕ) (old : Tree) (kind : KindOf V) → IsLevel words kind → IsChild words width old → (tree_of words kind).width ≡ width →
+    (tree_of words kind).pairs ≡ without key old.pairs → IsChild words width (tree_of words kind)
 kind_left words width key old kind level child wide left =
     level-child words width kind level (record {
       low_width = child.low_width;
@@ -251,14 +265,19 @@ module _ {V : _} (words width key at skipped : ℕ) (block : Contents) (level : 
 
   pub bit_child : IsChild words width new
   bit_child = subst (IsChild words width) (sym close)
-      (kind_left words width key (bit_tree words skipped block) kind level_new child (ap (λ t. t.width) tree ∙ bit_wide words width skipped block level child) (ap (λ t. t.pairs) tree ∙ bit_left words width key at skipped block level child along place))
+      (kind_left words width key (bit_tree words skipped block) kind level_new child (ap (λ t. t.width) tree ∙ bit_wide words width skipped block level child)
+      (ap (λ t. t.pairs) tree ∙ bit_left words width key at skipped block level child along place))
 
   pub bit_long : length new.pairs + 1 ≡ length (bit_list words block).pairs
-  bit_long = ap (λ t. length t.pairs + 1) (close ∙ tree) ∙ ap (λ n. n + 1) (length-shift (skipped * 256) (remove (bit_list words block).pairs at)) ∙ bit_fewer words width key at skipped block level child along place
+  bit_long =
+      ap (λ t. length t.pairs + 1) (close ∙ tree) ∙ ap (λ n. n + 1) (length-shift (skipped * 256) (remove (bit_list words block).pairs at)) ∙
+      bit_fewer words width key at skipped block level child along place
 
-  pub bit_gone : (value : ℕ) (last : Tree) (shrunk : Bool) → value ≡ get_or (values_of (bit_list words block).pairs) at 0 → IsSettled words width new.pairs 0 last shrunk → IsGone words width key (bit_tree words skipped block) last value shrunk
+  pub bit_gone : (value : ℕ) (last : Tree) (shrunk : Bool) → value ≡ get_or (values_of (bit_list words block).pairs) at 0 → IsSettled words width new.pairs 0 last shrunk →
+      IsGone words width key (bit_tree words skipped block) last value shrunk
   bit_gone value last shrunk value_is settled =
-      gone_settled words width key value 0 (bit_tree words skipped block) last new.pairs child (bit_found words width key at skipped block level child along place ∙ ap Some (sym value_is)) left_is (λ _. refl)
+      gone_settled words width key value 0 (bit_tree words skipped block) last new.pairs child (bit_found words width key at skipped block level child along place ∙ ap Some (sym value_is))
+      left_is (λ _. refl)
       (bit_many words skipped block) (bit_fits words width key at skipped block level child along place) shrunk settled
 
   pub bit_kept : 33 < length (bit_list words block).pairs → IsSettled words width new.pairs 0 new true
@@ -269,7 +288,8 @@ module _ {V : _} (words width key at skipped : ℕ) (block : Contents) (level : 
         child = bit_child;
         same = refl;
         tight = λ _ _. ap (λ t. loose_in t.form) (close ∙ tree)
-            ∙ tight-head (bitmap_leaf (low_bytes (bit_width block - 1) skipped) (keys_of (remove (bit_list words block).pairs at))) [] (lt-leb (length (keys_of (remove (bit_list words block).pairs at))) 32 (omega arith)) refl;
+            ∙ tight-head (bitmap_leaf (low_bytes (bit_width block - 1) skipped) (keys_of (remove (bit_list words block).pairs at))) []
+            (lt-leb (length (keys_of (remove (bit_list words block).pairs at))) 32 (omega arith)) refl;
         short = λ never. absurd (true≢false never);
       }
 

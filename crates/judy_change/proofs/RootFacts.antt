@@ -23,7 +23,8 @@ absent_kept key old answer none is =
     })
 
 -- It is gone, and a root of one pair or none is left.
-pub gone_small : (key value : ℕ) (old new : Tree) (answer : Removed) → value_in old.pairs key ≡ Some value → new.pairs ≡ without key old.pairs → IsTight new → answer ≡ record { was = true; value = value; shrunk = true } → IsRemoved key old new answer
+pub gone_small : (key value : ℕ) (old new : Tree) (answer : Removed) → value_in old.pairs key ≡ Some value → new.pairs ≡ without key old.pairs → IsTight new →
+    answer ≡ record { was = true; value = value; shrunk = true } → IsRemoved key old new answer
 gone_small key value old new answer found gone tight is =
     subst (IsRemoved key old new) (sym is)
     (record {
@@ -36,7 +37,8 @@ gone_small key value old new answer found gone tight is =
       short = λ _ never. absurd (true≢false never);
     })
 
-pub gone_many : (words key value : ℕ) (old new : Tree) (shrunk : Bool) (answer : Removed) → IsGone words 8 key old new value shrunk → answer ≡ record { was = true; value = value; shrunk = shrunk } → IsRemoved key (record old { width = 8 }) (record new { width = 8 }) answer
+pub gone_many : (words key value : ℕ) (old new : Tree) (shrunk : Bool) (answer : Removed) → IsGone words 8 key old new value shrunk →
+    answer ≡ record { was = true; value = value; shrunk = shrunk } → IsRemoved key (record old { width = 8 }) (record new { width = 8 }) answer
 gone_many words key value old new shrunk answer below is =
     subst (IsRemoved key (record old { width = 8 }) (record new { width = 8 })) (sym is)
     (record {
@@ -86,14 +88,16 @@ module _ (words key : ℕ) (old : Tree) (first second : ℕ × ℕ) (is : old.pa
       (sym (ap (without key) is ∙ without-same first (second ∷ []) key same ∙ without-apart second [] key (λ other. let never : ⊥ = omega arith in absurd never)))
       refl told
 
-  pub second_gone : (answer : Removed) → first.0 ≢ key → second.0 ≡ key → answer ≡ record { was = true; value = second.1; shrunk = true } → IsRemoved key (record old { width = 8 }) (one_tree first.0 first.1) answer
+  pub second_gone : (answer : Removed) → first.0 ≢ key → second.0 ≡ key → answer ≡ record { was = true; value = second.1; shrunk = true } →
+      IsRemoved key (record old { width = 8 }) (one_tree first.0 first.1) answer
   second_gone answer apart same told =
       gone_small key second.1 (record old { width = 8 }) (one_tree first.0 first.1) answer
       (ap (λ ps. value_in ps key) is ∙ value-apart first (second ∷ []) key apart ∙ value-same second [] key same)
       (sym (ap (without key) is ∙ without-apart first (second ∷ []) key apart ∙ ap (λ rest. first ∷ rest) (without-same second [] key same)))
       refl told
 
-  pub neither_kept : (answer : Removed) → first.0 ≢ key → second.0 ≢ key → answer ≡ record { was = false; value = 0; shrunk = true } → IsRemoved key (record old { width = 8 }) (record old { width = 8 }) answer
+  pub neither_kept : (answer : Removed) → first.0 ≢ key → second.0 ≢ key → answer ≡ record { was = false; value = 0; shrunk = true } →
+      IsRemoved key (record old { width = 8 }) (record old { width = 8 }) answer
   neither_kept answer apart other told =
       absent_kept key (record old { width = 8 }) answer (ap (λ ps. value_in ps key) is ∙ value-apart first (second ∷ []) key apart ∙ value-apart second [] key other) told
 

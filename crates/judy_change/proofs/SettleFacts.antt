@@ -1,5 +1,6 @@
 -- Nodes made as small as their keys allow.
-use Rattle.std.proofs.Common.{◌≡◌, ◌≢◌, ℕ, zero, suc, ◌+◌, ◌-◌, ◌*◌, ◌/◌, ◌%◌, ◌^◌, ◌<◌, ◌≤◌, true, false, true≢false, Some, List, [], ◌∷◌, ◌++◌, length, take, drop, get_or, sym, refl, ap, ◌∙◌, subst, slice_get, length-append, arith}
+use Rattle.std.proofs.Common.{◌≡◌, ◌≢◌, ℕ, zero, suc, ◌+◌, ◌-◌, ◌*◌, ◌/◌, ◌%◌, ◌^◌, ◌<◌, ◌≤◌, true, false, true≢false, Some, List, [], ◌∷◌, ◌++◌, length, take, drop, get_or, sym}
+use Rattle.std.proofs.Common.{refl, ap, ◌∙◌, subst, slice_get, length-append, arith}
 use Rattle.std.proofs.Math.Nat.{add-mul, mul_assoc, pow-le-pow_right}
 use Rattle.std.proofs.lemmas.Nat.{pow-add}
 use Rattle.std.proofs.lemmas.List.{append-nil, take-append-le, take_all}
@@ -167,7 +168,8 @@ merged-is words width skip byte count kid new kind whole_is wide level is close 
 
 -- ---- a branch that stays
 
-pub settled-branch : (words width total : ℕ) (skip bytes : List ℕ) (kids : List Tree) (count : ℕ) (new : Tree) → IsBranch words width skip bytes kids count → length skip + 1 + width ≡ total → 32 < count → length kids ≢ 1
+pub settled-branch : (words width total : ℕ) (skip bytes : List ℕ) (kids : List Tree) (count : ℕ) (new : Tree) → IsBranch words width skip bytes kids count →
+    length skip + 1 + width ≡ total → 32 < count → length kids ≢ 1
     → new ≡ branch_tree width skip bytes kids count → IsSettled words total (branch_pairs width skip bytes kids) (loose_in (forms_in kids)) new true
 settled-branch words width total skip bytes kids count new is wide many apart close =
     let long = children-length words width 0 bytes kids is.parts.children in

@@ -51,7 +51,8 @@ tag_parts tag left next is = (omega arith, omega arith)
 block_end : (block blocks : ℕ) → block < blocks → block * 256 + 256 ≤ blocks * 256
 block_end block blocks below = omega arith
 
-module _ (words number count tail left skipped rest next : ℕ) (block : Contents) (level : IsBit words skipped block) (is : skipped ≡ number) (wide : bit_width block ≡ count + 1) (one : tail ≡ 1) (less : left < count)
+module _ (words number count tail left skipped rest next : ℕ) (block : Contents) (level : IsBit words skipped block) (is : skipped ≡ number) (wide : bit_width block ≡ count + 1)
+    (one : tail ≡ 1) (less : left < count)
     (rest_is : rest ≡ number % 256 ^ left) (next_is : next ≡ block.tag % 65536 + 65536 * (left + 1)) where
   abbrev cut : Contents
   cut = record block { tag = next }
@@ -109,7 +110,8 @@ module _ (words number count tail left skipped rest next : ℕ) (block : Content
 
 -- ---- branches
 
-module _ (words number count tail left width : ℕ) (skip more bytes : List ℕ) (kids : List Tree) (size : ℕ) (level : IsBranch words width skip bytes kids size) (is : number_of skip ≡ number) (long : length skip ≡ count)
+module _ (words number count tail left width : ℕ) (skip more bytes : List ℕ) (kids : List Tree) (size : ℕ) (level : IsBranch words width skip bytes kids size)
+    (is : number_of skip ≡ number) (long : length skip ≡ count)
     (tail_is : tail ≡ 1 + width) (less : left < count) (more_is : more ≡ low_bytes left (number % 256 ^ left)) where
   abbrev rest : ℕ
   rest = number % 256 ^ left
@@ -165,11 +167,13 @@ module _ (words number count tail left width : ℕ) (skip more bytes : List ℕ)
   pub branch_shorter_child : IsChild words (left + tail) (branch_tree width more bytes kids size)
   branch_shorter_child =
       let short = shorter_long in
-      subst (λ w. IsChild words w (branch_tree width more bytes kids size)) (let e : length more + 1 + width ≡ left + tail = omega arith in e) (branch-child words width more bytes kids size branch_shorter)
+      subst (λ w. IsChild words w (branch_tree width more bytes kids size)) (let e : length more + 1 + width ≡ left + tail = omega arith in e)
+      (branch-child words width more bytes kids size branch_shorter)
 
 -- ---- a branch above
 
-module _ (words number count tail left : ℕ) (old new : Tree) (is : IsChild words (count + tail) old) (small : number < 256 ^ count) (less : left < count) (some : 1 ≤ tail) (child : IsChild words (left + tail) new) (shorter : IsShorter number left tail old new) where
+module _ (words number count tail left : ℕ) (old new : Tree) (is : IsChild words (count + tail) old) (small : number < 256 ^ count) (less : left < count)
+    (some : 1 ≤ tail) (child : IsChild words (left + tail) new) (shorter : IsShorter number left tail old new) where
   abbrev above_skip : List ℕ
   above_skip = low_bytes (count - left - 1) (number / 256 ^ (left + 1))
 

@@ -20,7 +20,8 @@ other_small key count tail other fits is = subst (λ n. n < 256 ^ count) (sym is
 next_digit : (number left : ℕ) → number / 256 ^ (left + 1) ≡ number / 256 ^ left / 256
 next_digit number left = ap (λ n. number / n) (unit_above left) ∙ sym (div-div-eq-div-mul number (256 ^ left) 256)
 
-module _ (number count tail left key other : ℕ) (fits : key < 256 ^ (count + tail)) (other_is : other ≡ key / 256 ^ tail) (less : left < count) (apart : number / 256 ^ left ≢ other / 256 ^ left) (same : number / 256 ^ (left + 1) ≡ other / 256 ^ (left + 1)) where
+module _ (number count tail left key other : ℕ) (fits : key < 256 ^ (count + tail)) (other_is : other ≡ key / 256 ^ tail) (less : left < count)
+    (apart : number / 256 ^ left ≢ other / 256 ^ left) (same : number / 256 ^ (left + 1) ≡ other / 256 ^ (left + 1)) where
   abbrev width : ℕ
   width = left + tail
 
@@ -57,7 +58,8 @@ module _ (number count tail left key other : ℕ) (fits : key < 256 ^ (count + t
 -- The branch for both has one key more, and is tight where the node was.
 pub split_added : (words number count tail left : ℕ) (old : Tree) (width : ℕ) (skip bytes : List ℕ) (kids : List Tree) (size : ℕ) → IsAbove words number count tail left old width skip bytes kids size
     → (made key value : ℕ) → made ≡ key → (wide : ℕ) (front more : List ℕ) (grown : List Tree) (many : ℕ)
-    → IsAdded made value (branch_tree width skip bytes kids size) (branch_tree wide front more grown many) → many ≡ size + 1 → length more ≡ length bytes + 1 → loose_in (forms_in grown) ≡ loose_in (forms_in kids)
+    → IsAdded made value (branch_tree width skip bytes kids size) (branch_tree wide front more grown many) → many ≡ size + 1 → length more ≡ length bytes + 1 →
+    loose_in (forms_in grown) ≡ loose_in (forms_in kids)
     → IsAdded key value old (branch_tree wide front more grown many)
 split_added words number count tail left old width skip bytes kids size above made key value is wide front more grown many added counted wider loose = record {
   absent = ap (has (keys_of old.pairs)) (sym is) ∙ ap (λ ps. has (keys_of ps) made) (sym above.pairs) ∙ added.absent;

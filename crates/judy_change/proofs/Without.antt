@@ -1,5 +1,6 @@
 -- Pairs without a key, and the value that it had.
-use Rattle.std.proofs.Common.{◌≡◌, ◌≢◌, ℕ, zero, suc, ◌+◌, ◌<◌, ◌≤◌, true, false, ◌||◌, cond, eqb, Some, None, List, [], ◌∷◌, ◌++◌, length, get_or, slice_get, sym, refl, ap, ◌∙◌, subst, ◌⊎◌, inl, inr, ⊎_elim, arith}
+use Rattle.std.proofs.Common.{◌≡◌, ◌≢◌, ℕ, zero, suc, ◌+◌, ◌<◌, ◌≤◌, true, false, ◌||◌, cond, eqb, Some, None, List, [], ◌∷◌, ◌++◌, length, get_or, slice_get, sym, refl, ap, ◌∙◌}
+use Rattle.std.proofs.Common.{subst, ◌⊎◌, inl, inr, ⊎_elim, arith}
 use Rattle.std.specs.List.{remove}
 use Rattle.std.specs.List.Sorted.{IsStrictlySortedBy}
 use Rattle.std.proofs.lemmas.Bool.{eq-eqb, ne_eqb}
@@ -80,21 +81,25 @@ pub without-append : (key : ℕ) (one other : Pairs) → without key (one ++ oth
 without-append key [] other = refl
 without-append key (pair ∷ one) other = ⊎_elim
     (λ (same : pair.0 ≡ key). without-same pair (one ++ other) key same ∙ without-append key one other ∙ ap (λ front. front ++ without key other) (sym (without-same pair one key same)))
-    (λ (apart : pair.0 ≢ key). without-apart pair (one ++ other) key apart ∙ ap (λ rest. pair ∷ rest) (without-append key one other) ∙ ap (λ front. front ++ without key other) (sym (without-apart pair one key apart)))
+    (λ (apart : pair.0 ≢ key). without-apart pair (one ++ other) key apart ∙ ap (λ rest. pair ∷ rest) (without-append key one other) ∙
+    ap (λ front. front ++ without key other) (sym (without-apart pair one key apart)))
     (same_or pair.0 key)
 
 pub value-shift : (by key : ℕ) (pairs : Pairs) → value_in (shift by pairs) (by + key) ≡ value_in pairs key
 value-shift by key [] = refl
 value-shift by key (pair ∷ pairs) = ⊎_elim
     (λ (same : pair.0 ≡ key). value-same (by + pair.0, pair.1) (shift by pairs) (by + key) (ap (λ n. by + n) same) ∙ sym (value-same pair pairs key same))
-    (λ (apart : pair.0 ≢ key). value-apart (by + pair.0, pair.1) (shift by pairs) (by + key) (λ (same : by + pair.0 ≡ by + key). apart (omega arith)) ∙ value-shift by key pairs ∙ sym (value-apart pair pairs key apart))
+    (λ (apart : pair.0 ≢ key). value-apart (by + pair.0, pair.1) (shift by pairs) (by + key) (λ (same : by + pair.0 ≡ by + key). apart (omega arith)) ∙
+    value-shift by key pairs ∙ sym (value-apart pair pairs key apart))
     (same_or pair.0 key)
 
 pub without-shift : (by key : ℕ) (pairs : Pairs) → without (by + key) (shift by pairs) ≡ shift by (without key pairs)
 without-shift by key [] = refl
 without-shift by key (pair ∷ pairs) = ⊎_elim
-    (λ (same : pair.0 ≡ key). without-same (by + pair.0, pair.1) (shift by pairs) (by + key) (ap (λ n. by + n) same) ∙ without-shift by key pairs ∙ ap (shift by) (sym (without-same pair pairs key same)))
-    (λ (apart : pair.0 ≢ key). without-apart (by + pair.0, pair.1) (shift by pairs) (by + key) (λ (same : by + pair.0 ≡ by + key). apart (omega arith)) ∙ ap (λ rest. (by + pair.0, pair.1) ∷ rest) (without-shift by key pairs) ∙ ap (shift by) (sym (without-apart pair pairs key apart)))
+    (λ (same : pair.0 ≡ key). without-same (by + pair.0, pair.1) (shift by pairs) (by + key) (ap (λ n. by + n) same) ∙ without-shift by key pairs ∙
+    ap (shift by) (sym (without-same pair pairs key same)))
+    (λ (apart : pair.0 ≢ key). without-apart (by + pair.0, pair.1) (shift by pairs) (by + key) (λ (same : by + pair.0 ≡ by + key). apart (omega arith)) ∙
+    ap (λ rest. (by + pair.0, pair.1) ∷ rest) (without-shift by key pairs) ∙ ap (shift by) (sym (without-apart pair pairs key apart)))
     (same_or pair.0 key)
 
 -- ---- what is left
@@ -158,7 +163,8 @@ remove-without words low top key zero (pair ∷ pairs) map there =
     sym (without-same pair pairs key same ∙ without-absent pairs key (value-below words (pair.0 + 1) top key pairs (omega arith) map.3))
 remove-without words low top key (suc at) (pair ∷ pairs) map there =
     ap (λ rest. pair ∷ rest) (remove-without words (pair.0 + 1) top key at pairs map.3 there)
-    ∙ sym (without-apart pair pairs key (λ same. let none = value-below words (pair.0 + 1) top key pairs (omega arith) map.3 in let some = value-at words (pair.0 + 1) top key at pairs map.3 there in let never = sym some ∙ none in cc))
+    ∙ sym (without-apart pair pairs key (λ same. let none = value-below words (pair.0 + 1) top key pairs (omega arith) map.3 in
+    let some = value-at words (pair.0 + 1) top key at pairs map.3 there in let never = sym some ∙ none in cc))
 
 -- A key without a place isn't there.
 pub value-none : (pairs : Pairs) (key : ℕ) → set.place (keys_of pairs) key ≡ None → value_in pairs key ≡ None

@@ -24,12 +24,13 @@ struct More<'a> {
     pairs: &'a [(u64, u64)],
 }
 
-/// Puts the first of sorted pairs behind all pairs of a tree, as many as make one new node, and answers how many: all of them where the
-/// tree has no keys; else those whose keys go below one byte with the first key, where a branch on that key's way has no child for that
-/// byte and none for a greater one.
+/// Puts the first of sorted pairs behind all pairs of a tree, as many as make one new node, and answers how many: all
+/// of them where the tree has no keys; else those whose keys go below one byte with the first key, where a branch on
+/// that key's way has no child for that byte and none for a greater one.
 ///
-/// It is 0 where the first key goes elsewhere, or where there is no memory for the node; then the tree is the old one, its form
-/// included. A tight tree stays tight. It takes one way down, and reads the pairs that it puts in and one more.
+/// It is 0 where the first key goes elsewhere, or where there is no memory for the node; then the tree is the old one,
+/// its form included. A tight tree stays tight. It takes one way down, and reads the pairs that it puts in and one
+/// more.
 pub fn append<V: Words + Drop>(alloc: Global, node: &mut NodeOf<V>, pairs: &[(u64, u64)]) -> usize
     requires one { V.WORDS ≤ 1 }
     requires some { 0 < length pairs.now }
@@ -107,8 +108,8 @@ fn append_to_kind<V: Words + Drop>(kind: &mut KindOf<V>, width: u8, key: u64, mo
     }
 }
 
-// The same for the child of a branch at a place, whose byte is given with what is left of the first key: it takes some where it is the last
-// child.
+// The same for the child of a branch at a place, whose byte is given with what is left of the first key: it takes some
+// where it is the last child.
 #[cycle(append)]
 fn append_to_child<V: Words + Drop>(
     branch: &mut BranchOf<V>,

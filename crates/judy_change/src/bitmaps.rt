@@ -6,7 +6,7 @@ ghost use Rattle.judy_node.specs.Kinds.{tree_of, bit_tree, IsLevel, IsBit};
 ghost use Rattle.judy_change.specs.LeafTrees.{one_bitmap};
 ghost use Rattle.judy_change.specs.Inserted.{IsInserted};
 
-use crate::pair::{Inserted, Pair};
+use crate::insertion::{Inserted, Insertion};
 use judy_bits::low_part;
 use judy_block::Block;
 use judy_leaf::{BitLeafOf, BitRef, Words, put_in_bit_leaf};
@@ -22,13 +22,13 @@ pub(crate) fn bitmap_kind<V: Words + Drop>(head: Head, bits: BitLeafOf<V>) -> Ki
     KindOf::Bit(head, bits.into_parts())
 }
 
-// Puts a key with its value into a bitmap leaf, where the leaf stands; the key begins with the bytes that the leaf skips. The error is
-// want of memory; the leaf is unchanged then.
+// Puts a key with its value into a bitmap leaf, where the leaf stands; the key begins with the bytes that the leaf
+// skips. The error is want of memory; the leaf is unchanged then.
 pub(crate) fn into_bitmap<V: Words + Drop>(
     head: &Head,
     block: &mut Block,
     width: u8,
-    pair: Pair,
+    pair: Insertion,
 ) -> Inserted
     requires level { IsBit V.WORDS head.now block.old }
     requires child { IsChild V.WORDS width (bit_tree V.WORDS head.now block.old) }

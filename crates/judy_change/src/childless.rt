@@ -10,8 +10,8 @@ ghost use Rattle.judy_change.specs.Put.{IsPut};
 
 use crate::bitmaps::into_bitmap;
 use crate::immediates::into_immediate;
+use crate::insertion::{Inserted, Insertion};
 use crate::leaves::into_leaf;
-use crate::pair::{Inserted, Pair};
 use crate::present::{Present, Put};
 use crate::replaced::replaced;
 use judy_bits::without_low;
@@ -24,7 +24,7 @@ use std::mem;
 pub(crate) fn put_in_childless<V: Words + Drop, P: Present>(
     kind: &mut KindOf<V>,
     width: u8,
-    pair: Pair,
+    pair: Insertion,
 ) -> Put
     requires one { V.WORDS ≤ 1 }
     requires words { P.REPLACES ≡ true → V.WORDS ≡ 1 }
@@ -50,7 +50,7 @@ pub(crate) fn put_in_childless<V: Words + Drop, P: Present>(
 
 // The same where a key that is there keeps its value. The answer is whether it was absent.
 #[inline(always)]
-fn into_childless<V: Words + Drop>(kind: &mut KindOf<V>, width: u8, pair: Pair) -> Inserted
+fn into_childless<V: Words + Drop>(kind: &mut KindOf<V>, width: u8, pair: Insertion) -> Inserted
     requires one { V.WORDS ≤ 1 }
     requires level { IsLevel V.WORDS kind.old }
     requires child { IsChild V.WORDS width (tree_of V.WORDS kind.old) }

@@ -10,7 +10,7 @@ ghost use Rattle.judy_node.specs.Built.{IsBuilt};
 ghost use Rattle.judy_change.specs.Inserted.{IsInserted};
 
 use crate::gap::{in_order, put_at};
-use crate::pair::{Inserted, Pair};
+use crate::insertion::{Inserted, Insertion};
 use judy_leaf::{ImmOf, Spare, Words};
 use judy_node::{Head, KindOf, imm_of, kind_of_sorted, leaf_of_two};
 use std::alloc::AllocError;
@@ -29,15 +29,15 @@ pub(crate) fn keys_kind<V: Words + Drop>(imm: ImmOf<V>) -> KindOf<V>
     KindOf::Imm(Head::of_keys(count, width), keys)
 }
 
-// Puts a key with its value into an immediate, which is given by its two words and stands at a place; where it is full, a leaf takes that
-// place. The error is want of memory for the leaf; the immediate stays then.
+// Puts a key with its value into an immediate, which is given by its two words and stands at a place; where it is full,
+// a leaf takes that place. The error is want of memory for the leaf; the immediate stays then.
 #[inline(always)]
 pub(crate) fn into_immediate<V: Words + Drop>(
     kind: &mut KindOf<V>,
     head: u64,
     word: u64,
     width: u8,
-    pair: Pair,
+    pair: Insertion,
 ) -> Inserted
     requires one { V.WORDS ≤ 1 }
     requires level { IsLevel V.WORDS kind.old }
@@ -74,7 +74,7 @@ pub(crate) fn into_immediate<V: Words + Drop>(
 fn past_immediate<V: Words + Drop>(
     full: &ImmOf<V>,
     width: u8,
-    pair: Pair,
+    pair: Insertion,
 ) -> Result<KindOf<V>, AllocError>
     requires one { V.WORDS ≤ 1 }
     requires full { length full.now.pairs ≡ imm_room V.WORDS width }
@@ -99,7 +99,7 @@ fn past_immediate<V: Words + Drop>(
 fn past_few<V: Words + Drop>(
     full: &ImmOf<V>,
     width: u8,
-    pair: Pair,
+    pair: Insertion,
 ) -> Result<KindOf<V>, AllocError>
     requires one { V.WORDS ≤ 1 }
     requires full { length full.now.pairs ≡ imm_room V.WORDS width }

@@ -11,7 +11,7 @@ ghost use Rattle.judy_change.specs.LeafTrees.{one_leaf};
 ghost use Rattle.judy_change.specs.Inserted.{IsInserted};
 
 use crate::gap::put_at;
-use crate::pair::{Inserted, Pair};
+use crate::insertion::{Inserted, Insertion};
 use judy_block::Block;
 use judy_leaf::{LEAF_ROOM, LeafOf, LeafRef, Spare, Words, put_in_leaf};
 use judy_node::{KindOf, kind_of_sorted};
@@ -27,13 +27,14 @@ pub(crate) fn leaf_kind<V: Words + Drop>(leaf: LeafOf<V>) -> KindOf<V>
     KindOf::Leaf(count, block)
 }
 
-// Puts a key with its value into a leaf that isn't full, where the leaf stands. The error is want of memory; the leaf is unchanged then.
+// Puts a key with its value into a leaf that isn't full, where the leaf stands. The error is want of memory; the leaf
+// is unchanged then.
 #[inline(always)]
 pub(crate) fn into_leaf<V: Words + Drop>(
     count: &mut u8,
     block: &mut Block,
     width: u8,
-    pair: Pair,
+    pair: Insertion,
 ) -> Inserted
     requires level { IsLeaf V.WORDS count.old block.old }
     requires child { IsChild V.WORDS width (leaf_tree V.WORDS count.old block.old) }
@@ -61,7 +62,7 @@ pub(crate) fn into_full_leaf<V: Words + Drop>(
     count: u8,
     block: Block,
     width: u8,
-    pair: Pair,
+    pair: Insertion,
 ) -> (KindOf<V>, Inserted)
     requires one { V.WORDS ≤ 1 }
     requires level { IsLeaf V.WORDS count block }
@@ -94,7 +95,7 @@ fn past_leaf<V: Words + Drop>(
     full: LeafRef<'_, V>,
     width: u8,
     at: usize,
-    pair: Pair,
+    pair: Insertion,
 ) -> Result<KindOf<V>, AllocError>
     requires one { V.WORDS ≤ 1 }
     requires full { length full.pairs ≡ 32 }

@@ -2,8 +2,9 @@
 
 ghost use Rattle.std.specs.Prelude.{Bool, true, false};
 
-// What is answered where a key was to be put in. It goes through registers, where a `Result` of an `Option` goes through memory. The cases
-// are ordered as `false` and `true` of an insert, which are made to these, so that mostly the number stays.
+// What is answered where a key was to be put in. It goes through registers, where a `Result` of an `Option` goes
+// through memory. The cases are ordered as `false` and `true` of an insert, which are made to these, so that mostly the
+// number stays.
 pub(crate) enum Put {
     // The key was there. This is the value that was replaced, and 0 where it stays.
     There(u64),

@@ -10,7 +10,7 @@ ghost use Rattle.judy_node.specs.Branches.{IsWholeBranch, tree_below};
 ghost use Rattle.judy_node.specs.Populations.{AreSums};
 ghost use Rattle.judy_change.specs.Inserted.{IsAdded, IsInserted};
 
-use crate::pair::{Inserted, Pair};
+use crate::insertion::{Inserted, Insertion};
 use judy_leaf::Words;
 use judy_node::{BranchOf, ChildOf, immediate_of_one, make_room};
 use std::alloc::AllocError;
@@ -37,8 +37,8 @@ fn last_to<T>(items: &mut [T], place: usize)
     items[place..].rotate_right(1);
 }
 
-// Puts a child in at the place of its byte, which has none; there is room for it among the children. It is put behind them first, since
-// `Vec::insert` would move those behind its place one by one.
+// Puts a child in at the place of its byte, which has none; there is room for it among the children. It is put behind
+// them first, since `Vec::insert` would move those behind its place one by one.
 pub(crate) fn add_child<V: Words + Drop>(
     branch: &mut BranchOf<V>,
     place: usize,
@@ -63,8 +63,8 @@ pub(crate) fn add_child<V: Words + Drop>(
     last_to(&mut branch.children, place);
 }
 
-// Puts the node of a key with its value in as the child of a byte, which has none; there is room for it among the children. The
-// key is given as the byte, with its place, and what is left of it.
+// Puts the node of a key with its value in as the child of a byte, which has none; there is room for it among the
+// children. The key is given as the byte, with its place, and what is left of it.
 pub(crate) fn put_key<V: Words + Drop>(
     branch: &mut BranchOf<V>,
     place: usize,
@@ -98,13 +98,13 @@ pub(crate) fn put_key<V: Words + Drop>(
     branch.population += 1;
 }
 
-// The same, with room asked for first. The error is want of memory; the branch is the old one then. Where the last of 256 children comes,
-// they are summed, if there is memory for that too.
+// The same, with room asked for first. The error is want of memory; the branch is the old one then. Where the last of
+// 256 children comes, they are summed, if there is memory for that too.
 pub(crate) fn put_child<V: Words + Drop>(
     branch: &mut BranchOf<V>,
     place: usize,
     byte: u8,
-    pair: Pair,
+    pair: Insertion,
 ) -> Inserted
     requires one { V.WORDS ≤ 1 }
     requires level { IsWholeBranch V.WORDS branch.old }

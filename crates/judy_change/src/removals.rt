@@ -21,9 +21,9 @@ use judy_unmetered::UNMETERED;
 use std::alloc::Global;
 use std::mem;
 
-/// Takes a key out of a tree, and answers whether it was there, with which value, and whether there was memory for each smaller node
-/// that was wanted on its way. It is never refused: where there is no such memory, the larger node stays, loose. An absent key changes
-/// nothing.
+/// Takes a key out of a tree, and answers whether it was there, with which value, and whether there was memory for each
+/// smaller node that was wanted on its way. It is never refused: where there is no such memory, the larger node stays,
+/// loose. An absent key changes nothing.
 pub fn remove<V: Words + Drop>(alloc: Global, node: &mut NodeOf<V>, key: u64) -> Removed
     requires { V.WORDS ≤ 1 }
     ensures { IsRemoved key node.old node.new result }

@@ -63,8 +63,8 @@ fn immediate_left<V: Words + Drop>(width: u8, leaf: LeafOf<V>) -> ChildOf<V>
     ChildOf::close(immediate_of_sorted(width, &pairs[..count]))
 }
 
-/// Takes a key out of a leaf of one key more than an immediate holds, whose keys have `width` bytes; of width 8 there are three at
-/// least. It becomes an immediate, and no memory is asked for.
+/// Takes a key out of a leaf of one key more than an immediate holds, whose keys have `width` bytes; of width 8 there
+/// are three at least. It becomes an immediate, and no memory is asked for.
 pub(crate) fn shrink_leaf<V: Words + Drop>(
     width: u8,
     count: u8,
@@ -126,8 +126,8 @@ pub(crate) fn remove_from_bitmap<V: Words + Drop>(
     }
 }
 
-/// Takes a key out of a bitmap leaf of at most 33 keys, in a node whose keys have `width` bytes; of width 8 there are three at
-/// least. What is left gets a leaf if there is memory for it.
+/// Takes a key out of a bitmap leaf of at most 33 keys, in a node whose keys have `width` bytes; of width 8 there are
+/// three at least. What is left gets a leaf if there is memory for it.
 pub(crate) fn shrink_bitmap<V: Words + Drop>(
     alloc: Global,
     width: u8,

@@ -9,8 +9,8 @@ pub struct Removed {
     pub was: bool,
     /// Its value; 0 where it wasn't there, and where keys have no values.
     pub value: u64,
-    /// False where a smaller node was wanted on the key's way and there was no memory for it: the larger one stays then, loose. Else
-    /// true, also where the key wasn't there.
+    /// False where a smaller node was wanted on the key's way and there was no memory for it: the larger one stays
+    /// then, loose. Else true, also where the key wasn't there.
     pub shrunk: bool,
 }
 
@@ -37,7 +37,8 @@ impl Removed {
         }
     }
 
-    // The answer where the key was there: its value, and whether there was memory for each smaller node that was wanted.
+    // The answer where the key was there: its value, and whether there was memory for each smaller node that was
+    // wanted.
     pub(crate) fn gone(value: u64, shrunk: bool) -> Removed
         ensures { result ≡ record { was = true; value = value; shrunk = shrunk } }
     {

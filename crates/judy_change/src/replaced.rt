@@ -9,8 +9,8 @@ ghost use Rattle.judy_node.specs.Kinds.{tree_of, bit_tree, IsLevel, IsBit};
 ghost use Rattle.judy_change.specs.Removals.{width_of};
 ghost use Rattle.judy_change.specs.Inserted.{has_key, IsInserted, IsPast};
 
+use crate::insertion::{Inserted, Insertion};
 use crate::leaves::into_full_leaf;
-use crate::pair::{Inserted, Pair};
 use crate::split::{Skipped, split};
 use judy_block::Block;
 use judy_leaf::Words;
@@ -18,7 +18,11 @@ use judy_node::{BranchOf, Head, KindOf};
 use std::mem;
 
 // Puts a key with its value into a node in which it has no room, so that one of another kind takes its place.
-pub(crate) fn replaced<V: Words + Drop>(kind: &mut KindOf<V>, width: u8, pair: Pair) -> Inserted
+pub(crate) fn replaced<V: Words + Drop>(
+    kind: &mut KindOf<V>,
+    width: u8,
+    pair: Insertion,
+) -> Inserted
     requires one { V.WORDS ≤ 1 }
     requires level { IsLevel V.WORDS kind.old }
     requires child { IsChild V.WORDS width (tree_of V.WORDS kind.old) }
@@ -39,7 +43,11 @@ pub(crate) fn replaced<V: Words + Drop>(kind: &mut KindOf<V>, width: u8, pair: P
 }
 
 // The same for such a node taken out of its place.
-fn replacement<V: Words + Drop>(kind: KindOf<V>, width: u8, pair: Pair) -> (KindOf<V>, Inserted)
+fn replacement<V: Words + Drop>(
+    kind: KindOf<V>,
+    width: u8,
+    pair: Insertion,
+) -> (KindOf<V>, Inserted)
     requires one { V.WORDS ≤ 1 }
     requires level { IsLevel V.WORDS kind }
     requires child { IsChild V.WORDS width (tree_of V.WORDS kind) }
@@ -66,7 +74,7 @@ fn past_bit<V: Words + Drop>(
     head: Head,
     block: Block,
     width: u8,
-    pair: Pair,
+    pair: Insertion,
 ) -> (KindOf<V>, Inserted)
     requires one { V.WORDS ≤ 1 }
     requires level { IsBit V.WORDS head block }
@@ -90,7 +98,7 @@ fn past_bit<V: Words + Drop>(
 }
 
 // Puts a key with its value beside a branch that skips other bytes than the key begins with.
-fn past_branch<V: Words + Drop>(branch: Box<BranchOf<V>>, pair: Pair) -> (KindOf<V>, Inserted)
+fn past_branch<V: Words + Drop>(branch: Box<BranchOf<V>>, pair: Insertion) -> (KindOf<V>, Inserted)
     requires one { V.WORDS ≤ 1 }
     requires level { IsWholeBranch V.WORDS branch.value }
     requires sums { AreSums branch.value.sums branch.value.children.items }

@@ -90,8 +90,8 @@ fn behind_bytes<V: Words + Drop>(kind: KindOf<V>, bytes: &[u8]) -> KindOf<V>
     behind_bytes(kind, &bytes[1..]).behind(bytes[0])
 }
 
-// The only child of a branch of more than 32 keys in its place: it skips the branch's bytes, then its own byte there, and then
-// what it skipped before.
+// The only child of a branch of more than 32 keys in its place: it skips the branch's bytes, then its own byte there,
+// and then what it skipped before.
 fn merged<V: Words + Drop>(branch: &mut BranchOf<V>) -> ChildOf<V>
     requires branch { IsWholeBranch V.WORDS branch.old }
     requires many { 32 < branch.old.population }
@@ -109,9 +109,9 @@ fn merged<V: Words + Drop>(branch: &mut BranchOf<V>) -> ChildOf<V>
     ChildOf::close(behind_bytes(child.open().behind(byte), branch.skip.bytes()))
 }
 
-/// Makes the smallest node of a branch whose keys have `width` bytes, two of them at least at width 8: an immediate or a leaf of at
-/// most 32 keys; the child of a branch with one child; else the branch, which isn't moved. Where there is no memory for a leaf,
-/// the branch stays, and the answer is `false`.
+/// Makes the smallest node of a branch whose keys have `width` bytes, two of them at least at width 8: an immediate or
+/// a leaf of at most 32 keys; the child of a branch with one child; else the branch, which isn't moved. Where there is
+/// no memory for a leaf, the branch stays, and the answer is `false`.
 pub(crate) fn settle<V: Words + Drop>(alloc: Global, width: u8, kind: &mut KindOf<V>) -> bool
     requires one { V.WORDS ≤ 1 }
     requires parent { IsParent kind.old }

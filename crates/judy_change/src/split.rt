@@ -8,7 +8,7 @@ ghost use Rattle.judy_node.specs.Kinds.{tree_of, IsLevel};
 ghost use Rattle.judy_change.specs.Splits.{IsSkipping, IsShorter, IsAbove};
 ghost use Rattle.judy_change.specs.Inserted.{has_key, IsInserted};
 
-use crate::pair::{Inserted, Pair};
+use crate::insertion::{Inserted, Insertion};
 use crate::put::{add_child, put_key};
 use judy_bits::{ByteSet, Skip, low_part, without_low};
 use judy_leaf::{Words, set_bit_width};
@@ -76,8 +76,8 @@ fn shortened<V: Words + Drop>(kind: KindOf<V>, skipped: Skipped, left: u8) -> Ki
     }
 }
 
-// A branch above a node, with room for another child. The node skips `left` bytes then. The error is want of memory and gives
-// the node back.
+// A branch above a node, with room for another child. The node skips `left` bytes then. The error is want of memory and
+// gives the node back.
 fn above<V: Words + Drop>(
     alloc: Global,
     kind: KindOf<V>,
@@ -121,12 +121,12 @@ fn above<V: Words + Drop>(
     Ok(branch)
 }
 
-// Puts a key with its value into a node that skips other bytes than the key begins with: a branch for both takes its place. The error
-// is want of memory; the node stays then.
+// Puts a key with its value into a node that skips other bytes than the key begins with: a branch for both takes its
+// place. The error is want of memory; the node stays then.
 pub(crate) fn split<V: Words + Drop>(
     kind: KindOf<V>,
     skipped: Skipped,
-    pair: Pair,
+    pair: Insertion,
 ) -> (KindOf<V>, Inserted)
     requires one { V.WORDS ≤ 1 }
     requires level { IsLevel V.WORDS kind }

@@ -14,7 +14,7 @@ ghost use Rattle.judy_change.specs.Put.{IsPut};
 
 use crate::childless::put_in_childless;
 use crate::gap::in_order;
-use crate::pair::Pair;
+use crate::insertion::Insertion;
 use crate::present::{Present, Put};
 use crate::put::put_child;
 use crate::replaced::replaced;
@@ -23,7 +23,7 @@ use judy_node::{BranchOf, ChildOf, KindOf, RootOf, Step, leaf_of_two};
 
 // Puts a key with its value into a root, which is changed where it stands.
 #[inline(always)]
-pub(crate) fn put_in_root<V: Words + Drop, P: Present>(root: &mut RootOf<V>, pair: Pair) -> Put
+pub(crate) fn put_in_root<V: Words + Drop, P: Present>(root: &mut RootOf<V>, pair: Insertion) -> Put
     requires one { V.WORDS ≤ 1 }
     requires words { P.REPLACES ≡ true → V.WORDS ≡ 1 }
     requires root { IsRoot V.WORDS root.old }
@@ -52,7 +52,7 @@ pub(crate) fn put_in_root<V: Words + Drop, P: Present>(root: &mut RootOf<V>, pai
 fn put_beside<V: Words + Drop, P: Present>(
     root: &mut RootOf<V>,
     held: (u64, u64),
-    pair: Pair,
+    pair: Insertion,
 ) -> Put
     requires one { V.WORDS ≤ 1 }
     requires words { P.REPLACES ≡ true → V.WORDS ≡ 1 }
@@ -78,9 +78,10 @@ fn put_beside<V: Words + Drop, P: Present>(
     }
 }
 
-// In the node below a root. In small arrays that is a leaf, and here the width of its keys is known when this is compiled.
+// In the node below a root. In small arrays that is a leaf, and here the width of its keys is known when this is
+// compiled.
 #[inline(always)]
-fn put_in_many<V: Words + Drop, P: Present>(child: &mut ChildOf<V>, pair: Pair) -> Put
+fn put_in_many<V: Words + Drop, P: Present>(child: &mut ChildOf<V>, pair: Insertion) -> Put
     requires one { V.WORDS ≤ 1 }
     requires words { P.REPLACES ≡ true → V.WORDS ≡ 1 }
     requires child { IsChild V.WORDS 8 child.old }
@@ -98,7 +99,7 @@ fn put_in_many<V: Words + Drop, P: Present>(child: &mut ChildOf<V>, pair: Pair) 
 
 // Puts a key with its value into a node below the root, whose keys have `width` bytes.
 #[cycle(put)]
-fn put_in<V: Words + Drop, P: Present>(child: &mut ChildOf<V>, width: u8, pair: Pair) -> Put
+fn put_in<V: Words + Drop, P: Present>(child: &mut ChildOf<V>, width: u8, pair: Insertion) -> Put
     requires one { V.WORDS ≤ 1 }
     requires words { P.REPLACES ≡ true → V.WORDS ≡ 1 }
     requires child { IsChild V.WORDS width child.old }
@@ -113,7 +114,7 @@ fn put_in<V: Words + Drop, P: Present>(child: &mut ChildOf<V>, width: u8, pair: 
 
 // The same by the node's kind. A branch on the key's way and a leaf that stays a leaf are changed where they stand.
 #[cycle(put)]
-fn put_in_kind<V: Words + Drop, P: Present>(kind: &mut KindOf<V>, width: u8, pair: Pair) -> Put
+fn put_in_kind<V: Words + Drop, P: Present>(kind: &mut KindOf<V>, width: u8, pair: Insertion) -> Put
     requires one { V.WORDS ≤ 1 }
     requires words { P.REPLACES ≡ true → V.WORDS ≡ 1 }
     requires level { IsLevel V.WORDS kind.old }
@@ -133,10 +134,10 @@ fn put_in_kind<V: Words + Drop, P: Present>(kind: &mut KindOf<V>, width: u8, pai
                 branch,
                 byte,
                 place,
-                Pair { key: rest, ..pair },
+                Insertion { key: rest, ..pair },
             ),
             Step::Missing(byte, place, rest) => {
-                match put_child(branch, place, byte, Pair { key: rest, ..pair }) {
+                match put_child(branch, place, byte, Insertion { key: rest, ..pair }) {
                     Ok(_) => Put::Added,
                     Err(_) => Put::Refused,
                 }
@@ -156,7 +157,7 @@ fn put_in_child<V: Words + Drop, P: Present>(
     branch: &mut BranchOf<V>,
     byte: u8,
     place: usize,
-    pair: Pair,
+    pair: Insertion,
 ) -> Put
     requires one { V.WORDS ≤ 1 }
     requires words { P.REPLACES ≡ true → V.WORDS ≡ 1 }

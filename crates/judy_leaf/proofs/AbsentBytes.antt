@@ -42,7 +42,8 @@ module _ (keys : List ℕ) where
   same_side : (number x : ℕ) → (is_absent 256 keys x && is_le (word_order x (min number 255))) ≡ (is_absent 256 keys x && is_le (word_order x number))
   same_side number x = ⊎_elim
       (λ below. ap (λ b. is_absent 256 keys x && b) (is_le_word x (min number 255) ∙ least x number below ∙ sym (is_le_word x number)))
-      (λ above. (λ t. (not_less x 256 above t && not (set.has keys x)) && is_le (word_order x (min number 255))) ∙ (λ t. (sym (not_less x 256 above) t && not (set.has keys x)) && is_le (word_order x number)))
+      (λ above. (λ t. (not_less x 256 above t && not (set.has keys x)) && is_le (word_order x (min number 255))) ∙
+      (λ t. (sym (not_less x 256 above) t && not (set.has keys x)) && is_le (word_order x number)))
       (cases_lt x 256)
     where
       least : (x number : ℕ) → x < 256 → nat_le x (min number 255) ≡ nat_le x number

@@ -1,5 +1,6 @@
 -- The nearest number that is no key, by a run of keys that are neighbours.
-use Rattle.std.proofs.Common.{◌≡◌, ◌≢◌, ℕ, ◌+◌, ◌-◌, ◌<◌, ◌≤◌, ◌^◌, ◌&&◌, ⊎_elim, Bool, true, false, not, nat_lt, List, length, get_or, Option, Some, None, refl, ap, sym, ◌∙◌, subst, arith, true≢false, is_le, is_ge, ltb-true, leb-true, lt-ltb, le-leb}
+use Rattle.std.proofs.Common.{◌≡◌, ◌≢◌, ℕ, ◌+◌, ◌-◌, ◌<◌, ◌≤◌, ◌^◌, ◌&&◌, ⊎_elim, Bool, true, false, not, nat_lt, List, length, get_or, Option, Some, None, refl, ap, sym, ◌∙◌}
+use Rattle.std.proofs.Common.{subst, arith, true≢false, is_le, is_ge, ltb-true, leb-true, lt-ltb, le-leb}
 use Rattle.std.specs.List.Sorted.{IsStrictlySortedBy}
 use Rattle.std.proofs.lemmas.Bool.{false_from_ne_true, cases_lt}
 use Rattle.std.proofs.lemmas.Option.{slice_get-get_or}
@@ -111,16 +112,21 @@ module _ (keys : List ℕ) (ascending : IsStrictlySortedBy word_order keys) (num
 
 -- ---- the same beside other names for the bound and the keys
 
-pub first_among : (bound other : ℕ) (keys list : List ℕ) (number : ℕ) (found : Option ℕ) → bound ≡ other → keys ≡ list → IsFirst word_order (is_absent bound keys) number found → IsFirst word_order (is_absent other list) number found
-first_among bound other keys list number found bounds same is = subst (λ b. IsFirst word_order (is_absent b list) number found) bounds (subst (λ ks. IsFirst word_order (is_absent bound ks) number found) same is)
+pub first_among : (bound other : ℕ) (keys list : List ℕ) (number : ℕ) (found : Option ℕ) → bound ≡ other → keys ≡ list → IsFirst word_order (is_absent bound keys) number found →
+    IsFirst word_order (is_absent other list) number found
+first_among bound other keys list number found bounds same is =
+    subst (λ b. IsFirst word_order (is_absent b list) number found) bounds (subst (λ ks. IsFirst word_order (is_absent bound ks) number found) same is)
 
-pub last_among : (bound other : ℕ) (keys list : List ℕ) (number : ℕ) (found : Option ℕ) → bound ≡ other → keys ≡ list → IsLast word_order (is_absent bound keys) number found → IsLast word_order (is_absent other list) number found
-last_among bound other keys list number found bounds same is = subst (λ b. IsLast word_order (is_absent b list) number found) bounds (subst (λ ks. IsLast word_order (is_absent bound ks) number found) same is)
+pub last_among : (bound other : ℕ) (keys list : List ℕ) (number : ℕ) (found : Option ℕ) → bound ≡ other → keys ≡ list → IsLast word_order (is_absent bound keys) number found →
+    IsLast word_order (is_absent other list) number found
+last_among bound other keys list number found bounds same is =
+    subst (λ b. IsLast word_order (is_absent b list) number found) bounds (subst (λ ks. IsLast word_order (is_absent bound ks) number found) same is)
 
 -- Words of keys of one width are words of keys of the width that is told.
 module _ (told width count : ℕ) (words other : List ℕ) (number : ℕ) (found : Option ℕ) (is_width : told ≡ width) (same : words ≡ other) where
   pub first_at : IsFirst word_order (is_absent (256 ^ width) (keys_in width count words)) number found → IsFirst word_order (is_absent (256 ^ told) (keys_in told count other)) number found
-  first_at = first_among (256 ^ width) (256 ^ told) (keys_in width count words) (keys_in told count other) number found (ap (λ w. 256 ^ w) (sym is_width)) (λ t. keys_in (sym is_width t) count (same t))
+  first_at =
+      first_among (256 ^ width) (256 ^ told) (keys_in width count words) (keys_in told count other) number found (ap (λ w. 256 ^ w) (sym is_width)) (λ t. keys_in (sym is_width t) count (same t))
 
   pub last_at : IsLast word_order (is_absent (256 ^ width) (keys_in width count words)) number found → IsLast word_order (is_absent (256 ^ told) (keys_in told count other)) number found
   last_at = last_among (256 ^ width) (256 ^ told) (keys_in width count words) (keys_in told count other) number found (ap (λ w. 256 ^ w) (sym is_width)) (λ t. keys_in (sym is_width t) count (same t))

@@ -1,5 +1,6 @@
 -- The pairs of a leaf written into its block one part after the other: the values, then the keys.
-use Rattle.std.proofs.Common.{◌≡◌, ℕ, zero, suc, ◌+◌, ◌-◌, ◌*◌, ◌/◌, ◌%◌, ◌^◌, ◌<◌, ◌≤◌, List, [], ◌∷◌, ◌++◌, length, take, drop, replicate, get_or, set, refl, ap, sym, ◌∙◌, subst, arith, append_assoc, length-append}
+use Rattle.std.proofs.Common.{◌≡◌, ℕ, zero, suc, ◌+◌, ◌-◌, ◌*◌, ◌/◌, ◌%◌, ◌^◌, ◌<◌, ◌≤◌, List, [], ◌∷◌, ◌++◌, length, take, drop, replicate, get_or, set, refl, ap, sym, ◌∙◌, subst}
+use Rattle.std.proofs.Common.{arith, append_assoc, length-append}
 use Rattle.std.specs.List.{AllByRecursion, insert}
 use Rattle.std.proofs.Math.Nat.{div-eq_of_lt, div-eq_of_lt-le, mod-eq_of_lt}
 use Rattle.std.proofs.lemmas.Nat.{mod_below}
@@ -39,7 +40,8 @@ pub gap_length : (words : List ℕ) (n : ℕ) → length (words ++ replicate n 0
 gap_length words n = length-append words (replicate n 0) ∙ ap (λ k. length words + k) (length-replicate n 0)
 
 -- The next value written.
-pub value_written : (words front : List ℕ) (pairs : List (ℕ × ℕ)) (start place at : ℕ) → place ≡ start + at → place < length words → at < length pairs → take (start + at) words ≡ front ++ take at (values_of pairs)
+pub value_written : (words front : List ℕ) (pairs : List (ℕ × ℕ)) (start place at : ℕ) → place ≡ start + at → place < length words → at < length pairs →
+    take (start + at) words ≡ front ++ take at (values_of pairs)
     → take (start + (at + 1)) (set words place (get_or pairs at (0, 0)).1) ≡ front ++ take (at + 1) (values_of pairs)
 value_written words front pairs start place at is room inside so_far =
     let long = length-values pairs in
@@ -89,7 +91,8 @@ none_behind width start block keys is end =
       keys = record {
         few = omega arith;
         exact = end ∙ (let e : start ≡ start + words_for width 0 = omega arith in e);
-        packed = subst (IsPacked width 0) (sym behind) (record { is_width = is; enough = omega arith; clear = ap (λ n. replicate n 0) (let e : 0 ≡ 0 * (8 / width) - 0 = omega arith in e); tight = tt });
+        packed =
+            subst (IsPacked width 0) (sym behind) (record { is_width = is; enough = omega arith; clear = ap (λ n. replicate n 0) (let e : 0 ≡ 0 * (8 / width) - 0 = omega arith in e); tight = tt });
       };
       changed = refl;
     }
@@ -105,7 +108,8 @@ key_behind width start at key keys first before after inside is so_far put = rec
   changed = put.changed ∙ (λ t. insert (so_far.changed t) at (is t)) ∙ insert_last keys at 0 inside;
 }
 
-pub keys_done : (width start at n : ℕ) (keys : List ℕ) (before after : Contents) → at ≡ n → length keys ≡ n → IsKeyChange width start 0 at (λ _. take at keys) before after → IsKeyChange width start 0 n (λ _. keys) before after
+pub keys_done : (width start at n : ℕ) (keys : List ℕ) (before after : Contents) → at ≡ n → length keys ≡ n → IsKeyChange width start 0 at (λ _. take at keys) before after →
+    IsKeyChange width start 0 n (λ _. keys) before after
 keys_done width start at n keys before after end long done =
     let there = subst (λ k. IsKeyChange width start 0 k (λ _. take k keys) before after) end done in
     record {
@@ -123,7 +127,8 @@ keys_below unit some [] = tt
 keys_below unit some (pair ∷ pairs) = (mod_below pair.0 unit some, keys_below unit some pairs)
 
 -- The next key written.
-pub key_written : (words front keys : List ℕ) (start place at key : ℕ) → place ≡ start + at → place < length words → at < length keys → key ≡ get_or keys at 0 → take (start + at) words ≡ front ++ take at keys
+pub key_written : (words front keys : List ℕ) (start place at key : ℕ) → place ≡ start + at → place < length words → at < length keys → key ≡ get_or keys at 0 →
+    take (start + at) words ≡ front ++ take at keys
     → take (start + (at + 1)) (set words place key) ≡ front ++ take (at + 1) keys
 key_written words front keys start place at key is room inside same so_far =
     let next : start + (at + 1) ≡ place + 1 = omega arith in

@@ -1,5 +1,6 @@
 -- The list that a bitmap leaf is.
-use Rattle.std.proofs.Common.{◌≡◌, ℕ, zero, suc, ◌+◌, ◌*◌, ◌/◌, ◌^◌, ◌<◌, ◌≤◌, Some, None, true, false, cond, List, [], ◌∷◌, length, take, drop, get_or, is_lt, refl, ap, sym, ◌∙◌, subst, arith, get_or-take}
+use Rattle.std.proofs.Common.{◌≡◌, ℕ, zero, suc, ◌+◌, ◌*◌, ◌/◌, ◌^◌, ◌<◌, ◌≤◌, Some, None, true, false, cond, List, [], ◌∷◌, length, take, drop, get_or, is_lt, refl, ap, sym, ◌∙◌}
+use Rattle.std.proofs.Common.{subst, arith, get_or-take}
 use Rattle.std.proofs.Math.Nat.{pow-suc}
 use Rattle.std.proofs.lemmas.Bool.{false_from_ne_true}
 use Rattle.std.proofs.lemmas.List.{length-take-le, length-drop, get_or-drop}
@@ -40,7 +41,8 @@ rank_above xs key is above = ap length (filter_all (λ member. is_lt (word_order
 
 pub place_above : (xs : List ℕ) (key : ℕ) → IsByteSet xs → 256 ≤ key → None ≡ set.place xs key
 place_above xs key is above =
-    let absent : set.has xs key ≡ false = false_from_ne_true (set.has xs key) (λ held. let small = all_among (λ b. b < 256) xs key (all_bytes xs is.bytes) (Among-has xs key held) in let never : ⊥ = omega arith in absurd never) in
+    let absent : set.has xs key ≡ false = false_from_ne_true (set.has xs key) (λ held. let small = all_among (λ b. b < 256) xs key (all_bytes xs is.bytes) (Among-has xs key held) in
+    let never : ⊥ = omega arith in absurd never) in
     sym (ap (λ b. cond b (Some (set.rank xs key)) None) absent)
 
 -- The rank of a greater word is the number of keys.
@@ -97,9 +99,6 @@ module _ (words : ℕ) (block : Contents) (is : IsBitParts words block) (list : 
   pub bit_most : length list.pairs ≤ 256
   bit_most = subst (λ n. n ≤ 256) (sym bit_length) (length-members_of-le (take 4 block.words))
 
-  pub bit_width : block.tag / 65536 ≡ list.width
-  bit_width = ap (λ l. l.width) seen
-
   pub bit_value_inside : (at : ℕ) → at < length list.pairs → words ≡ 1 → 4 + at < length block.words
   bit_value_inside at inside one =
       let all = bit_length in
@@ -121,5 +120,6 @@ module _ (words : ℕ) (block : Contents) (is : IsBitParts words block) (list : 
   pub bit_no_value : (at : ℕ) → words ≡ 0 → 0 ≡ get_or (values_of list.pairs) at 0
   bit_no_value at none =
       sym (no_value (bit_keys block) at)
-      ∙ ap (λ n. get_or (values_of (pairs_of (bit_keys block) (take n (drop 4 block.words)))) at 0) (let e : 0 ≡ words * length (bit_keys block) = sym (ap (λ w. w * length (bit_keys block)) none ∙ (let z : 0 * length (bit_keys block) ≡ 0 = omega arith in z)) in e)
+      ∙ ap (λ n. get_or (values_of (pairs_of (bit_keys block) (take n (drop 4 block.words)))) at 0) (let e : 0 ≡
+      words * length (bit_keys block) = sym (ap (λ w. w * length (bit_keys block)) none ∙ (let z : 0 * length (bit_keys block) ≡ 0 = omega arith in z)) in e)
       ∙ ap (λ l. get_or (values_of l.pairs) at 0) seen

@@ -1,5 +1,6 @@
 -- What a pair more or less in its block makes of a bitmap leaf.
-use Rattle.std.proofs.Common.{◌≡◌, ◌≢◌, ℕ, zero, suc, ◌+◌, ◌-◌, ◌*◌, ◌/◌, ◌%◌, ◌^◌, ◌<◌, ◌≤◌, false, cond, List, [], ◌∷◌, length, take, drop, get_or, set, slice_get, Some, bit_and, bit_or, refl, ap, sym, ◌∙◌, arith, get_or-take}
+use Rattle.std.proofs.Common.{◌≡◌, ◌≢◌, ℕ, zero, suc, ◌+◌, ◌-◌, ◌*◌, ◌/◌, ◌%◌, ◌^◌, ◌<◌, ◌≤◌, false, cond, List, [], ◌∷◌, length, take, drop, get_or, set, slice_get, Some, bit_and}
+use Rattle.std.proofs.Common.{bit_or, refl, ap, sym, ◌∙◌, arith, get_or-take}
 use Rattle.std.specs.List.{insert, remove}
 use Rattle.std.proofs.lemmas.List.{drop-set-lt, length-set, length-take-le, length-drop}
 use Rattle.std.proofs.Math.Seq.{take-set-lt}
@@ -45,7 +46,8 @@ module _ (words : List ℕ) (byte : ℕ) (long : 4 ≤ length words) (small : by
   pub bit_room : set.has (members_of (take 4 words)) byte ≡ false → length (members_of (take 4 words)) + 1 ≤ 256
   bit_room absent =
       let more : length (set.with_byte (members_of (take 4 words)) byte) ≡ length (members_of (take 4 words)) + 1 =
-      length-with_byte (members_of (take 4 words)) byte (members_of-IsByteSet (take 4 words)).ascending ∙ ap (λ b. cond b (length (members_of (take 4 words))) (length (members_of (take 4 words)) + 1)) absent in
+      length-with_byte (members_of (take 4 words)) byte (members_of-IsByteSet (take 4 words)).ascending ∙
+      ap (λ b. cond b (length (members_of (take 4 words))) (length (members_of (take 4 words)) + 1)) absent in
       let most = length-members_of-le (set (take 4 words) (byte / 64) (bit_or (get_or (take 4 words) (byte / 64) 0) (1 * 2 ^ (byte % 64) % 2 ^ 64))) in
       let same = ap length (members_of-add (take 4 words) byte small four) in
       omega arith
@@ -100,7 +102,8 @@ all_values words block is =
 -- ---- a change of the bits
 
 -- A word among the first four is written, and the bits become what they are to be.
-pub bits_changed : (change : List ℕ → List ℕ) (block : Contents) (at word : ℕ) → at < 4 → members_of (take 4 (set block.words at word)) ≡ change (bit_keys block) → IsBitChange change block (record block { words = set block.words at word })
+pub bits_changed : (change : List ℕ → List ℕ) (block : Contents) (at word : ℕ) → at < 4 → members_of (take 4 (set block.words at word)) ≡ change (bit_keys block) →
+    IsBitChange change block (record block { words = set block.words at word })
 bits_changed change block at word inside is = record {
   capacity = refl;
   tag = refl;
@@ -117,11 +120,14 @@ one_more zero n one = omega arith
 one_more (suc zero) n one = omega arith
 one_more (suc (suc k)) n one = let never : ⊥ = omega arith in absurd never
 
-module _ (words at key value : ℕ) (before bits after : Contents) (is : IsBitParts words before) (small : key < 256) (absent : set.has (bit_keys before) key ≡ false) (place : at ≡ set.rank (bit_keys before) key)
+module _ (words at key value : ℕ) (before bits after : Contents) (is : IsBitParts words before) (small : key < 256) (absent : set.has (bit_keys before) key ≡ false)
+    (place : at ≡ set.rank (bit_keys before) key)
     (changed : IsBitChange (λ keys. set.with_byte keys key) before bits) (tag : after.tag ≡ bits.tag + 1) (capacity : after.capacity ≡ bits.capacity) (front : take 4 after.words ≡ take 4 bits.words)
-    (long : length after.words ≡ length bits.words + words) (rest : pairs_of (insert (bit_keys before) at key) (drop 4 after.words) ≡ insert (pairs_of (bit_keys before) (drop 4 bits.words)) at (key, value)) where
+    (long : length after.words ≡ length bits.words + words) (rest : pairs_of (insert (bit_keys before) at key) (drop 4 after.words) ≡
+    insert (pairs_of (bit_keys before) (drop 4 bits.words)) at (key, value)) where
   keys_put : bit_keys after ≡ insert (bit_keys before) at key
-  keys_put = ap members_of front ∙ changed.changed ∙ with_other (bit_keys before) key (members_of-IsByteSet (take 4 before.words)).ascending absent ∙ ap (λ n. insert (bit_keys before) n key) (sym place)
+  keys_put =
+      ap members_of front ∙ changed.changed ∙ with_other (bit_keys before) key (members_of-IsByteSet (take 4 before.words)).ascending absent ∙ ap (λ n. insert (bit_keys before) n key) (sym place)
 
   one_key_more : length (bit_keys after) ≡ length (bit_keys before) + 1
   one_key_more =
@@ -143,7 +149,8 @@ module _ (words at key value : ℕ) (before bits after : Contents) (is : IsBitPa
         some = omega arith;
         most = omega arith;
         count = omega arith;
-        full = (let e : length after.words ≡ 4 + (words * length (bit_keys before) + words) = omega arith in e) ∙ ap (λ n. 4 + n) (sym (one_more words (length (bit_keys before)) is.one) ∙ ap (λ n. words * n) (sym more));
+        full = (let e : length after.words ≡ 4 + (words * length (bit_keys before) + words) = omega arith in e) ∙
+            ap (λ n. 4 + n) (sym (one_more words (length (bit_keys before)) is.one) ∙ ap (λ n. words * n) (sym more));
       }
 
   pub bit_put : IsBitEdit words (with_pair key value) before after
@@ -167,7 +174,8 @@ module _ (words at key value : ℕ) (before bits after : Contents) (is : IsBitPa
 
 -- There are no value words where keys have none.
 no_words : (words : ℕ) (block : Contents) → IsBitParts words block → words ≡ 0 → drop 4 block.words ≡ []
-no_words words block is none = sym (all_values words block is) ∙ ap (λ n. take n (drop 4 block.words)) (ap (λ w. w * length (bit_keys block)) none ∙ (let e : 0 * length (bit_keys block) ≡ 0 = omega arith in e))
+no_words words block is none =
+    sym (all_values words block is) ∙ ap (λ n. take n (drop 4 block.words)) (ap (λ w. w * length (bit_keys block)) none ∙ (let e : 0 * length (bit_keys block) ≡ 0 = omega arith in e))
 
 -- As many as keys, where they have one each.
 pub as_many : (words : ℕ) (block : Contents) → IsBitParts words block → words ≡ 1 → length (drop 4 block.words) ≡ length (bit_keys block)
@@ -176,7 +184,8 @@ as_many words block is one =
     let many : words * length (bit_keys block) ≡ length (bit_keys block) = ap (λ w. w * length (bit_keys block)) one ∙ omega arith in
     length-drop 4 block.words ∙ omega arith
 
-module _ (words at key value tag : ℕ) (before bits after : Contents) (is : IsBitParts words before) (small : key < 256) (absent : set.has (bit_keys before) key ≡ false) (place : at ≡ set.rank (bit_keys before) key)
+module _ (words at key value tag : ℕ) (before bits after : Contents) (is : IsBitParts words before) (small : key < 256) (absent : set.has (bit_keys before) key ≡ false)
+    (place : at ≡ set.rank (bit_keys before) key)
     (changed : IsBitChange (λ keys. set.with_byte keys key) before bits) (tagged : tag ≡ bits.tag + 1) where
   here : at ≤ length (bit_keys before)
   here = let within = rank_within (bit_keys before) key in omega arith
@@ -213,7 +222,8 @@ module _ (words at key value tag : ℕ) (before bits after : Contents) (is : IsB
 -- ---- a pair less
 
 module _ (words at key : ℕ) (before bits after : Contents) (is : IsBitParts words before) (there : slice_get (bit_keys before) at ≡ Some key)
-    (changed : IsBitChange (λ keys. set.without_byte keys key) before bits) (tag : after.tag ≡ bits.tag - 1) (capacity : after.capacity ≡ bits.capacity) (front : take 4 after.words ≡ take 4 bits.words)
+    (changed : IsBitChange (λ keys. set.without_byte keys key) before bits) (tag : after.tag ≡ bits.tag - 1) (capacity : after.capacity ≡ bits.capacity)
+    (front : take 4 after.words ≡ take 4 bits.words)
     (long : length after.words + words ≡ length bits.words) (rest : pairs_of (remove (bit_keys before) at) (drop 4 after.words) ≡ remove (pairs_of (bit_keys before) (drop 4 bits.words)) at) where
   keys_taken : bit_keys after ≡ remove (bit_keys before) at
   keys_taken = ap members_of front ∙ changed.changed ∙ without_at (bit_keys before) at key (members_of-IsByteSet (take 4 before.words)).ascending there
@@ -316,11 +326,6 @@ module _ (words : ℕ) (block : Contents) (is : IsBitParts words block) (list : 
 
 -- ---- a bitmap leaf of pairs
 
-grown : (words low high : ℕ) → words ≤ 1 → low ≤ high → words * low ≤ words * high
-grown zero low high one up = omega arith
-grown (suc zero) low high one up = omega arith
-grown (suc (suc k)) low high one up = let never : ⊥ = omega arith in absurd never
-
 -- Four words of 0 have no keys.
 pub no_bits : (words width : ℕ) (block : Contents) → words ≤ 1 → 1 ≤ width → width ≤ 8 → block.words ≡ 0 ∷ 0 ∷ 0 ∷ 0 ∷ [] → block.tag ≡ 65536 * width → IsBitParts words block × (bit_keys block ≡ [])
 no_bits words width block one some most zeros tagged =
@@ -334,18 +339,3 @@ no_bits words width block one some most zeros tagged =
       },
       empty,
     )
-
--- The first of pairs are in, and the next is to come.
-module _ (words at width : ℕ) (pairs : List (ℕ × ℕ)) (block : Contents) (is : IsBitParts words block) (seen : bit_list words block ≡ record { width = width; pairs = take at (low_pairs 256 pairs) })
-    (list : IsKeyList (record { width = 1; pairs = low_pairs 256 pairs })) (inside : at < length pairs) where
-  within : at < length (low_pairs 256 pairs)
-  within = let long = length-low 256 pairs in omega arith
-
-  first_keys : bit_keys block ≡ keys_of (take at (low_pairs 256 pairs))
-  first_keys = bit_keys_are words block is (record { width = width; pairs = take at (low_pairs 256 pairs) }) seen
-
-  next_key : (get_or pairs at (0, 0)).0 % 256 ≡ (get_or (low_pairs 256 pairs) at (0, 0)).0
-  next_key = sym (ap (λ pair. pair.0) (low_at 256 pairs at (0, 0) inside))
-
-  pub next_pair : with_pair ((get_or pairs at (0, 0)).0 % 256) (get_or pairs at (0, 0)).1 (take at (low_pairs 256 pairs)) ≡ take (at + 1) (low_pairs 256 pairs)
-  next_pair = ap (λ pair. with_pair pair.0 pair.1 (take at (low_pairs 256 pairs))) (sym (low_at 256 pairs at (0, 0) inside)) ∙ with_next (low_pairs 256 pairs) at list.ascending within

@@ -18,7 +18,8 @@ use Rattle.judy_leaf.proofs.LeafLists.{length-keys_of}
 use Rattle.judy_leaf.proofs.Appended.{length-values, length-keys_low, key_low, low_values, both_of, keys_alone}
 
 -- The next of ascending keys as a byte more.
-byte_next : (pairs : List (ℕ × ℕ)) (at : ℕ) (before : List ℕ) (byte : ℕ) → IsStrictlySortedBy word_order (keys_of pairs) → at < length pairs → IsStrictlySortedBy word_order before → before ≡ take at (keys_of pairs)
+byte_next : (pairs : List (ℕ × ℕ)) (at : ℕ) (before : List ℕ) (byte : ℕ) → IsStrictlySortedBy word_order (keys_of pairs) → at < length pairs →
+    IsStrictlySortedBy word_order before → before ≡ take at (keys_of pairs)
     → byte ≡ get_or (keys_of pairs) at 0 → set.with_byte before byte ≡ take (at + 1) (keys_of pairs)
 byte_next pairs at before byte ascending inside sorted is is_byte =
     let first : before ≡ keys_of (take at pairs) = is ∙ sym (keys-take pairs at) in
@@ -28,8 +29,10 @@ byte_next pairs at before byte ascending inside sorted is is_byte =
     let long = length-keys_of pairs in
     with_other before byte sorted absent ∙ (λ t. insert (is t) (rank t) (is_byte t)) ∙ insert_last (keys_of pairs) at 0 (omega arith)
 
-pub bit_next : (pairs : List (ℕ × ℕ)) (at byte : ℕ) (first before after : Contents) → IsKeyList (record { width = 1; pairs = low_pairs 256 pairs }) → at < length pairs → byte ≡ (get_or pairs at (0, 0)).0 % 256
-    → IsBitChange (λ _. take at (keys_of (low_pairs 256 pairs))) first before → IsBitChange (λ keys. set.with_byte keys byte) before after → IsBitChange (λ _. take (at + 1) (keys_of (low_pairs 256 pairs))) first after
+pub bit_next : (pairs : List (ℕ × ℕ)) (at byte : ℕ) (first before after : Contents) → IsKeyList (record { width = 1; pairs = low_pairs 256 pairs }) → at < length pairs →
+    byte ≡ (get_or pairs at (0, 0)).0 % 256
+    → IsBitChange (λ _. take at (keys_of (low_pairs 256 pairs))) first before → IsBitChange (λ keys. set.with_byte keys byte) before after →
+    IsBitChange (λ _. take (at + 1) (keys_of (low_pairs 256 pairs))) first after
 bit_next pairs at byte first before after list inside is so_far put =
     let long = length-keys_low 256 pairs in
     let all = length-keys_of (low_pairs 256 pairs) in
@@ -39,10 +42,12 @@ bit_next pairs at byte first before after list inside is so_far put =
       long = put.long ∙ so_far.long;
       values = put.values ∙ so_far.values;
       changed = put.changed
-          ∙ byte_next (low_pairs 256 pairs) at (bit_keys before) byte list.ascending (omega arith) (members_of-IsByteSet (take 4 before.words)).ascending so_far.changed (is ∙ key_low 256 pairs at inside);
+          ∙ byte_next (low_pairs 256 pairs) at (bit_keys before) byte list.ascending (omega arith) (members_of-IsByteSet (take 4 before.words)).ascending so_far.changed
+          (is ∙ key_low 256 pairs at inside);
     }
 
-pub bits_done : (pairs : List (ℕ × ℕ)) (at : ℕ) (before after : Contents) → length pairs ≤ at → IsBitChange (λ _. take at (keys_of (low_pairs 256 pairs))) before after → IsBitChange (λ _. keys_of (low_pairs 256 pairs)) before after
+pub bits_done : (pairs : List (ℕ × ℕ)) (at : ℕ) (before after : Contents) → length pairs ≤ at → IsBitChange (λ _. take at (keys_of (low_pairs 256 pairs))) before after →
+    IsBitChange (λ _. keys_of (low_pairs 256 pairs)) before after
 bits_done pairs at before after end done =
     let long = length-keys_low 256 pairs in
     record {
@@ -57,7 +62,8 @@ bits_done pairs at before after end done =
 pub few_bytes : (pairs : List (ℕ × ℕ)) → IsKeyList (record { width = 1; pairs = low_pairs 256 pairs }) → length pairs ≤ 256
 few_bytes pairs list = let long = length-keys_low 256 pairs in let few = few_below 256 (keys_of (low_pairs 256 pairs)) list.ascending list.below in omega arith
 
-pub bits_front : (words : ℕ) (pairs : List (ℕ × ℕ)) (before bits after : Contents) → IsBitParts words before → bit_keys before ≡ [] → IsBitChange (λ _. keys_of (low_pairs 256 pairs)) before bits → after.words ≡ bits.words → length after.words ≤ 4
+pub bits_front : (words : ℕ) (pairs : List (ℕ × ℕ)) (before bits after : Contents) → IsBitParts words before → bit_keys before ≡ [] →
+    IsBitChange (λ _. keys_of (low_pairs 256 pairs)) before bits → after.words ≡ bits.words → length after.words ≤ 4
 bits_front words pairs before bits after is empty changed same =
     let full = is.full in
     let none = ap length empty in
@@ -108,7 +114,8 @@ module _ (words : ℕ) (pairs : List (ℕ × ℕ)) (before bits after : Contents
       ∙ ap (pairs_of (keys_of (low_pairs 256 pairs))) (take_all (length pairs) (values_of pairs) (omega arith) ∙ low_values 256 pairs)
       ∙ both_of (low_pairs 256 pairs))
 
-  pub bits_alone : words ≡ 0 → AllByRecursion (λ pair. pair.1 ≡ 0) pairs → after.words ≡ bits.words → IsBitParts words after × (bit_list words after ≡ record (bit_list words before) { pairs = low_pairs 256 pairs })
+  pub bits_alone : words ≡ 0 → AllByRecursion (λ pair. pair.1 ≡ 0) pairs → after.words ≡ bits.words →
+      IsBitParts words after × (bit_list words after ≡ record (bit_list words before) { pairs = low_pairs 256 pairs })
   bits_alone none zeros written =
       let four = no_words in
       let never_more : words * length pairs ≡ 0 = ap (λ w. w * length pairs) none ∙ omega arith in

@@ -24,7 +24,8 @@ bit_keys-below block = all_bytes (bit_keys block) (members_of-IsByteSet (take 4 
 imm_below : (words width count keys value : ℕ) (list : KeyList) → imm_list words width count keys value ≡ list → AllByRecursion (λ key. key < 256 ^ list.width) (keys_of list.pairs)
 imm_below words width count keys value list is =
     subst (λ w. AllByRecursion (λ key. key < 256 ^ w) (keys_of list.pairs)) (ap (λ l. l.width) is)
-    (subst (AllByRecursion (λ key. key < 256 ^ width)) (sym (keys_of-pairs_of (keys_in width count (keys ∷ [])) (take (words * count) (value ∷ []))) ∙ ap (λ l. keys_of l.pairs) is) (keys_below_unit width count (keys ∷ [])))
+    (subst (AllByRecursion (λ key. key < 256 ^ width)) (sym (keys_of-pairs_of (keys_in width count (keys ∷ [])) (take (words * count) (value ∷ []))) ∙ ap (λ l. keys_of l.pairs) is)
+    (keys_below_unit width count (keys ∷ [])))
 
 -- What an immediate keeps, as a key list.
 pub imm_keys : (words width count keys value : ℕ) (list : KeyList) → IsImm words width count keys → imm_list words width count keys value ≡ list → IsKeyList list
@@ -39,6 +40,3 @@ pub key_below : (top : ℕ) (pairs : List (ℕ × ℕ)) (at : ℕ) → AllByRecu
 key_below top [] at below inside = let never : ⊥ = omega arith in absurd never
 key_below top (pair ∷ pairs) zero below inside = below.0
 key_below top (pair ∷ pairs) (suc at) below inside = key_below top pairs at below.1 (omega arith)
-
-pub byte_below : (pairs : List (ℕ × ℕ)) (at : ℕ) → IsByteSet (keys_of pairs) → at < length pairs → get_or (keys_of pairs) at 0 < 256
-byte_below pairs at is inside = key_below 256 pairs at (all_bytes (keys_of pairs) is.bytes) inside

@@ -1,5 +1,6 @@
 -- A rank by counting over all places.
-use Rattle.std.proofs.Common.{◌≡◌, ◌≢◌, ℕ, zero, suc, ◌+◌, ◌-◌, ◌*◌, ◌<◌, ◌≤◌, Bool, true, false, cond, nat_lt, lt-ltb, List, [], ◌∷◌, ◌++◌, length, filter, count_by, take, drop, replicate, get_or, slice_get, Some, None, refl, ap, sym, ◌∙◌, arith}
+use Rattle.std.proofs.Common.{◌≡◌, ◌≢◌, ℕ, zero, suc, ◌+◌, ◌-◌, ◌*◌, ◌<◌, ◌≤◌, Bool, true, false, cond, nat_lt, lt-ltb, List, [], ◌∷◌, ◌++◌, length, filter, count_by, take, drop}
+use Rattle.std.proofs.Common.{replicate, get_or, slice_get, Some, None, refl, ap, sym, ◌∙◌, arith}
 use mir.Val.{bool_byte}
 use Rattle.std.specs.List.Sorted.{IsStrictlySortedBy}
 use Rattle.std.proofs.lemmas.Bool.{false_from_ne_true}
@@ -61,7 +62,8 @@ rank-counted xs count rest zero clear =
 rank-counted xs count rest (suc key) clear =
     let f : ℕ → ℕ = λ x. cond (nat_lt x (suc key)) 1 0 in
     let parts = sum_by-take-drop f xs count in
-    let after : count_by (λ x. nat_lt x (suc key)) (drop count xs) ≡ rest = ap (count_by (λ x. nat_lt x (suc key))) clear ∙ sum_by-replicate f rest 0 ∙ ap (λ b. rest * cond b 1 0) (lt-ltb 0 (suc key) (omega arith)) ∙ omega arith in
+    let after : count_by (λ x. nat_lt x (suc key)) (drop count xs) ≡ rest = ap (count_by (λ x. nat_lt x (suc key))) clear ∙ sum_by-replicate f rest 0 ∙
+    ap (λ b. rest * cond b 1 0) (lt-ltb 0 (suc key) (omega arith)) ∙ omega arith in
     let here : count_by (λ x. nat_lt x (suc key)) xs - rest ≡ count_by (λ x. nat_lt x (suc key)) (take count xs) = omega arith in
     here ∙ sym (rank_by_count (take count xs) (suc key))
 

@@ -68,7 +68,8 @@ module _ (width : ℕ) (is_width : IsWidth width) where
 
   -- One word more is done.
   pub one_word : (word : ℕ) (change mine : List ℕ → List ℕ) (before mid : Contents) (new : ℕ) → word < length before.words → IsEdit width (word + 1) change before mid
-      → HasZeroPadding width new → places width new ++ change (places_of width (drop (word + 1) before.words)) ≡ mine (places width (get_or before.words word 0) ++ places_of width (drop (word + 1) before.words))
+      → HasZeroPadding width new → places width new ++ change (places_of width (drop (word + 1) before.words)) ≡
+      mine (places width (get_or before.words word 0) ++ places_of width (drop (word + 1) before.words))
       → IsEdit width word mine before (record mid { words = set mid.words word new })
   one_word word change mine before mid new inside edit tight joined =
       let long : length mid.words ≡ length before.words = edit.long in
@@ -103,7 +104,8 @@ module _ (width : ℕ) (is_width : IsWidth width) where
   -- Nor are its keys packed otherwise.
   pub tight_still : (at word start : ℕ) (change : List ℕ → List ℕ) (before mid : Contents) → IsEdit width at change before mid → word < at → start ≤ word → word < length before.words
       → AllByRecursion (HasZeroPadding width) (drop start before.words) → HasZeroPadding width (get_or mid.words word 0)
-  tight_still at word start change before mid edit below from inside tight = subst (HasZeroPadding width) (sym (not_yet at word change before mid edit below)) (tight_at before.words start word from inside tight)
+  tight_still at word start change before mid edit below from inside tight =
+      subst (HasZeroPadding width) (sym (not_yet at word change before mid edit below)) (tight_at before.words start word from inside tight)
 
   -- Keys that go up by a place: one word more.
   pub push_one : (word key : ℕ) (before mid : Contents) (at new : ℕ) → word < length before.words → at < 8 / width
@@ -151,7 +153,9 @@ module _ (width : ℕ) (is_width : IsWidth width) where
         changed = ap (places_of width) new ∙ places_of-append width is_width between (drop (start + more) after.words)
             ∙ ap (λ l. places_of width between ++ l) edit.changed ∙ sym (past (places_of width between) (places_of width rest) count)
             ∙ ap mine (sym (places_of-append width is_width between rest) ∙ ap (places_of width) (sym old));
-        tight = subst (AllByRecursion (HasZeroPadding width)) (sym new) (all_append (HasZeroPadding width) between (drop (start + more) after.words) (all_take (HasZeroPadding width) more (drop start before.words) tight) edit.tight);
+        tight =
+            subst (AllByRecursion (HasZeroPadding width)) (sym new) (all_append (HasZeroPadding width) between (drop (start + more) after.words)
+            (all_take (HasZeroPadding width) more (drop start before.words) tight) edit.tight);
       }
 
   -- The place of a key, by its word and its place there.

@@ -10,7 +10,8 @@ made_more : {E : Type 0} (made : ℕ → ℕ → E) (by : ℕ) (pairs : List (�
 made_more made by pairs at place n sum inside = more made by pairs at place n sum inside ∙ ap (λ n. take n (made_of made (shift by (drop at pairs)))) (let e : suc place ≡ place + 1 = omega arith in e)
   where
     more : {E : Type 0} (made : ℕ → ℕ → E) (by : ℕ) (pairs : List (ℕ × ℕ)) (at place n : ℕ) → n ≡ at + place → n < length pairs
-        → take place (made_of made (shift by (drop at pairs))) ++ made (by + get_or (keys_of pairs) n 0) (get_or (values_of pairs) n 0) ∷ [] ≡ take (suc place) (made_of made (shift by (drop at pairs)))
+        → take place (made_of made (shift by (drop at pairs))) ++ made (by + get_or (keys_of pairs) n 0) (get_or (values_of pairs) n 0) ∷ [] ≡
+        take (suc place) (made_of made (shift by (drop at pairs)))
     more made by [] at place n sum inside = let never : ⊥ = omega arith in absurd never
     more made by (pair ∷ pairs) zero zero zero sum inside = refl
     more made by (pair ∷ pairs) zero zero (suc n) sum inside = let never : ⊥ = omega arith in absurd never

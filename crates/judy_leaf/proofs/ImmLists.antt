@@ -69,9 +69,6 @@ pairs_taken (suc zero) count at value ks most few long inside =
 pairs_taken (suc (suc w)) count at value ks most few long inside = let never : ⊥ = omega arith in absurd never
 
 module _ (words width count keys value : ℕ) (is : IsImm words width count keys) (list : KeyList) (seen : imm_list words width count keys value ≡ list) where
-  mine : List ℕ
-  mine = keys_in width count (keys ∷ [])
-
   long : length (keys_in width count (keys ∷ [])) ≡ count
   long = length-keys_in width count keys is.packed
 
@@ -93,7 +90,8 @@ module _ (words width count keys value : ℕ) (is : IsImm words width count keys
   -- The list of an immediate is a list of keys of its width.
   pub imm_list_is : IsKeyList list
   imm_list_is =
-      let own : keys_of (pairs_of (keys_in width count (keys ∷ [])) (take (words * count) (value ∷ []))) ≡ keys_in width count (keys ∷ []) = keys_of-pairs_of (keys_in width count (keys ∷ [])) (take (words * count) (value ∷ [])) in
+      let own : keys_of (pairs_of (keys_in width count (keys ∷ [])) (take (words * count) (value ∷ []))) ≡
+      keys_in width count (keys ∷ []) = keys_of-pairs_of (keys_in width count (keys ∷ [])) (take (words * count) (value ∷ [])) in
       subst IsKeyList seen (record {
         some = is.packed.is_width.some;
         most = is.packed.is_width.most;
@@ -138,7 +136,8 @@ module _ (words width count keys value : ℕ) (is : IsImm words width count keys
   pub room_within : (n : ℕ) → n ≡ count → length list.pairs < imm_room words list.width → n < 8 / width
   room_within n e room = subst (λ k. k < 8 / width) (sym e) (room_all room)
 
-  pub imm_put : (at key value_now new : ℕ) → IsWordChange width count (count + 1) (λ keys. insert keys at key) keys new → at ≡ set.rank (keys_of list.pairs) key → set.has (keys_of list.pairs) key ≡ false
+  pub imm_put : (at key value_now new : ℕ) → IsWordChange width count (count + 1) (λ keys. insert keys at key) keys new → at ≡ set.rank (keys_of list.pairs) key →
+      set.has (keys_of list.pairs) key ≡ false
       → length list.pairs < imm_room words list.width → (words ≡ 0 → value_now ≡ 0)
       → IsImm words width (count + 1) new × (imm_list words width (count + 1) new value_now ≡ record list { pairs = with_pair key value_now list.pairs })
   imm_put at key value_now new change ranked absent room zeroed =

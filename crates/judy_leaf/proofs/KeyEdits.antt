@@ -24,9 +24,6 @@ all_front P [] ys all = tt
 all_front P (x ∷ xs) ys all = (all.0, all_front P xs ys all.1)
 
 module _ (width : ℕ) (is : IsWidth width) where
-  per : ℕ
-  per = 8 / width
-
   -- The places of the word 0 are zeros.
   digits-zero : (base count : ℕ) → 0 < base → digits base count 0 ≡ replicate count 0
   digits-zero base zero some = refl
@@ -62,7 +59,8 @@ module _ (width : ℕ) (is : IsWidth width) where
         )
 
     -- A key more.
-    pub packed_with : (at key : ℕ) (ys : List ℕ) → at ≤ count → count + 1 ≤ length xs * (8 / width) → length ys ≡ length xs → places_of width ys ≡ pushed at key (places_of width xs) → AllByRecursion (HasZeroPadding width) ys
+    pub packed_with : (at key : ℕ) (ys : List ℕ) → at ≤ count → count + 1 ≤ length xs * (8 / width) → length ys ≡ length xs → places_of width ys ≡ pushed at key (places_of width xs) →
+        AllByRecursion (HasZeroPadding width) ys
         → IsPacked width (count + 1) ys × (keys_in width (count + 1) ys ≡ insert (keys_in width count xs) at key)
     packed_with at key ys place room same changed tight =
         let h = long in
@@ -79,7 +77,8 @@ module _ (width : ℕ) (is : IsWidth width) where
         )
 
   -- A key less.
-  pub packed_without : (count : ℕ) (xs : List ℕ) → IsPacked width (count + 1) xs → (at : ℕ) (ys : List ℕ) → at ≤ count → length ys ≡ length xs → places_of width ys ≡ pulled at 0 (places_of width xs) → AllByRecursion (HasZeroPadding width) ys
+  pub packed_without : (count : ℕ) (xs : List ℕ) → IsPacked width (count + 1) xs → (at : ℕ) (ys : List ℕ) → at ≤ count → length ys ≡ length xs →
+      places_of width ys ≡ pulled at 0 (places_of width xs) → AllByRecursion (HasZeroPadding width) ys
       → IsPacked width count ys × (keys_in width count ys ≡ remove (keys_in width (count + 1) xs) at)
   packed_without count xs packed at ys place same changed tight =
       let h = length-places_of width is xs in
@@ -97,7 +96,8 @@ module _ (width : ℕ) (is : IsWidth width) where
       )
 
   -- A word less, where the keys don't need it.
-  pub packed_front : (count : ℕ) (xs ys : List ℕ) → IsPacked width count (xs ++ ys) → count ≤ length xs * (8 / width) → IsPacked width count xs × (keys_in width count xs ≡ keys_in width count (xs ++ ys))
+  pub packed_front : (count : ℕ) (xs ys : List ℕ) → IsPacked width count (xs ++ ys) → count ≤ length xs * (8 / width) →
+      IsPacked width count xs × (keys_in width count xs ≡ keys_in width count (xs ++ ys))
   packed_front count xs ys packed room =
       let parts : places_of width (xs ++ ys) ≡ places_of width xs ++ places_of width ys = places_of-append width is xs ys in
       let h = length-places_of width is xs in
@@ -117,7 +117,8 @@ module _ (width : ℕ) (is : IsWidth width) where
   -- ---- in a block
 
   -- A word of zeros at the block's end.
-  pub placed_more : (start count : ℕ) (block : Contents) (words : List ℕ) → AreKeysFrom width count start block → words_for width count < words_for width (count + 1) → words ≡ with_gap (start + words_for width count) 1 block.words
+  pub placed_more : (start count : ℕ) (block : Contents) (words : List ℕ) → AreKeysFrom width count start block → words_for width count < words_for width (count + 1) →
+      words ≡ with_gap (start + words_for width count) 1 block.words
       → HasPlace width count start block (record block { words = words })
   placed_more start count block words keys more gap =
       let exact = keys.exact in
@@ -153,7 +154,8 @@ module _ (width : ℕ) (is : IsWidth width) where
       let old = length-drop start mid.words in
       let new = length-drop start after.words in
       let size : length (drop start mid.words) ≡ words_for width (count + 1) = omega arith in
-      let result = packed_with count (drop start mid.words) has.packed at key (drop start after.words) place (subst (λ n. count + 1 ≤ n * (8 / width)) (sym size) some) (omega arith) edit.changed edit.tight in
+      let result = packed_with count (drop start mid.words) has.packed at key (drop start after.words) place (subst (λ n. count + 1 ≤ n * (8 / width)) (sym size) some)
+      (omega arith) edit.changed edit.tight in
       record {
         capacity = edit.capacity ∙ has.capacity;
         tag = edit.tag ∙ has.tag;
@@ -189,11 +191,13 @@ module _ (width : ℕ) (is : IsWidth width) where
       let none : drop (end + 1) block.words ≡ [] = drop_all (end + 1) block.words (omega arith) in
       let new : words ≡ take end block.words = gap ∙ ap (λ l. take end block.words ++ l) none ∙ append-nil (take end block.words) in
       let behind : drop start words ≡ take (words_for width count) (drop start block.words) = ap (drop start) new ∙ drop-take start (words_for width count) block.words in
-      let split : take (words_for width count) (drop start block.words) ++ drop (words_for width count) (drop start block.words) ≡ drop start block.words = take-append-drop (words_for width count) (drop start block.words) in
+      let split : take (words_for width count) (drop start block.words) ++ drop (words_for width count) (drop start block.words) ≡
+      drop start block.words = take-append-drop (words_for width count) (drop start block.words) in
       let all = length-drop start block.words in
       let size : length (take (words_for width count) (drop start block.words)) ≡ words_for width count = length-take-le (words_for width count) (drop start block.words) (omega arith) in
       let room : count ≤ length (take (words_for width count) (drop start block.words)) * (8 / width) = subst (λ n. count ≤ n * (8 / width)) (sym size) (enough width is count) in
-      let result = packed_front count (take (words_for width count) (drop start block.words)) (drop (words_for width count) (drop start block.words)) (subst (IsPacked width count) (sym split) packed) room in
+      let result = packed_front count (take (words_for width count) (drop start block.words)) (drop (words_for width count) (drop start block.words))
+      (subst (IsPacked width count) (sym split) packed) room in
       record {
         capacity = refl;
         tag = refl;

@@ -76,7 +76,8 @@ module _ (width count : ℕ) (words : List ℕ) (packed : IsPacked width count w
 
   -- All keys are at or below the greatest word.
   pub all_up_to : set.count_up_to (keys_in width count words) 18446744073709551615 ≡ count
-  all_up_to = ap length (filter_all (λ key. is_le (word_order key 18446744073709551615)) (keys_in width count words) (each (keys_in width count words) (keys_below_unit width count words))) ∙ length-keys
+  all_up_to =
+      ap length (filter_all (λ key. is_le (word_order key 18446744073709551615)) (keys_in width count words) (each (keys_in width count words) (keys_below_unit width count words))) ∙ length-keys
     where
       each : (keys : List ℕ) → AllByRecursion (λ key. key < 256 ^ width) keys → AllByRecursion (λ key. is_le (word_order key 18446744073709551615) ≡ true) keys
       each [] all = tt

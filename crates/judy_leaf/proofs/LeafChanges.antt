@@ -37,7 +37,8 @@ leaf_put words count needed at key value before room after list is seen has put 
     )
 
 -- A pair taken out.
-leaf_taken : (words left at : ℕ) (before after : Contents) (list : KeyList) → IsLeafParts words (left + 1) before → leaf_list words (left + 1) before ≡ list → IsPairTaken words left at before after → at ≤ left
+leaf_taken : (words left at : ℕ) (before after : Contents) (list : KeyList) → IsLeafParts words (left + 1) before → leaf_list words (left + 1) before ≡ list →
+    IsPairTaken words left at before after → at ≤ left
     → IsLeafParts words left after × (leaf_list words left after ≡ record list { pairs = remove list.pairs at })
 leaf_taken words left at before after list is seen taken place =
     let long = length-keys_from before.tag (left + 1) (words * (left + 1)) before is.keys in
@@ -52,7 +53,8 @@ leaf_taken words left at before after list is seen taken place =
     )
 
 -- The same by how many there were.
-pub leaf_less : (words count at : ℕ) (before after : Contents) (list : KeyList) → IsLeafParts words count before → leaf_list words count before ≡ list → at < length list.pairs → {read : ℕ} → read ≡ count
+pub leaf_less : (words count at : ℕ) (before after : Contents) (list : KeyList) → IsLeafParts words count before → leaf_list words count before ≡ list →
+    at < length list.pairs → {read : ℕ} → read ≡ count
     → IsPairTaken words (read - 1) at before after → IsLeafParts words (count - 1) after × (leaf_list words (count - 1) after ≡ record list { pairs = remove list.pairs at })
 leaf_less words count at before after list is seen inside read taken =
     let long = read_length words count before is list seen in

@@ -76,7 +76,8 @@ module _ (pairs : List (ℕ × ℕ)) (at : ℕ) (ascending : IsStrictlySortedBy 
 
 -- ---- how many ascending numbers there can be
 
-few_between : (low bound : ℕ) (keys : List ℕ) → IsStrictlySortedBy word_order keys → AllByRecursion (λ key. low ≤ key) keys → AllByRecursion (λ key. key < bound) keys → low ≤ bound → length keys + low ≤ bound
+few_between : (low bound : ℕ) (keys : List ℕ) → IsStrictlySortedBy word_order keys → AllByRecursion (λ key. low ≤ key) keys → AllByRecursion (λ key. key < bound) keys →
+    low ≤ bound → length keys + low ≤ bound
 unfolding IsStrictlySortedBy
 few_between low bound [] ascending above below some = omega arith
 few_between low bound (x ∷ keys) ascending above below some =

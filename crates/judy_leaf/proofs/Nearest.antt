@@ -1,5 +1,6 @@
 -- The nearest among ascending keys and pairs, by rank.
-use Rattle.std.proofs.Common.{◌≡◌, ◌≢◌, ℕ, zero, suc, ◌+◌, ◌-◌, ◌<◌, ◌≤◌, ⊎_elim, Bool, true, false, cond, nat_lt, nat_le, List, [], ◌∷◌, length, filter, get_or, slice_get, Some, None, refl, ap, sym, ◌∙◌, subst, arith, true≢false, is_lt, is_le, Less, Ordering, ltb-true, leb-true, lt-ltb, le-leb}
+use Rattle.std.proofs.Common.{◌≡◌, ◌≢◌, ℕ, zero, suc, ◌+◌, ◌-◌, ◌<◌, ◌≤◌, ⊎_elim, Bool, true, false, cond, nat_lt, nat_le, List, [], ◌∷◌, length, filter, get_or, slice_get, Some}
+use Rattle.std.proofs.Common.{None, refl, ap, sym, ◌∙◌, subst, arith, true≢false, is_lt, is_le, Less, Ordering, ltb-true, leb-true, lt-ltb, le-leb}
 use Rattle.std.specs.List.{AllByRecursion}
 use Rattle.std.specs.List.Sorted.{IsStrictlySortedBy}
 use Rattle.std.specs.Cmp.{nat_cmp_total}
@@ -38,7 +39,8 @@ module _ (keys : List ℕ) (ascending : IsStrictlySortedBy word_order keys) (num
   -- One more than its rank where the number is a key.
   pub up_to-member : set.has keys number ≡ true → set.count_up_to keys number ≡ set.rank keys number + 1
   up_to-member held =
-      up_to_place nat_cmp_total keys ascending (set.rank keys number) number (slice_get-rank keys ascending number held) ∙ (let e : suc (set.rank keys number) ≡ set.rank keys number + 1 = omega arith in e)
+      up_to_place nat_cmp_total keys ascending (set.rank keys number) number (slice_get-rank keys ascending number held) ∙
+      (let e : suc (set.rank keys number) ≡ set.rank keys number + 1 = omega arith in e)
 
   pub up_to-other : set.has keys number ≡ false → set.count_up_to keys number ≡ set.rank keys number
   up_to-other absent = ap length (filter_agree_among (λ x. is_le (word_order x number)) (λ x. is_lt (word_order x number)) keys (λ x here.
@@ -78,10 +80,11 @@ pairs_ascend (pair ∷ pairs) ascending = (each pair.0 pairs ascending.0, pairs_
 
 kept : (q : ℕ → Bool) (pairs : List (ℕ × ℕ)) → length (filter (λ (pair : ℕ × ℕ). q pair.0) pairs) ≡ length (filter q (keys_of pairs))
 kept q [] = refl
-kept q (pair ∷ pairs) = elim (q pair.0) as (λ b. length (cond b (pair ∷ filter (λ (p : ℕ × ℕ). q p.0) pairs) (filter (λ (p : ℕ × ℕ). q p.0) pairs)) ≡ length (cond b (pair.0 ∷ filter q (keys_of pairs)) (filter q (keys_of pairs)))) [
-  | true ↦ ap suc (kept q pairs)
-  | false ↦ kept q pairs
-]
+kept q (pair ∷ pairs) = elim (q pair.0) as (λ b. length (cond b (pair ∷ filter (λ (p : ℕ × ℕ). q p.0) pairs) (filter (λ (p : ℕ × ℕ). q p.0) pairs)) ≡
+    length (cond b (pair.0 ∷ filter q (keys_of pairs)) (filter q (keys_of pairs)))) [
+      | true ↦ ap suc (kept q pairs)
+      | false ↦ kept q pairs
+    ]
 
 pair_at : (pairs : List (ℕ × ℕ)) (at : ℕ) → at < length pairs → slice_get pairs at ≡ Some (get_or (keys_of pairs) at 0, get_or (values_of pairs) at 0)
 pair_at [] at inside = let never : ⊥ = omega arith in absurd never
@@ -103,13 +106,15 @@ module _ (pairs : List (ℕ × ℕ)) (ascending : IsStrictlySortedBy word_order 
       ∙ ap (before_place pairs) (kept (λ key. is_le (word_order key number)) pairs)
 
   -- The first pair that isn't below, by its place.
-  pub next_found : (at key value : ℕ) → at ≡ set.rank (keys_of pairs) number → at < length pairs → key ≡ get_or (keys_of pairs) at 0 → value ≡ get_or (values_of pairs) at 0 → Some (key, value) ≡ pair_from pairs number
+  pub next_found : (at key value : ℕ) → at ≡ set.rank (keys_of pairs) number → at < length pairs → key ≡ get_or (keys_of pairs) at 0 → value ≡ get_or (values_of pairs) at 0 →
+      Some (key, value) ≡ pair_from pairs number
   next_found at key value ranked inside is_key is_value = (λ t. Some (is_key t, is_value t)) ∙ sym (pair_at pairs at inside) ∙ ap (slice_get pairs) ranked ∙ sym from-rank
 
   pub next_none : set.rank (keys_of pairs) number ≡ length pairs → None ≡ pair_from pairs number
   next_none all = sym (from-rank ∙ ap (slice_get pairs) all ∙ slice_get_past pairs (length pairs) (omega arith))
 
-  pub previous_found : (at key value : ℕ) → at + 1 ≡ set.count_up_to (keys_of pairs) number → at < length pairs → key ≡ get_or (keys_of pairs) at 0 → value ≡ get_or (values_of pairs) at 0 → Some (key, value) ≡ pair_up_to pairs number
+  pub previous_found : (at key value : ℕ) → at + 1 ≡ set.count_up_to (keys_of pairs) number → at < length pairs → key ≡ get_or (keys_of pairs) at 0 →
+      value ≡ get_or (values_of pairs) at 0 → Some (key, value) ≡ pair_up_to pairs number
   previous_found at key value counted inside is_key is_value =
       (λ t. Some (is_key t, is_value t)) ∙ sym (pair_at pairs at inside) ∙ sym (before_place-suc pairs at)
       ∙ ap (before_place pairs) ((let e : suc at ≡ at + 1 = omega arith in e) ∙ counted) ∙ sym up_to-count
@@ -128,7 +133,8 @@ module _ (pairs : List (ℕ × ℕ)) (ascending : IsStrictlySortedBy word_order 
       let there = slice_get_within (keys_of pairs) (set.rank (keys_of pairs) number) key (sym (is ∙ next_place)) in
       subst (λ n. set.rank (keys_of pairs) number < n) (length-keys_of pairs) there
 
-  pub next_member : (key value : ℕ) → Some key ≡ set.next_from (keys_of pairs) number → value ≡ get_or (values_of pairs) (set.rank (keys_of pairs) number) 0 → Some (key, value) ≡ pair_from pairs number
+  pub next_member : (key value : ℕ) → Some key ≡ set.next_from (keys_of pairs) number → value ≡ get_or (values_of pairs) (set.rank (keys_of pairs) number) 0 →
+      Some (key, value) ≡ pair_from pairs number
   next_member key value is is_value =
       let at = set.rank (keys_of pairs) number in
       let there = slice_get_within (keys_of pairs) at key (sym (is ∙ next_place)) in
@@ -156,11 +162,13 @@ module _ (pairs : List (ℕ × ℕ)) (ascending : IsStrictlySortedBy word_order 
   previous_some key zero counted is = absurd (none-some key (ap (before_place (keys_of pairs)) counted ∙ sym (is ∙ previous_place)))
   previous_some key (suc count) counted is = omega arith
 
-  pub previous_member : (at key value : ℕ) → at + 1 ≡ set.count_up_to (keys_of pairs) number → Some key ≡ set.prev_from (keys_of pairs) number → value ≡ get_or (values_of pairs) at 0 → Some (key, value) ≡ pair_up_to pairs number
+  pub previous_member : (at key value : ℕ) → at + 1 ≡ set.count_up_to (keys_of pairs) number → Some key ≡ set.prev_from (keys_of pairs) number →
+      value ≡ get_or (values_of pairs) at 0 → Some (key, value) ≡ pair_up_to pairs number
   previous_member at key value counted is is_value =
       let there = before_there at key counted is in
       let inside = slice_get_within (keys_of pairs) at key there in
-      previous_found at key value counted (subst (λ n. at < n) (length-keys_of pairs) inside) (same_Some key (get_or (keys_of pairs) at 0) (sym there ∙ slice_get-get_or (keys_of pairs) at 0 inside)) is_value
+      previous_found at key value counted (subst (λ n. at < n) (length-keys_of pairs) inside) (same_Some key (get_or (keys_of pairs) at 0)
+      (sym there ∙ slice_get-get_or (keys_of pairs) at 0 inside)) is_value
 
   pub no_previous_member : None ≡ set.prev_from (keys_of pairs) number → None ≡ pair_up_to pairs number
   no_previous_member none = ⊎_elim
@@ -187,14 +195,16 @@ module _ {pairs : List (ℕ × ℕ)} {keys : List ℕ} (stand : Stands pairs key
 
   pub next_is : (found : ℕ × ℕ) (value : ℕ) → IsNextAt keys number found → value ≡ get_or (values_of pairs) found.0 0 → Some (found.1, value) ≡ pair_from pairs number
   next_is found value is is_value =
-      next_found pairs stand.ascending number found.0 found.1 value (is.place ∙ ap (λ ks. set.rank ks number) stand.same) (place_inside found is.key) (is.key.there ∙ ap (λ ks. get_or ks found.0 0) stand.same) is_value
+      next_found pairs stand.ascending number found.0 found.1 value (is.place ∙ ap (λ ks. set.rank ks number) stand.same) (place_inside found is.key)
+      (is.key.there ∙ ap (λ ks. get_or ks found.0 0) stand.same) is_value
 
   pub next_is_none : (count : ℕ) → set.rank keys number ≡ count → count ≡ length pairs → None ≡ pair_from pairs number
   next_is_none count all is_all = next_none pairs stand.ascending number (ap (λ ks. set.rank ks number) (sym stand.same) ∙ all ∙ is_all)
 
   pub previous_is : (found : ℕ × ℕ) (value : ℕ) → IsPreviousAt keys number found → value ≡ get_or (values_of pairs) found.0 0 → Some (found.1, value) ≡ pair_up_to pairs number
   previous_is found value is is_value =
-      previous_found pairs stand.ascending number found.0 found.1 value (is.place ∙ ap (λ ks. set.count_up_to ks number) stand.same) (place_inside found is.key) (is.key.there ∙ ap (λ ks. get_or ks found.0 0) stand.same) is_value
+      previous_found pairs stand.ascending number found.0 found.1 value (is.place ∙ ap (λ ks. set.count_up_to ks number) stand.same) (place_inside found is.key)
+      (is.key.there ∙ ap (λ ks. get_or ks found.0 0) stand.same) is_value
 
   pub previous_is_none : set.count_up_to keys number ≡ 0 → None ≡ pair_up_to pairs number
   previous_is_none none = previous_none pairs stand.ascending number (ap (λ ks. set.count_up_to ks number) (sym stand.same) ∙ none)

@@ -3,7 +3,8 @@ use Rattle.std.proofs.Common.{◌≡◌, ℕ, suc, ◌+◌, ◌-◌, ◌*◌, �
 use Rattle.std.specs.Int.{w64, bit_at, trailing_zeros}
 use Rattle.std.proofs.lemmas.Bool.{cases_lt}
 use Rattle.std.proofs.lemmas.Nat.{pow_pos, mod_below, and_le_l}
-use Rattle.std.proofs.lemmas.Nat.Bits.{bit_at-lt, bit_at_and, bit_at_not, bit_at_ones, bit_at_ones_above, bit_at_cat_low, bit_at_cat_high, bit_at-pow_same, bit_at-pow_other, bit_at-trailing_zeros, bit_at-zero, same_from_bits_below}
+use Rattle.std.proofs.lemmas.Nat.Bits.{bit_at-lt, bit_at_and, bit_at_not, bit_at_ones, bit_at_ones_above, bit_at_cat_low, bit_at_cat_high, bit_at-pow_same, bit_at-pow_other}
+use Rattle.std.proofs.lemmas.Nat.Bits.{bit_at-trailing_zeros, bit_at-zero, same_from_bits_below}
 use Rattle.std.proofs.lemmas.Option.{none-some}
 use Rattle.std.proofs.Math.Nat.{pow-suc, mod-eq_of_lt}
 use Rattle.std.proofs.Math.Pow.{pow_mono}
@@ -16,9 +17,6 @@ use Rattle.judy_leaf.specs.NextBits.{AreLeft}
 -- ---- one word
 
 module _ (n t : ℕ) (one : bit_at n t ≡ 1) (none : (i : ℕ) → i < t → bit_at n i ≡ 0) where
-  unit : ℕ
-  unit = 2 ^ suc t
-
   -- Its lowest bits are that one alone.
   lowest_part : n % 2 ^ suc t ≡ 2 ^ t
   lowest_part =
@@ -64,7 +62,8 @@ module _ (words : List ℕ) (word left byte : ℕ) (is : AreLeft words word left
       (λ (early : at < 64 * word). is.passed at from early)
       (λ (late : 64 * word ≤ at).
       let place : at ≡ 64 * word + (at - 64 * word) = omega arith in
-      ap (is_set words) place ∙ unset_from_bit words word (at - 64 * word) (omega arith) (sym (is.same (at - 64 * word) (omega arith) (omega arith)) ∙ ap (λ n. bit_at n (at - 64 * word)) none ∙ bit_at-zero (at - 64 * word)))
+      ap (is_set words) place ∙ unset_from_bit words word (at - 64 * word) (omega arith) (sym (is.same (at - 64 * word) (omega arith) (omega arith)) ∙
+      ap (λ n. bit_at n (at - 64 * word)) none ∙ bit_at-zero (at - 64 * word)))
       (cases_lt at (64 * word))
 
   pub next_word : left ≡ 0 → word + 1 < 4 → slice_index words (word + 1) < 2 ^ 64 → AreLeft words (word + 1) (slice_index words (word + 1)) byte
@@ -87,9 +86,6 @@ module _ (words : List ℕ) (word left byte : ℕ) (is : AreLeft words word left
   module _ (some : 0 < left) where
     lowest : (trailing_zeros w64 left < 64) × (bit_at left (trailing_zeros w64 left) ≡ 1) × ((i : ℕ) → i < trailing_zeros w64 left → bit_at left i ≡ 0)
     lowest = bit_at-trailing_zeros w64 left some is.fits
-
-    bit : ℕ
-    bit = trailing_zeros w64 left
 
     pub bit_inside : trailing_zeros w64 left < 64
     bit_inside = lowest.0

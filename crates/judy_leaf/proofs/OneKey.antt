@@ -1,5 +1,6 @@
 -- One key in a word: the word is that key.
-use Rattle.std.proofs.Common.{◌≡◌, ◌≢◌, ℕ, zero, suc, ◌+◌, ◌-◌, ◌*◌, ◌/◌, ◌%◌, ◌^◌, ◌<◌, ◌≤◌, cond, nat_lt, lt-ltb, get_or, List, [], ◌∷◌, ◌++◌, length, take, drop, replicate, Some, None, refl, ap, sym, ◌∙◌, subst, arith}
+use Rattle.std.proofs.Common.{◌≡◌, ◌≢◌, ℕ, zero, suc, ◌+◌, ◌-◌, ◌*◌, ◌/◌, ◌%◌, ◌^◌, ◌<◌, ◌≤◌, cond, nat_lt, lt-ltb, get_or, List, [], ◌∷◌, ◌++◌, length, take, drop, replicate}
+use Rattle.std.proofs.Common.{Some, None, refl, ap, sym, ◌∙◌, subst, arith}
 use Rattle.std.specs.List.Sorted.{IsStrictlySortedBy}
 use Rattle.std.specs.List.{AllByRecursion}
 use Rattle.std.proofs.Math.Nat.{pow-zero, pow-suc, pow-le-pow_right, mod-eq_of_lt, div-eq_of_lt, div-lt_iff_lt-mul}
@@ -25,11 +26,13 @@ zeros : (base : ℕ) (some : 0 < base) (count : ℕ) → number base some (repli
 zeros base some zero = refl
 zeros base some (suc count) = ap (λ n. 0 + base * n) (zeros base some count) ∙ omega arith
 
-first_alone : (base : ℕ) (some : 0 < base) (count word rest : ℕ) → 1 ≤ count → word < base ^ count → drop 1 (digits base count word ++ []) ≡ replicate rest 0 → take 1 (digits base count word ++ []) ≡ word ∷ []
+first_alone : (base : ℕ) (some : 0 < base) (count word rest : ℕ) → 1 ≤ count → word < base ^ count → drop 1 (digits base count word ++ []) ≡ replicate rest 0 →
+    take 1 (digits base count word ++ []) ≡ word ∷ []
 first_alone base some zero word rest room fits clear = let never : ⊥ = omega arith in absurd never
 first_alone base some (suc count) word rest room fits clear =
     let smaller : word / base < base ^ count = (div-lt_iff_lt-mul some).1 (subst (λ bound. word < bound) (pow-suc base count) fits) in
-    let above : word / base ≡ 0 = sym (number-digits base some count (word / base) smaller) ∙ ap (number base some) (sym (nothing_after (digits base count (word / base))) ∙ clear) ∙ zeros base some rest in
+    let above : word / base ≡ 0 = sym (number-digits base some count (word / base) smaller) ∙ ap (number base some) (sym (nothing_after (digits base count (word / base))) ∙ clear) ∙
+    zeros base some rest in
     let whole = div-add-mod' word base in
     ap (λ n. n ∷ []) (let e : word % base ≡ word = sym (ap (λ n. n * base + word % base) above ∙ omega arith) ∙ whole in e)
 
@@ -107,7 +110,8 @@ one_imm words width key one is fits =
       ascending = subst (IsStrictlySortedBy word_order) (sym (one_key width 1 key refl packed)) (tt, tt);
     }
 
-pub one_list : (words width key value : ℕ) → words ≤ 1 → (words ≡ 0 → value ≡ 0) → IsWidth width → key < 256 ^ width → imm_list words width 1 key value ≡ record { width = width; pairs = (key, value) ∷ [] }
+pub one_list : (words width key value : ℕ) → words ≤ 1 → (words ≡ 0 → value ≡ 0) → IsWidth width → key < 256 ^ width →
+    imm_list words width 1 key value ≡ record { width = width; pairs = (key, value) ∷ [] }
 one_list zero width key value one none is fits =
     ap (λ keys. record { width = width; pairs = pairs_of keys [] }) (one_key width 1 key refl (one_packed width key is fits))
     ∙ ap (λ (v : ℕ). record { width = width; pairs = (key, v) ∷ [] }) (sym (none refl))

@@ -9,7 +9,8 @@ use Rattle.judy_bits.specs.ByteSets.{has, rank}
 use Rattle.judy_bits.proofs.SetLemmas.{with_other, with_byte-ascending, without_at}
 use Rattle.judy_leaf.specs.KeyLists.{pairs_of}
 
-pub pairs-insert : (keys values : List ℕ) (at key value : ℕ) → length values ≡ length keys → at ≤ length keys → pairs_of (insert keys at key) (insert values at value) ≡ insert (pairs_of keys values) at (key, value)
+pub pairs-insert : (keys values : List ℕ) (at key value : ℕ) → length values ≡ length keys → at ≤ length keys →
+    pairs_of (insert keys at key) (insert values at value) ≡ insert (pairs_of keys values) at (key, value)
 pairs-insert keys values zero key value same place = refl
 pairs-insert [] values (suc at) key value same place = let never : ⊥ = omega arith in absurd never
 pairs-insert (k ∷ keys) [] (suc at) key value same place = let never : ⊥ = omega arith in absurd never

@@ -59,7 +59,8 @@ put_words width count at key value before wide tag place few below keys =
     let mid : Contents = record before { words = values } in
     let after : Contents = record before { words = insert values (count + 1 + at) key } in
     let changed = value_put count at value before values place own (sym (put_is before.words at value (omega arith))) in
-    let put = word_put width is one (count + 1) count at mid (subst (λ w. AreKeysFrom w count (count + 1) mid) tag changed.are) key (insert values (count + 1 + at) key) place few below (sym (put_is values (count + 1 + at) key (omega arith))) in
+    let put = word_put width is one (count + 1) count at mid (subst (λ w. AreKeysFrom w count (count + 1) mid) tag changed.are) key (insert values (count + 1 + at) key) place few below
+    (sym (put_is values (count + 1 + at) key (omega arith))) in
     put_with_value 1 count at key value before mid after refl place (subst (λ n. AreKeysFrom before.tag count n before) (sym (once count)) own) changed
     (subst (λ w. IsKeyChange w (count + 1) count (count + 1) (λ keys. insert keys at key) mid after) (sym tag) put)
 

@@ -30,7 +30,8 @@ module _ (width : ℕ) (is : IsWidth width) where
   places_of-append (x ∷ xs) ys = ap (λ rest. places width x ++ rest) (places_of-append xs ys) ∙ sym (append_assoc (places width x) (places_of width xs) (places_of width ys))
 
   -- What stands in a place, by its word and its place there.
-  pub key_by_word : (words : List ℕ) (word at : ℕ) → at < 8 / width → word < length words → get_or (places_of width words) (word * (8 / width) + at) 0 ≡ get_or (places width (get_or words word 0)) at 0
+  pub key_by_word : (words : List ℕ) (word at : ℕ) → at < 8 / width → word < length words → get_or (places_of width words) (word * (8 / width) + at) 0 ≡
+      get_or (places width (get_or words word 0)) at 0
   key_by_word [] word at inside within = let never : ⊥ = omega arith in absurd never
   key_by_word (x ∷ xs) zero at inside within =
       ap (λ n. get_or (places width x ++ places_of width xs) n 0) (let e : 0 * (8 / width) + at ≡ at = omega arith in e)

@@ -11,7 +11,8 @@ use Rattle.judy_leaf.proofs.Nearest.{absent_at}
 module _ (keys mine : List ℕ) (same : keys ≡ mine) (ascending : IsStrictlySortedBy word_order mine) (key : ℕ) where
   pub searched_found : (found : ℕ × ℕ) → IsNextAt keys key found → found.1 ≡ key → IsSearched mine key (Ok found.0)
   searched_found found is here =
-      sym (place-there mine ascending key found.0 (is.place ∙ ap (λ ks. set.rank ks key) same) (subst (λ ks. found.0 < length ks) same is.key.inside) (ap (λ ks. get_or ks found.0 0) (sym same) ∙ sym is.key.there ∙ here))
+      sym (place-there mine ascending key found.0 (is.place ∙ ap (λ ks. set.rank ks key) same) (subst (λ ks. found.0 < length ks) same is.key.inside)
+      (ap (λ ks. get_or ks found.0 0) (sym same) ∙ sym is.key.there ∙ here))
 
   pub searched_other : (found : ℕ × ℕ) → IsNextAt keys key found → found.1 ≢ key → IsSearched mine key (Err found.0)
   searched_other found is apart =

@@ -21,7 +21,8 @@ valued-pairs_of (key ∷ keys) (v ∷ values) zero value inside there = refl
 valued-pairs_of (key ∷ keys) (v ∷ values) (suc at) value inside there = ap (λ rest. (key, v) ∷ rest) (valued-pairs_of keys values at value (omega arith) (omega arith))
 
 pub leaf_valued : (words count at value : ℕ) (block : Contents) → IsLeafParts words count block → words ≡ 1 → at < count
-    → IsLeafParts words count (record block { words = set block.words at value }) × (leaf_list words count (record block { words = set block.words at value }) ≡ with_value_at at (leaf_list words count block) value)
+    → IsLeafParts words count (record block { words = set block.words at value }) × (leaf_list words count (record block { words = set block.words at value }) ≡
+    with_value_at at (leaf_list words count block) value)
 leaf_valued words count at value block is one inside =
     let start = words * count in
     let many : words * count ≡ count = ap (λ w. w * count) one ∙ omega arith in
@@ -36,7 +37,10 @@ leaf_valued words count at value block is one inside =
         keys = record { few = is.keys.few; exact = length-set block.words at value ∙ exact; packed = subst (IsPacked block.tag count) (sym behind) is.keys.packed };
         ascending = subst (λ ws. IsStrictlySortedBy word_order (keys_in block.tag count ws)) (sym behind) is.ascending;
       },
-      (λ t. record { width = block.tag; pairs = ((λ j. pairs_of (keys_in block.tag count (behind j)) (before j)) ∙ valued-pairs_of keys (take start block.words) at value (omega arith) (omega arith)) t }),
+      (λ t. record {
+        width = block.tag;
+        pairs = ((λ j. pairs_of (keys_in block.tag count (behind j)) (before j)) ∙ valued-pairs_of keys (take start block.words) at value (omega arith) (omega arith)) t;
+      }),
     )
 
 -- ---- a bitmap leaf

@@ -61,7 +61,11 @@ value_put count at value before words place keys is =
     record {
       capacity = refl;
       tag = refl;
-      are = record { few = keys.few; exact = ap length new ∙ (let e : length (insert before.words at value) ≡ count + 1 + words_for before.tag count = omega arith in e); packed = subst (IsPacked before.tag count) (sym behind) keys.packed };
+      are = record {
+        few = keys.few;
+        exact = ap length new ∙ (let e : length (insert before.words at value) ≡ count + 1 + words_for before.tag count = omega arith in e);
+        packed = subst (IsPacked before.tag count) (sym behind) keys.packed;
+      };
       same = ap (keys_in before.tag count) behind;
       changed = (λ t. take (one t) (new t)) ∙ take-insert before.words at count value place (omega arith);
     }
@@ -77,7 +81,11 @@ value_taken fewer at before words place keys is =
     record {
       capacity = refl;
       tag = refl;
-      are = record { few = keys.few; exact = ap length new ∙ (let e : length (remove before.words at) ≡ fewer + words_for before.tag fewer = omega arith in e); packed = subst (IsPacked before.tag fewer) (sym behind) keys.packed };
+      are = record {
+        few = keys.few;
+        exact = ap length new ∙ (let e : length (remove before.words at) ≡ fewer + words_for before.tag fewer = omega arith in e);
+        packed = subst (IsPacked before.tag fewer) (sym behind) keys.packed;
+      };
       same = ap (keys_in before.tag fewer) behind;
       changed = ap (take fewer) new ∙ take-remove before.words at fewer place (omega arith) ∙ ap (λ n. remove (take n before.words) at) one;
     }

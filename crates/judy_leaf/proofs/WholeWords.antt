@@ -12,22 +12,26 @@ use Rattle.judy_leaf.proofs.ValueSteps.{put_is, without_is, length-insert, lengt
 take-insert_before : (words : List ℕ) (start at word : ℕ) → start + at ≤ length words → take start (insert words (start + at) word) ≡ take start words
 take-insert_before words zero at word inside = refl
 take-insert_before [] (suc start) at word inside = let never : ⊥ = omega arith in absurd never
-take-insert_before (x ∷ words) (suc start) at word inside = ap (λ n. take (suc start) (insert (x ∷ words) n word)) (let e : suc start + at ≡ suc (start + at) = omega arith in e) ∙ ap (λ rest. x ∷ rest) (take-insert_before words start at word (omega arith))
+take-insert_before (x ∷ words) (suc start) at word inside =
+    ap (λ n. take (suc start) (insert (x ∷ words) n word)) (let e : suc start + at ≡ suc (start + at) = omega arith in e) ∙ ap (λ rest. x ∷ rest) (take-insert_before words start at word (omega arith))
 
 drop-insert_behind : (words : List ℕ) (start at word : ℕ) → start + at ≤ length words → drop start (insert words (start + at) word) ≡ insert (drop start words) at word
 drop-insert_behind words zero at word inside = ap (λ n. insert words n word) (let e : 0 + at ≡ at = omega arith in e)
 drop-insert_behind [] (suc start) at word inside = let never : ⊥ = omega arith in absurd never
-drop-insert_behind (x ∷ words) (suc start) at word inside = ap (λ n. drop (suc start) (insert (x ∷ words) n word)) (let e : suc start + at ≡ suc (start + at) = omega arith in e) ∙ drop-insert_behind words start at word (omega arith)
+drop-insert_behind (x ∷ words) (suc start) at word inside =
+    ap (λ n. drop (suc start) (insert (x ∷ words) n word)) (let e : suc start + at ≡ suc (start + at) = omega arith in e) ∙ drop-insert_behind words start at word (omega arith)
 
 take-remove_before : (words : List ℕ) (start at : ℕ) → start + at < length words → take start (remove words (start + at)) ≡ take start words
 take-remove_before words zero at inside = refl
 take-remove_before [] (suc start) at inside = let never : ⊥ = omega arith in absurd never
-take-remove_before (x ∷ words) (suc start) at inside = ap (λ n. take (suc start) (remove (x ∷ words) n)) (let e : suc start + at ≡ suc (start + at) = omega arith in e) ∙ ap (λ rest. x ∷ rest) (take-remove_before words start at (omega arith))
+take-remove_before (x ∷ words) (suc start) at inside =
+    ap (λ n. take (suc start) (remove (x ∷ words) n)) (let e : suc start + at ≡ suc (start + at) = omega arith in e) ∙ ap (λ rest. x ∷ rest) (take-remove_before words start at (omega arith))
 
 drop-remove_behind : (words : List ℕ) (start at : ℕ) → start + at < length words → drop start (remove words (start + at)) ≡ remove (drop start words) at
 drop-remove_behind words zero at inside = ap (remove words) (let e : 0 + at ≡ at = omega arith in e)
 drop-remove_behind [] (suc start) at inside = let never : ⊥ = omega arith in absurd never
-drop-remove_behind (x ∷ words) (suc start) at inside = ap (λ n. drop (suc start) (remove (x ∷ words) n)) (let e : suc start + at ≡ suc (start + at) = omega arith in e) ∙ drop-remove_behind words start at (omega arith)
+drop-remove_behind (x ∷ words) (suc start) at inside =
+    ap (λ n. drop (suc start) (remove (x ∷ words) n)) (let e : suc start + at ≡ suc (start + at) = omega arith in e) ∙ drop-remove_behind words start at (omega arith)
 
 all-insert : (P : ℕ → Type 0) (words : List ℕ) (at word : ℕ) → at ≤ length words → P word → AllByRecursion P words → AllByRecursion P (insert words at word)
 all-insert P words zero word inside fits all = (fits, all)
@@ -95,17 +99,23 @@ module _ (width : ℕ) (is : IsWidth width) (one : 8 / width ≡ 1) where
         let behind : drop start words ≡ insert (drop start before.words) at key = ap (drop start) new ∙ drop-insert_behind before.words start at key (omega arith) in
         let size : length (drop start words) ≡ count + 1 = ap length behind ∙ length-insert (drop start before.words) at key (omega arith) ∙ omega arith in
         let packed : IsPacked width (count + 1) (drop start words) =
-        packed_words (count + 1) (drop start words) size (subst (AllByRecursion (HasZeroPadding width)) (sym behind) (all-insert (HasZeroPadding width) (drop start before.words) at key (omega arith) (fits_word key below) keys.packed.tight)) in
+        packed_words (count + 1) (drop start words) size (subst (AllByRecursion (HasZeroPadding width)) (sym behind)
+        (all-insert (HasZeroPadding width) (drop start before.words) at key (omega arith) (fits_word key below) keys.packed.tight)) in
         record {
           capacity = refl;
           tag = refl;
           front = ap (take start) new ∙ take-insert_before before.words start at key (omega arith);
-          keys = record { few = omega arith; exact = ap length new ∙ length-insert before.words (start + at) key (omega arith) ∙ (let e : suc (length before.words) ≡ start + words_for width (count + 1) = omega arith in e); packed = packed };
+          keys = record {
+            few = omega arith;
+            exact = ap length new ∙ length-insert before.words (start + at) key (omega arith) ∙ (let e : suc (length before.words) ≡ start + words_for width (count + 1) = omega arith in e);
+            packed = packed;
+          };
           changed = keys_are (count + 1) (drop start words) packed ∙ take_all (count + 1) (drop start words) (omega arith) ∙ behind ∙ ap (λ list. insert list at key) (sym all_words);
         }
 
     -- A key taken out.
-    pub word_taken : (words : List ℕ) → at < count → words ≡ without_gap (start + at) 1 before.words → IsKeyChange width start count (count - 1) (λ keys. remove keys at) before (record before { words = words })
+    pub word_taken : (words : List ℕ) → at < count → words ≡ without_gap (start + at) 1 before.words →
+        IsKeyChange width start count (count - 1) (λ keys. remove keys at) before (record before { words = words })
     word_taken words inside is_new =
         let exact = keys.exact in
         let few = keys.few in
@@ -117,7 +127,8 @@ module _ (width : ℕ) (is : IsWidth width) (one : 8 / width ≡ 1) where
         let one_less = length-remove (drop start before.words) at (omega arith) in
         let size : length (drop start words) ≡ count - 1 = ap length behind ∙ omega arith in
         let packed : IsPacked width (count - 1) (drop start words) =
-        packed_words (count - 1) (drop start words) size (subst (AllByRecursion (HasZeroPadding width)) (sym behind) (all-remove (HasZeroPadding width) (drop start before.words) at (omega arith) keys.packed.tight)) in
+        packed_words (count - 1) (drop start words) size (subst (AllByRecursion (HasZeroPadding width)) (sym behind)
+        (all-remove (HasZeroPadding width) (drop start before.words) at (omega arith) keys.packed.tight)) in
         let all_less = length-remove before.words (start + at) (omega arith) in
         record {
           capacity = refl;

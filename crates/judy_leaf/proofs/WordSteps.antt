@@ -3,7 +3,8 @@ use Rattle.std.proofs.Common.{◌≡◌, ℕ, zero, suc, ◌+◌, ◌-◌, ◌*�
 use Rattle.std.proofs.Math.Nat.{pow-le-pow_right, mul-div-le, mul-le-mul_left, pow-zero, pow-suc, le-mul_of_pos_right}
 use Rattle.std.proofs.lemmas.Nat.{pow-add}
 use Rattle.judy_leaf.specs.Packing.{digits, places, HasZeroPadding, IsWidth, pushed, pulled}
-use Rattle.judy_leaf.proofs.Digits.{power_pos, number, AreDigits, length-digits, digits-AreDigits, number-digits, digits-number, number-lt, digit_at, length-pushed, pushed-AreDigits, number-pushed, length-pulled, pulled-AreDigits, number-pulled}
+use Rattle.judy_leaf.proofs.Digits.{power_pos, number, AreDigits, length-digits, digits-AreDigits, number-digits, digits-number, number-lt, digit_at, length-pushed}
+use Rattle.judy_leaf.proofs.Digits.{pushed-AreDigits, number-pushed, length-pulled, pulled-AreDigits, number-pulled}
 
 -- (256^width)^count has width * count bytes.
 pub bytes_of : (width count : ℕ) → (256 ^ width) ^ count ≡ 256 ^ (width * count)
@@ -13,12 +14,6 @@ bytes_of width (suc count) =
     ∙ ap (λ n. 256 ^ n) (let e : width * count + width ≡ width * suc count = omega arith in e)
 
 module _ (width : ℕ) (is : IsWidth width) where
-  base : ℕ
-  base = 256 ^ width
-
-  per : ℕ
-  per = 8 / width
-
   -- The places of a word take at most its eight bytes.
   pub places_within : (count : ℕ) → count ≤ 8 / width → width * count ≤ 8
   places_within count fit = let whole = mul-div-le 8 width in let more = mul-le-mul_left width fit in omega arith
@@ -102,7 +97,8 @@ module _ (width : ℕ) (is : IsWidth width) where
     put_fits high above p q =
         let is = q ∙ ap (λ n. n % 256 ^ (width * (8 / width - 1 - at))) p in
         subst (λ n. (n * 256 ^ width < 2 ^ 64) × (key + n * 256 ^ width < 2 ^ 64) × ((key + n * 256 ^ width) * 256 ^ (width * at) < 2 ^ 64)) (sym is)
-        (parts_fit (word % 256 ^ (width * at)) (key + word / 256 ^ (width * at) % 256 ^ (width * (8 / width - 1 - at)) * 256 ^ width) (word / 256 ^ (width * at) % 256 ^ (width * (8 / width - 1 - at)) * 256 ^ width) (256 ^ (width * at)) unit_pos (omega arith) put_result.0)
+        (parts_fit (word % 256 ^ (width * at)) (key + word / 256 ^ (width * at) % 256 ^ (width * (8 / width - 1 - at)) * 256 ^ width)
+        (word / 256 ^ (width * at) % 256 ^ (width * (8 / width - 1 - at)) * 256 ^ width) (256 ^ (width * at)) unit_pos (omega arith) put_result.0)
 
     pub put_word : put_value < 2 ^ 64
     put_word = put_result.0
@@ -132,11 +128,14 @@ module _ (width : ℕ) (is : IsWidth width) where
     left_all high up moved low p r s v = λ t. v t + (s ∙ (λ j. (p j + r j) * 256 ^ (width * at))) t
 
     pub left_fits : (high : ℕ) → high ≡ word / 256 ^ (width * (at + 1))
-        → (key * 256 ^ (width * (8 / width - 1 - at)) < 2 ^ 64) × (high + key * 256 ^ (width * (8 / width - 1 - at)) < 2 ^ 64) × ((high + key * 256 ^ (width * (8 / width - 1 - at))) * 256 ^ (width * at) < 2 ^ 64)
+        → (key * 256 ^ (width * (8 / width - 1 - at)) < 2 ^ 64) × (high + key * 256 ^ (width * (8 / width - 1 - at)) < 2 ^ 64) ×
+        ((high + key * 256 ^ (width * (8 / width - 1 - at))) * 256 ^ (width * at) < 2 ^ 64)
     unfolding unit
     left_fits high p =
-        subst (λ n. (key * 256 ^ (width * (8 / width - 1 - at)) < 2 ^ 64) × (n + key * 256 ^ (width * (8 / width - 1 - at)) < 2 ^ 64) × ((n + key * 256 ^ (width * (8 / width - 1 - at))) * 256 ^ (width * at) < 2 ^ 64)) (sym p)
-        (parts_fit (word % 256 ^ (width * at)) (word / 256 ^ (width * (at + 1)) + key * 256 ^ (width * (8 / width - 1 - at))) (key * 256 ^ (width * (8 / width - 1 - at))) (256 ^ (width * at)) unit_pos (omega arith) left_result.0)
+        subst (λ n. (key * 256 ^ (width * (8 / width - 1 - at)) < 2 ^ 64) × (n + key * 256 ^ (width * (8 / width - 1 - at)) < 2 ^ 64) ×
+        ((n + key * 256 ^ (width * (8 / width - 1 - at))) * 256 ^ (width * at) < 2 ^ 64)) (sym p)
+        (parts_fit (word % 256 ^ (width * at)) (word / 256 ^ (width * (at + 1)) + key * 256 ^ (width * (8 / width - 1 - at))) (key * 256 ^ (width * (8 / width - 1 - at)))
+        (256 ^ (width * at)) unit_pos (omega arith) left_result.0)
 
     pub left_word : left_value < 2 ^ 64
     left_word = left_result.0

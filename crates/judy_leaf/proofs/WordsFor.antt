@@ -23,7 +23,8 @@ module _ (width : ℕ) (is : IsWidth width) where
   words_grow count = below_product (words_for width count) (words_for width (count + 1)) (8 / width) (let a = enough (count + 1) in let b = no_more count in omega arith)
 
   pub words_by_one : (count : ℕ) → words_for width (count + 1) ≤ words_for width count + 1
-  words_by_one count = below_product (words_for width (count + 1)) (words_for width count + 1) (8 / width) (let some = per_pos width is in let a = enough count in let b = no_more (count + 1) in omega arith)
+  words_by_one count =
+      below_product (words_for width (count + 1)) (words_for width count + 1) (8 / width) (let some = per_pos width is in let a = enough count in let b = no_more (count + 1) in omega arith)
 
   pub words_up : (less more : ℕ) → less ≤ more → words_for width less ≤ words_for width more
   words_up less more up = below_product (words_for width less) (words_for width more) (8 / width) (let a = enough more in let b = no_more less in omega arith)

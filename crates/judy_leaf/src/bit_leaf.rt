@@ -16,8 +16,8 @@ use judy_block::Block;
 use std::alloc::{AllocError, Global};
 use std::marker::{Model, PhantomData};
 
-/// Up to 256 keys of one byte, and a value for each where `V` says so, in one block. The width that it tells is that of its node's
-/// keys, of which it has the last byte.
+/// Up to 256 keys of one byte, and a value for each where `V` says so, in one block. The width that it tells is that of
+/// its node's keys, of which it has the last byte.
 #[derive(Drop)]
 pub struct BitLeafOf<V: Words + Drop> {
     block: Block,
@@ -94,9 +94,9 @@ impl<V: Words + Drop> BitLeafOf<V> {
         bit_edit::take::<V>(&mut self.block, at, key as u8);
     }
 
-    /// The bitmap leaf of pairs, in a node whose keys have `width` bytes, 1 to 8. Of each key the lowest byte counts; by these
-    /// the keys strictly ascend, so that there are at most 256. Where keys have no value, each value is 0. The error is want
-    /// of memory; nothing is kept then.
+    /// The bitmap leaf of pairs, in a node whose keys have `width` bytes, 1 to 8. Of each key the lowest byte counts;
+    /// by these the keys strictly ascend, so that there are at most 256. Where keys have no value, each value is 0. The
+    /// error is want of memory; nothing is kept then.
     pub fn from_sorted(
         alloc: Global,
         width: u8,

@@ -1,5 +1,5 @@
-//! Changes of the packed keys of a block, in place: a key that comes or goes moves those behind it by one place, from word to
-//! word, the last word first.
+//! Changes of the packed keys of a block, in place: a key that comes or goes moves those behind it by one place, from
+//! word to word, the last word first.
 
 ghost use Rattle.std.specs.Prelude.{◌≡◌, ◌+◌, ◌-◌, ◌*◌, ◌/◌, ◌^◌, ◌<◌, ◌≤◌, ℕ, zero, length, slice_index, drop};
 ghost use Rattle.std.specs.List.{AllByRecursion};
@@ -41,7 +41,8 @@ pub(crate) fn push_key<const W: usize>(block: &mut Block, start: usize, at: usiz
     block.put(word, here);
 }
 
-// Moves the keys of all words after one down by a place, so that the last place is 0, and gives the first of them; 0 where there is none.
+// Moves the keys of all words after one down by a place, so that the last place is 0, and gives the first of them; 0
+// where there is none.
 fn pull_words<const W: usize>(block: &mut Block, word: usize) -> u64
     requires width { IsWidth W }
     requires inside { word < length block.old.words }

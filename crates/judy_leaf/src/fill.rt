@@ -12,8 +12,8 @@ use crate::next_bits::{left_from, take_next};
 use crate::words::Words;
 
 impl<V: Words + Drop> ImmOf<V> {
-    /// Writes the pairs, by ascending key, into a slice that has just the places for them. Each key is higher by `base` there,
-    /// and still a word.
+    /// Writes the pairs, by ascending key, into a slice that has just the places for them. Each key is higher by `base`
+    /// there, and still a word.
     pub fn fill(&self, base: u64, out: &mut [(u64, u64)])
         requires room { length out.old ≡ length self.now.pairs }
         requires fits { base + 256 ^ self.now.width ≤ 2 ^ 64 }
@@ -38,8 +38,8 @@ impl<V: Words + Drop> ImmOf<V> {
 }
 
 impl<'a, V: Words + Drop> LeafRef<'a, V> {
-    /// Writes the pairs, by ascending key, into a slice that has just the places for them. Each key is higher by `base` there,
-    /// and still a word.
+    /// Writes the pairs, by ascending key, into a slice that has just the places for them. Each key is higher by `base`
+    /// there, and still a word.
     pub fn fill(&self, base: u64, out: &mut [(u64, u64)])
         requires room { length out.old ≡ length self.now.pairs }
         requires fits { base + 256 ^ self.now.width ≤ 2 ^ 64 }
@@ -48,7 +48,8 @@ impl<'a, V: Words + Drop> LeafRef<'a, V> {
         self.fill_from(0, base, out);
     }
 
-    /// Writes what stands for the pairs from a place on, as many as the slice has places. The width of the keys is asked for once.
+    /// Writes what stands for the pairs from a place on, as many as the slice has places. The width of the keys is
+    /// asked for once.
     pub fn fill_from<E: FromPair>(&self, at: usize, base: u64, out: &mut [E])
         requires inside { at + length out.old ≤ length self.now.pairs }
         requires fits { base + 256 ^ self.now.width ≤ 2 ^ 64 }
@@ -85,8 +86,8 @@ impl<'a, V: Words + Drop> LeafRef<'a, V> {
 }
 
 impl<'a, V: Words + Drop> BitRef<'a, V> {
-    /// Writes the pairs, by ascending key, into a slice that has just the places for them. Each key, of one byte here, is
-    /// higher by `base` there, and still a word.
+    /// Writes the pairs, by ascending key, into a slice that has just the places for them. Each key, of one byte here,
+    /// is higher by `base` there, and still a word.
     pub fn fill(&self, base: u64, out: &mut [(u64, u64)])
         requires room { length out.old ≡ length self.now.pairs }
         requires fits { base + 256 ≤ 2 ^ 64 }
@@ -95,8 +96,8 @@ impl<'a, V: Words + Drop> BitRef<'a, V> {
         self.fill_from(0, base, out);
     }
 
-    /// Writes what stands for the pairs from a place on, as many as the slice has places. One key is counted to, and each of the others is
-    /// the next bit.
+    /// Writes what stands for the pairs from a place on, as many as the slice has places. One key is counted to, and
+    /// each of the others is the next bit.
     pub fn fill_from<E: FromPair>(&self, at: usize, base: u64, out: &mut [E])
         requires inside { at + length out.old ≤ length self.now.pairs }
         requires fits { base + 256 ≤ 2 ^ 64 }

@@ -2,7 +2,8 @@
 
 ghost use Rattle.std.specs.Prelude.{◌≡◌, ℕ};
 
-/// What stands for a key with its value where pairs are written: the pair of both, the key alone, or what a caller has for them.
+/// What stands for a key with its value where pairs are written: the pair of both, the key alone, or what a caller has
+/// for them.
 pub trait FromPair: Copy {
     ghost made: { ℕ → ℕ → Self };
 

@@ -1,5 +1,5 @@
-//! Numbers that are no keys, beside keys packed into words. Keys that are neighbours are followed one by one, from the first or
-//! the last that could be the number asked for.
+//! Numbers that are no keys, beside keys packed into words. Keys that are neighbours are followed one by one, from the
+//! first or the last that could be the number asked for.
 
 ghost use Rattle.std.specs.Prelude.{◌≡◌, ◌+◌, ◌≤◌, ◌^◌, length};
 ghost use Rattle.std.specs.List.Sorted.{IsStrictlySortedBy};
@@ -19,7 +19,8 @@ fn top<const W: usize>() -> u64
     low_part(u64::MAX, W)
 }
 
-// The nearest number at or above another that is no key, among those that a key of the width could be; none where all these are keys.
+// The nearest number at or above another that is no key, among those that a key of the width could be; none where all
+// these are keys.
 pub(crate) fn absent_from_in<const W: usize>(
     count: usize,
     words: &[u64],
@@ -47,7 +48,8 @@ pub(crate) fn absent_from_in<const W: usize>(
     Some(absent)
 }
 
-// The nearest number at or below another that is no key, among those that a key of the width could be; none where all these are keys.
+// The nearest number at or below another that is no key, among those that a key of the width could be; none where all
+// these are keys.
 pub(crate) fn absent_up_to_in<const W: usize>(
     count: usize,
     words: &[u64],

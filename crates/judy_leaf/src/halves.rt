@@ -1,6 +1,7 @@
-//! Where a key stands among ascending words, by halves. A step is a comparison and a choice between two places, which is no branch:
-//! which way it goes can't be foreseen. So among 32 words there are six comparisons, and no loop. The steps of a look-up are told to be inlined: by one
-//! call among them a look-up saves four registers, whichever way it goes.
+//! Where a key stands among ascending words, by halves. A step is a comparison and a choice between two places, which
+//! is no branch: which way it goes can't be foreseen. So among 32 words there are six comparisons, and no loop. The
+//! steps of a look-up are told to be inlined: by one call among them a look-up saves four registers, whichever way it
+//! goes.
 
 ghost use Rattle.std.specs.Prelude.{◌≡◌, ◌+◌, ◌*◌, ◌<◌, ◌≤◌, length};
 ghost use Rattle.std.specs.List.Sorted.{IsStrictlySortedBy};

@@ -16,7 +16,8 @@ use crate::words::{ValueWords, Words};
 use judy_bits::low_part;
 use std::marker::{Model, PhantomData};
 
-/// A few keys, and a value where `V` says so, without memory: one key where keys have a value, else as many as fit into a word.
+/// A few keys, and a value where `V` says so, without memory: one key where keys have a value, else as many as fit into
+/// a word.
 #[derive(Drop)]
 pub struct ImmOf<V: Words + Drop> {
     width: u8,
@@ -178,8 +179,8 @@ impl<V: Words + Drop> ImmOf<V> {
         }
     }
 
-    /// The nearest number at or above another that is no key, among those that a key of this width could be; none where all these
-    /// are keys.
+    /// The nearest number at or above another that is no key, among those that a key of this width could be; none where
+    /// all these are keys.
     pub fn absent_at_or_after(&self, number: u64) -> Option<u64>
         ensures { IsFirst word_order
             (is_absent (256 ^ self.now.width) (keys_of self.now.pairs)) number result }
@@ -187,8 +188,8 @@ impl<V: Words + Drop> ImmOf<V> {
         one_word::absent_from(self.width, usize::from(self.count), self.keys, number)
     }
 
-    /// The nearest number at or below another that is no key, among those that a key of this width could be; none where all these
-    /// are keys.
+    /// The nearest number at or below another that is no key, among those that a key of this width could be; none where
+    /// all these are keys.
     pub fn absent_at_or_before(&self, number: u64) -> Option<u64>
         ensures { IsLast word_order
             (is_absent (256 ^ self.now.width) (keys_of self.now.pairs)) number result }
@@ -196,8 +197,8 @@ impl<V: Words + Drop> ImmOf<V> {
         one_word::absent_up_to(self.width, usize::from(self.count), self.keys, number)
     }
 
-    /// Puts a key in with its value, which is 0 where keys have no value. The key is absent and below 256 to the power of the width, and the
-    /// immediate isn't full.
+    /// Puts a key in with its value, which is 0 where keys have no value. The key is absent and below 256 to the power
+    /// of the width, and the immediate isn't full.
     pub fn insert_pair(&mut self, key: u64, value: u64)
         requires absent { IsFalse (set.has (keys_of self.old.pairs) key) }
         requires room { length self.old.pairs < imm_room V.WORDS self.old.width }
@@ -211,7 +212,8 @@ impl<V: Words + Drop> ImmOf<V> {
         self.count += 1;
     }
 
-    /// The immediate of pairs, no more than fit, whose keys are read by their lowest `width` bytes, 1 to 8; these strictly ascend.
+    /// The immediate of pairs, no more than fit, whose keys are read by their lowest `width` bytes, 1 to 8; these
+    /// strictly ascend.
     /// Where keys have no value, each value is 0.
     pub fn from_sorted(width: u8, pairs: &[(u64, u64)]) -> ImmOf<V>
         requires words { V.WORDS ≤ 1 }
@@ -253,8 +255,9 @@ impl<V: Words + Drop> ImmOf<V> {
         self.count -= 1;
     }
 
-    /// The immediate of the two words that stand for it in a node. Where keys have a value, there is one key, which is the first
-    /// word, and the second is its value; else the first is the number of keys, and the second holds them, packed.
+    /// The immediate of the two words that stand for it in a node. Where keys have a value, there is one key, which is
+    /// the first word, and the second is its value; else the first is the number of keys, and the second holds them,
+    /// packed.
     pub fn of_parts(width: u8, head: u64, word: u64) -> ImmOf<V>
         requires { IsImmParts V.WORDS width head word }
         ensures { result ≡ parts_list V.WORDS width head word }

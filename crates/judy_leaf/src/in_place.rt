@@ -1,5 +1,5 @@
-//! Pairs put into leaves whose parts stand in a node, and taken out of them. A search has told the place of the key, so nothing is
-//! looked for here.
+//! Pairs put into leaves whose parts stand in a node, and taken out of them. A search has told the place of the key, so
+//! nothing is looked for here.
 
 ghost use Rattle.std.specs.Prelude.{◌≡◌, ◌+◌, ◌*◌, ◌/◌, ◌<◌, ◌≤◌, ◌^◌, OnOk, OnErr, IsFalse, Some, length, slice_get};
 ghost use Rattle.std.specs.List.{remove};
@@ -16,9 +16,9 @@ use crate::{bit_edit, keys, pairs};
 use judy_block::Block;
 use std::alloc::{AllocError, Global};
 
-/// Puts an absent key in with its value, which is 0 where keys have no value, into a leaf of fewer than 32 keys of `width` bytes: the
-/// number of its keys, and its block. The place is the number of keys below the key. The error is want of memory; the leaf is
-/// unchanged then.
+/// Puts an absent key in with its value, which is 0 where keys have no value, into a leaf of fewer than 32 keys of
+/// `width` bytes: the number of its keys, and its block. The place is the number of keys below the key. The error is
+/// want of memory; the leaf is unchanged then.
 #[inline(always)]
 pub fn put_in_leaf<V: Words + Drop>(
     alloc: Global,
@@ -56,7 +56,8 @@ pub fn put_in_leaf<V: Words + Drop>(
     Ok(())
 }
 
-// Sees to it that a block has room for so many keys, which need so many words. The larger capacity is told only where the block outgrew its own.
+// Sees to it that a block has room for so many keys, which need so many words. The larger capacity is told only where
+// the block outgrew its own.
 #[inline(always)]
 fn give_roomy<V: Words + Drop>(
     block: &mut Block,
@@ -79,7 +80,8 @@ fn give_roomy<V: Words + Drop>(
     pairs::grow(block, alloc, roomy_for::<V>(width, count, needed))
 }
 
-// The capacity of a block that outgrew its own, for so many keys that need so many words. Keys of eight bytes stand in a root alone.
+// The capacity of a block that outgrew its own, for so many keys that need so many words. Keys of eight bytes stand in
+// a root alone.
 #[inline(always)]
 fn roomy_for<V: Words + Drop>(width: usize, count: usize, needed: usize) -> usize
     requires words { V.WORDS ≤ 1 }
@@ -96,7 +98,8 @@ fn roomy_for<V: Words + Drop>(width: usize, count: usize, needed: usize) -> usiz
     }
 }
 
-// Whole fours of words, or whole eights where there are many, so that a leaf with values doesn't grow at every second key.
+// Whole fours of words, or whole eights where there are many, so that a leaf with values doesn't grow at every second
+// key.
 fn roomy(needed: usize) -> usize
     requires { needed ≤ 66 }
     ensures fours { (needed + 3) / 4 * 4 ≤ result }

@@ -1,5 +1,5 @@
-//! The keys of a leaf as they stand in its block, from a word on to the block's end. What is called here knows the width at
-//! run time, and hands on to code for that width alone, in which the number of places is a constant.
+//! The keys of a leaf as they stand in its block, from a word on to the block's end. What is called here knows the
+//! width at run time, and hands on to code for that width alone, in which the number of places is a constant.
 
 ghost use Rattle.std.specs.Prelude.{◌≡◌, ◌+◌, ◌-◌, ◌/◌, ◌<◌, ◌≤◌, ◌^◌, MatchOption, length, take, drop, slice_index};
 ghost use Rattle.std.specs.List.{insert, remove};
@@ -121,7 +121,8 @@ pub(crate) fn previous(
     at_width!(width, search, previous_in, block, start, count, number)
 }
 
-// The nearest number at or above another that is no key, among those that a key of the width could be; none where all these are keys.
+// The nearest number at or above another that is no key, among those that a key of the width could be; none where all
+// these are keys.
 pub(crate) fn absent_from(
     width: usize,
     block: &Block,
@@ -138,7 +139,8 @@ pub(crate) fn absent_from(
     at_width!(width, search, absent_from_in, block, start, count, number)
 }
 
-// The nearest number at or below another that is no key, among those that a key of the width could be; none where all these are keys.
+// The nearest number at or below another that is no key, among those that a key of the width could be; none where all
+// these are keys.
 pub(crate) fn absent_up_to(
     width: usize,
     block: &Block,

@@ -23,8 +23,8 @@ fn bytes_equal(word: u64, key: u8) -> u64
     bytes.simd_eq(u8x8::splat(key)).to_bitmask()
 }
 
-// How many bytes of words come before the first that is the given one; all of them where none is. It goes from the last word to the first,
-// so that whether a word has the byte is no branch.
+// How many bytes of words come before the first that is the given one; all of them where none is. It goes from the last
+// word to the first, so that whether a word has the byte is no branch.
 pub(crate) fn bytes_before(words: &[u64], key: u8) -> usize
     requires { length words.now ≤ 65535 }
     ensures { result ≡ prefix_len (λ place. not (place == key)) (places_of 1 words.now) }

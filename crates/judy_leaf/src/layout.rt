@@ -1,4 +1,5 @@
-//! What is decided of leaves and told here alone: how many keys a leaf holds, and how the block of a bitmap leaf is laid out.
+//! What is decided of leaves and told here alone: how many keys a leaf holds, and how the block of a bitmap leaf is
+//! laid out.
 
 ghost use Rattle.std.specs.Prelude.{◌≡◌, ◌+◌, ◌*◌, ◌/◌, ◌%◌, ◌<◌, ◌≤◌, ◌^◌};
 

@@ -108,8 +108,9 @@ impl<V: Words + Drop> LeafOf<V> {
         self.count -= 1;
     }
 
-    /// The leaf of at most 32 pairs, with so much to spare. Of each key the lowest `width` bytes count, 1 to 8; by these the keys strictly
-    /// ascend. Where keys have no value, each value is 0. The error is want of memory; nothing is kept then.
+    /// The leaf of at most 32 pairs, with so much to spare. Of each key the lowest `width` bytes count, 1 to 8; by
+    /// these the keys strictly ascend. Where keys have no value, each value is 0. The error is want of memory; nothing
+    /// is kept then.
     #[inline(always)]
     pub fn from_sorted(
         alloc: Global,

@@ -194,8 +194,8 @@ impl<'a, V: Words + Drop> LeafRef<'a, V> {
         Some((key, self.value_at(at)))
     }
 
-    /// The nearest number at or above another that is no key, among those that a key of this width could be; none where all these
-    /// are keys.
+    /// The nearest number at or above another that is no key, among those that a key of this width could be; none where
+    /// all these are keys.
     pub fn absent_at_or_after(&self, number: u64) -> Option<u64>
         ensures { IsFirst word_order
             (is_absent (256 ^ self.now.width) (keys_of self.now.pairs)) number result }
@@ -204,8 +204,8 @@ impl<'a, V: Words + Drop> LeafRef<'a, V> {
         keys::absent_from(width, block, start, count, number)
     }
 
-    /// The nearest number at or below another that is no key, among those that a key of this width could be; none where all these
-    /// are keys.
+    /// The nearest number at or below another that is no key, among those that a key of this width could be; none where
+    /// all these are keys.
     pub fn absent_at_or_before(&self, number: u64) -> Option<u64>
         ensures { IsLast word_order
             (is_absent (256 ^ self.now.width) (keys_of self.now.pairs)) number result }

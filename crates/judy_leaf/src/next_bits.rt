@@ -1,5 +1,5 @@
-//! The bits of the four words of a bitmap leaf, one after another: the word at hand loses each bit as it is told, so that the next one
-//! waits for no look at memory.
+//! The bits of the four words of a bitmap leaf, one after another: the word at hand loses each bit as it is told, so
+//! that the next one waits for no look at memory.
 
 ghost use Rattle.std.specs.Prelude.{◌≡◌, ℕ, ◌+◌, ◌<◌, ◌≤◌, length, Some};
 ghost use Rattle.std.specs.Int.{bit_at};

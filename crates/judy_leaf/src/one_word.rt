@@ -1,7 +1,7 @@
 //! Keys packed into one word, for a width that is known at run time.
 //!
-//! Where there is one key, the word is that key, and a look-up is one comparison: so the calls on its way stand inside their callers, who
-//! mostly know whether there is one.
+//! Where there is one key, the word is that key, and a look-up is one comparison: so the calls on its way stand inside
+//! their callers, who mostly know whether there is one.
 
 ghost use Rattle.std.specs.Prelude.{◌≡◌, ◌+◌, ◌-◌, ◌/◌, ◌<◌, ◌≤◌, ◌^◌, ◌==◌, MatchOption, [], ◌∷◌, slice_index};
 ghost use Rattle.std.specs.List.{insert, remove};
@@ -108,7 +108,8 @@ pub(crate) fn previous(width: u8, count: usize, word: u64, number: u64) -> Optio
     at_width!(width, call, previous_in, count, &[word], number)
 }
 
-// The nearest number at or above another that is no key, among those that a key of the width could be; none where all these are keys.
+// The nearest number at or above another that is no key, among those that a key of the width could be; none where all
+// these are keys.
 #[tactic(auto, using(crate::proofs::AbsentRuns::first_at))]
 pub(crate) fn absent_from(width: u8, count: usize, word: u64, number: u64) -> Option<u64>
     requires packed { IsPacked width count (word ∷ []) }
@@ -119,7 +120,8 @@ pub(crate) fn absent_from(width: u8, count: usize, word: u64, number: u64) -> Op
     at_width!(width, call, absent_from_in, count, &[word], number)
 }
 
-// The nearest number at or below another that is no key, among those that a key of the width could be; none where all these are keys.
+// The nearest number at or below another that is no key, among those that a key of the width could be; none where all
+// these are keys.
 #[tactic(auto, using(crate::proofs::AbsentRuns::last_at))]
 pub(crate) fn absent_up_to(width: u8, count: usize, word: u64, number: u64) -> Option<u64>
     requires packed { IsPacked width count (word ∷ []) }

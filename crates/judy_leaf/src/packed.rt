@@ -1,8 +1,9 @@
 //! Keys packed into words, as a list: the key at a place, and where a key stands.
 //!
-//! A search counts the keys below a key over all words, without a branch a key: which of a few keys is the first that isn't
-//! below can't be foreseen, and a wrong guess costs more than all the comparisons. The places of the last word that hold no
-//! key are 0, so they count as below every key but 0. Keys of eight bytes are words, among which halves are fewer comparisons.
+//! A search counts the keys below a key over all words, without a branch a key: which of a few keys is the first that
+//! isn't below can't be foreseen, and a wrong guess costs more than all the comparisons. The places of the last word
+//! that hold no key are 0, so they count as below every key but 0. Keys of eight bytes are words, among which halves
+//! are fewer comparisons.
 
 ghost use Rattle.std.specs.Prelude.{◌≡◌, ◌*◌, ◌/◌, ◌<◌, ◌≤◌, ℕ, MatchOption, length, slice_index, count_by, nat_lt};
 ghost use Rattle.std.specs.List.Sorted.{IsStrictlySortedBy};

@@ -31,7 +31,8 @@ pub(crate) fn give_room(
     Ok(())
 }
 
-// Puts a block of a larger capacity in the place of a block, with its words and its tag. It stands apart, since most keys find room.
+// Puts a block of a larger capacity in the place of a block, with its words and its tag. It stands apart, since most
+// keys find room.
 pub(crate) fn grow(block: &mut Block, alloc: Global, capacity: usize) -> Result<(), AllocError>
     requires fits { length block.old.words ≤ capacity }
     requires within { (1 ≤ capacity) × (capacity ≤ 65535) }
@@ -130,7 +131,8 @@ pub(crate) fn put_all<V: Words + Drop>(block: &mut Block, width: usize, pairs: &
     }
 }
 
-// The block of a leaf of two pairs, where a word has one key: the values, if there are any, and the keys. The error is want of memory.
+// The block of a leaf of two pairs, where a word has one key: the values, if there are any, and the keys. The error is
+// want of memory.
 #[inline(always)]
 pub(crate) fn two_words<V: Words + Drop>(
     alloc: Global,

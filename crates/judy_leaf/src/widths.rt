@@ -1,6 +1,8 @@
-//! The step from a width that is known at run time to code for that width alone, in which the number of places is a constant.
+//! The step from a width that is known at run time to code for that width alone, in which the number of places is a
+//! constant.
 
-// Makes a call at a width from 1 to 8, by a macro that is given the width as a constant, and then what the call is made of.
+// Makes a call at a width from 1 to 8, by a macro that is given the width as a constant, and then what the call is made
+// of.
 macro_rules! at_width {
     ($width:expr, $call:ident, $($parts:tt)*) => {
         match $width {

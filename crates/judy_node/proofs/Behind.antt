@@ -114,5 +114,6 @@ bit_number_fits words skipped byte block is below room =
 pub front_sum : {width read byte from front skipped number : ℕ} → read ≡ width → from ≡ byte → front ≡ from * 256 ^ (read - 1) → number ≡ skipped → front + number ≡ byte * 256 ^ (width - 1) + skipped
 front_sum is_width is_byte is_front is_number = λ t. (is_front ∙ (λ j. is_byte j * 256 ^ (is_width j - 1))) t + is_number t
 
-pub front_fits : (words skipped byte : ℕ) (block : Contents) → IsBit words skipped block → byte < 256 → bit_width block + 1 ≤ 8 → {sum : ℕ} → sum ≡ byte * 256 ^ (bit_width block - 1) + skipped → sum < 2 ^ 56
+pub front_fits : (words skipped byte : ℕ) (block : Contents) → IsBit words skipped block → byte < 256 → bit_width block + 1 ≤ 8 → {sum : ℕ} →
+    sum ≡ byte * 256 ^ (bit_width block - 1) + skipped → sum < 2 ^ 56
 front_fits words skipped byte block is below room same = subst (λ n. n < 2 ^ 56) (sym same) (bit_number_fits words skipped byte block is below room)

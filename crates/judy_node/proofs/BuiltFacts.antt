@@ -21,7 +21,8 @@ use Rattle.judy_node.proofs.Groups.{length-low_pairs}
 
 -- ---- leaves
 
-module _ (words width count : ℕ) (block : Contents) (pairs : Pairs) (parts : IsLeafParts words count block) (same : leaf_list words count block ≡ record { width = width; pairs = low_pairs (256 ^ width) pairs })
+module _ (words width count : ℕ) (block : Contents) (pairs : Pairs) (parts : IsLeafParts words count block)
+    (same : leaf_list words count block ≡ record { width = width; pairs = low_pairs (256 ^ width) pairs })
     (more : immediate_limit words width < length pairs) where
   pub leaf_made : IsLeaf words count block
   leaf_made =
@@ -34,7 +35,12 @@ module _ (words width count : ℕ) (block : Contents) (pairs : Pairs) (parts : I
       let here = ap (λ l. l.pairs) same in
       record {
         child = leaf-child words width count block leaf_made
-            (record { low_width = low; high_width = high; wide = λ _. ap (λ l. l.width) same; below = subst (λ ps. AllBelow (256 ^ width) (keys_of ps)) (sym here) (map-AllBelow words 0 (256 ^ width) (low_pairs (256 ^ width) pairs) map) });
+            (record {
+              low_width = low;
+              high_width = high;
+              wide = λ _. ap (λ l. l.width) same;
+              below = subst (λ ps. AllBelow (256 ^ width) (keys_of ps)) (sym here) (map-AllBelow words 0 (256 ^ width) (low_pairs (256 ^ width) pairs) map);
+            });
         same = here;
         tight = refl;
       }
@@ -60,7 +66,12 @@ module _ (words : ℕ) (block : Contents) (pairs : Pairs) (parts : IsBitParts wo
       let keys = length-keys_of (bit_list words block).pairs in
       record {
         child = bit-child words 1 0 block (bits_made (omega arith))
-            (record { low_width = omega arith; high_width = omega arith; wide = λ _. wide; below = subst (λ ps. AllBelow 256 (keys_of ps)) (sym here) (map-AllBelow words 0 256 (low_pairs 256 pairs) map) });
+            (record {
+              low_width = omega arith;
+              high_width = omega arith;
+              wide = λ _. wide;
+              below = subst (λ ps. AllBelow 256 (keys_of ps)) (sym here) (map-AllBelow words 0 256 (low_pairs 256 pairs) map);
+            });
         same = here;
         tight = tight-head (bitmap_leaf (low_bytes (bit_width block - 1) 0) (keys_of (bit_list words block).pairs)) [] (lt-leb (length (keys_of (bit_list words block).pairs)) 32 (omega arith)) refl;
       }
@@ -71,7 +82,8 @@ head_parts : (count width head : ℕ) → count ≤ 8 → head ≡ count + 256 *
 head_parts count width head few is = (omega arith, omega arith)
 
 -- An immediate without values, from the two words that judy_leaf gives for it.
-module _ (width count word head : ℕ) (pairs : Pairs) (parts : IsImmParts 0 width count word) (same : parts_list 0 width count word ≡ record { width = width; pairs = low_pairs (256 ^ width) pairs }) (is : head ≡ count + 256 * width) where
+module _ (width count word head : ℕ) (pairs : Pairs) (parts : IsImmParts 0 width count word) (same : parts_list 0 width count word ≡
+    record { width = width; pairs = low_pairs (256 ^ width) pairs }) (is : head ≡ count + 256 * width) where
   split : (head / 256 ≡ width) × (head % 256 ≡ count)
   split =
       let most = imm_some width count word parts in
@@ -88,31 +100,44 @@ module _ (width count word head : ℕ) (pairs : Pairs) (parts : IsImmParts 0 wid
   pub few_built : 1 ≤ width → width ≤ 8 → IsMap 0 0 (256 ^ width) (low_pairs (256 ^ width) pairs) → IsBuilt 0 width pairs (imm_tree 0 head word)
   few_built low high map = record {
     child = imm-child 0 width head word few_made
-        (record { low_width = low; high_width = high; wide = λ _. split.0; below = subst (λ ps. AllBelow (256 ^ width) (keys_of ps)) (sym few_pairs) (map-AllBelow 0 0 (256 ^ width) (low_pairs (256 ^ width) pairs) map) });
+        (record {
+          low_width = low;
+          high_width = high;
+          wide = λ _. split.0;
+          below = subst (λ ps. AllBelow (256 ^ width) (keys_of ps)) (sym few_pairs) (map-AllBelow 0 0 (256 ^ width) (low_pairs (256 ^ width) pairs) map);
+        });
     same = few_pairs;
     tight = refl;
   }
 
-pub few_done : (words width count word head : ℕ) (pairs : Pairs) → words ≡ 0 → IsImmParts words width count word → parts_list words width count word ≡ record { width = width; pairs = low_pairs (256 ^ width) pairs }
+pub few_done : (words width count word head : ℕ) (pairs : Pairs) → words ≡ 0 → IsImmParts words width count word →
+    parts_list words width count word ≡ record { width = width; pairs = low_pairs (256 ^ width) pairs }
     → head ≡ count + 256 * width → 1 ≤ width → width ≤ 8 → IsMap words 0 (256 ^ width) (low_pairs (256 ^ width) pairs) → IsImm words head word × IsBuilt words width pairs (imm_tree words head word)
 few_done zero width count word head pairs none parts same is low high map =
     (few_made width count word head pairs parts same is, few_built width count word head pairs parts same is low high map)
 few_done (suc words) width count word head pairs none parts same is low high map = let never : ⊥ = omega arith in absurd never
 
 -- One with a value: the first pair is all there is.
-one_pair : (unit : ℕ) (pairs : Pairs) (head word : ℕ) → 0 < length pairs → length pairs ≤ 1 → head ≡ (get_or pairs 0 (0, 0)).0 % unit → word ≡ (get_or pairs 0 (0, 0)).1 → low_pairs unit pairs ≡ (head, word) ∷ []
+one_pair : (unit : ℕ) (pairs : Pairs) (head word : ℕ) → 0 < length pairs → length pairs ≤ 1 → head ≡ (get_or pairs 0 (0, 0)).0 % unit → word ≡ (get_or pairs 0 (0, 0)).1 →
+    low_pairs unit pairs ≡ (head, word) ∷ []
 one_pair unit [] head word some few is same = let never : ⊥ = omega arith in absurd never
 one_pair unit (pair ∷ []) head word some few is same = λ t. (sym is t, sym same t) ∷ []
 one_pair unit (pair ∷ other ∷ pairs) head word some few is same = let never : ⊥ = omega arith in absurd never
 
-pub one_done : (words width head word : ℕ) (pairs : Pairs) → words ≤ 1 → (words ≡ 0 → ⊥) → 0 < length pairs → length pairs ≤ immediate_limit words width → head ≡ (get_or pairs 0 (0, 0)).0 % 256 ^ width → word ≡ (get_or pairs 0 (0, 0)).1
+pub one_done : (words width head word : ℕ) (pairs : Pairs) → words ≤ 1 → (words ≡ 0 → ⊥) → 0 < length pairs → length pairs ≤ immediate_limit words width →
+    head ≡ (get_or pairs 0 (0, 0)).0 % 256 ^ width → word ≡ (get_or pairs 0 (0, 0)).1
     → 1 ≤ width → width ≤ 8 → IsMap words 0 (256 ^ width) (low_pairs (256 ^ width) pairs) → IsBuilt words width pairs (imm_tree words head word)
 one_done zero width head word pairs one apart some few is same low high map = absurd (apart refl)
 one_done (suc words) width head word pairs one apart some few is same low high map =
     let all = one_pair (256 ^ width) pairs head word some few is same in
     record {
       child = imm-child (suc words) width head word one
-          (record { low_width = low; high_width = high; wide = λ (told : 0 ≢ 0). absurd (told refl); below = subst (λ ps. AllBelow (256 ^ width) (keys_of ps)) all (map-AllBelow (suc words) 0 (256 ^ width) (low_pairs (256 ^ width) pairs) map) });
+          (record {
+            low_width = low;
+            high_width = high;
+            wide = λ (told : 0 ≢ 0). absurd (told refl);
+            below = subst (λ ps. AllBelow (256 ^ width) (keys_of ps)) all (map-AllBelow (suc words) 0 (256 ^ width) (low_pairs (256 ^ width) pairs) map);
+          });
       same = sym all;
       tight = refl;
     }

@@ -26,7 +26,8 @@ length-join words width low unit block (byte ∷ bytes) (kid ∷ kids) are =
 -- One child more.
 pub population-more : (kids : List Tree) (at : ℕ) (d : Tree) → at < length kids → population (take (at + 1) kids) ≡ population (take at kids) + length (get_or kids at d).pairs
 population-more kids at d within =
-    ap population (take_more kids at d within) ∙ population-append (take at kids) (get_or kids at d ∷ []) ∙ ap (λ n. population (take at kids) + n) (let e : length (get_or kids at d).pairs + 0 ≡ length (get_or kids at d).pairs = omega arith in e)
+    ap population (take_more kids at d within) ∙ population-append (take at kids) (get_or kids at d ∷ []) ∙
+    ap (λ n. population (take at kids) + n) (let e : length (get_or kids at d).pairs + 0 ≡ length (get_or kids at d).pairs = omega arith in e)
 
 -- No front has more than all.
 pub population-take : (kids : List Tree) (at : ℕ) → population (take at kids) + population (drop at kids) ≡ population kids
@@ -36,8 +37,10 @@ pub population-step : (kids : List Tree) (at : ℕ) (kid : Tree) → at < length
 population-step kids at kid within is = population-more kids at kid within ∙ ap (λ k. population (take at kids) + length k.pairs) (sym is)
 
 -- The same of the child before a place.
-pub population-last : (kids : List Tree) (place : ℕ) (kid : Tree) → 1 ≤ place → place ≤ length kids → kid ≡ get_or kids (place - 1) kid → population (take place kids) ≡ population (take (place - 1) kids) + length kid.pairs
-population-last kids place kid some within is = subst (λ p. population (take p kids) ≡ population (take (place - 1) kids) + length kid.pairs) (omega arith) (population-step kids (place - 1) kid (omega arith) is)
+pub population-last : (kids : List Tree) (place : ℕ) (kid : Tree) → 1 ≤ place → place ≤ length kids → kid ≡ get_or kids (place - 1) kid →
+    population (take place kids) ≡ population (take (place - 1) kids) + length kid.pairs
+population-last kids place kid some within is =
+    subst (λ p. population (take p kids) ≡ population (take (place - 1) kids) + length kid.pairs) (omega arith) (population-step kids (place - 1) kid (omega arith) is)
 
 -- A child's keys are among all.
 pub population-within : (kids : List Tree) (at : ℕ) (kid : Tree) → at < length kids → kid ≡ get_or kids at kid → population (take at kids) + length kid.pairs ≤ population kids

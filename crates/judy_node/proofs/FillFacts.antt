@@ -12,7 +12,8 @@ use Rattle.judy_node.specs.Populations.{population}
 use Rattle.judy_node.proofs.Maps.{children-length}
 use Rattle.judy_node.proofs.Counts.{population-within, branch_population}
 
-child_at : (words width low : ℕ) (bytes : List ℕ) (kids : List Tree) (at : ℕ) (kid : Tree) → AreChildren words width low bytes kids → at < length kids → kid ≡ get_or kids at kid → (get_or bytes at 0 < 256) × IsChild words width kid
+child_at : (words width low : ℕ) (bytes : List ℕ) (kids : List Tree) (at : ℕ) (kid : Tree) → AreChildren words width low bytes kids → at < length kids →
+    kid ≡ get_or kids at kid → (get_or bytes at 0 < 256) × IsChild words width kid
 child_at words width low [] [] at kid are inside is = let never : ⊥ = omega arith in absurd never
 child_at words width low [] (k ∷ kids) at kid are inside is = absurd are
 child_at words width low (byte ∷ bytes) [] at kid are inside is = absurd are
@@ -24,7 +25,8 @@ join_more : (words width low unit block : ℕ) (bytes : List ℕ) (kids : List T
 join_more words width low unit block [] [] at kid are inside is = let never : ⊥ = omega arith in absurd never
 join_more words width low unit block [] (k ∷ kids) at kid are inside is = absurd are
 join_more words width low unit block (byte ∷ bytes) [] at kid are inside is = absurd are
-join_more words width low unit block (byte ∷ bytes) (k ∷ kids) zero kid are inside is = append-nil (shift ((block + byte) * unit) k.pairs) ∙ ap (λ one. shift ((block + byte) * unit) one.pairs) (sym is)
+join_more words width low unit block (byte ∷ bytes) (k ∷ kids) zero kid are inside is =
+    append-nil (shift ((block + byte) * unit) k.pairs) ∙ ap (λ one. shift ((block + byte) * unit) one.pairs) (sym is)
   where
     append-nil : (xs : Pairs) → xs ++ [] ≡ xs
     append-nil [] = refl
@@ -58,7 +60,8 @@ pub record IsKid (words width : ℕ) (skipped bytes : List ℕ) (kids : List Tre
 
 -- It as it is read: the children are lent, and a call tells the byte.
 pub kid_here : {words width : ℕ} {skipped bytes : List ℕ} {kids lent : List Tree} {count at : ℕ} {kid : Tree} {byte : ℕ} {found : Option ℕ}
-    → IsBranch words width skipped bytes kids count → lent ≡ kids → at < length lent → kid ≡ get_or lent at kid → found ≡ Some byte → found ≡ slice_get bytes at → IsKid words width skipped bytes lent count at kid byte
+    → IsBranch words width skipped bytes kids count → lent ≡ kids → at < length lent → kid ≡ get_or lent at kid → found ≡ Some byte → found ≡ slice_get bytes at →
+    IsKid words width skipped bytes lent count at kid byte
 kid_here {words} {width} {skipped} {bytes} {count = count} level same inside there is found =
     record { level = subst (λ ks. IsBranch words width skipped bytes ks count) (sym same) level; inside = inside; there = there; told = sym is ∙ found }
 
@@ -78,7 +81,8 @@ module _ {words width : ℕ} {skipped bytes : List ℕ} {kids : List Tree} {coun
       let less = block_below skipped byte (number_of-lt skipped here.level.parts.skipped_bytes) below in
       let top : suc block * 256 ^ width ≤ 256 ^ (length skipped + 1) * 256 ^ width = mul-le (suc block) (256 ^ width) (256 ^ (length skipped + 1)) (256 ^ width) less (omega arith) in
       let whole = pow-add 256 (length skipped + 1) width in
-      let step : suc block * 256 ^ width ≡ block * 256 ^ width + 256 ^ width = ap (λ n. n * 256 ^ width) (let e : suc block ≡ block + 1 = omega arith in e) ∙ add-mul block 1 (256 ^ width) ∙ (let e : block * 256 ^ width + 1 * 256 ^ width ≡ block * 256 ^ width + 256 ^ width = omega arith in e) in
+      let step : suc block * 256 ^ width ≡ block * 256 ^ width + 256 ^ width = ap (λ n. n * 256 ^ width) (let e : suc block ≡ block + 1 = omega arith in e) ∙
+      add-mul block 1 (256 ^ width) ∙ (let e : block * 256 ^ width + 1 * 256 ^ width ≡ block * 256 ^ width + 256 ^ width = omega arith in e) in
       omega arith
 
   pub kids_within : population (take at kids) + length kid.pairs ≤ count

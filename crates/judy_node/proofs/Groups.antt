@@ -1,5 +1,6 @@
 -- Sorted pairs cut into those of one byte.
-use Rattle.std.proofs.Common.{◌≡◌, ◌≢◌, ℕ, zero, suc, ◌+◌, ◌*◌, ◌/◌, ◌%◌, ◌<◌, ◌≤◌, true, false, cond, eqb, List, [], ◌∷◌, ◌++◌, length, take, drop, get_or, filter, sym, refl, ap, ◌∙◌, subst, arith, ⊎_elim, append_assoc}
+use Rattle.std.proofs.Common.{◌≡◌, ◌≢◌, ℕ, zero, suc, ◌+◌, ◌*◌, ◌/◌, ◌%◌, ◌<◌, ◌≤◌, true, false, cond, eqb, List, [], ◌∷◌, ◌++◌, length, take, drop, get_or, filter, sym, refl, ap}
+use Rattle.std.proofs.Common.{◌∙◌, subst, arith, ⊎_elim, append_assoc}
 use Rattle.std.proofs.Math.Nat.{add-mul, mul_comm}
 use Rattle.std.proofs.Math.Arith.{mod-mul}
 use Rattle.std.proofs.lemmas.Nat.{mod_below, mul-le, div-add-mod', div-mul-add}
@@ -48,7 +49,8 @@ pub sharing-rest : (unit top head : ℕ) (pairs : Pairs) → NotMiddle unit top 
 sharing-rest unit top head [] = tt
 sharing-rest unit top head (pair ∷ pairs) =
     elim (eqb (middle unit top pair.0) head) as (λ b. eqb (middle unit top pair.0) head ≡ b → NotMiddle unit top head (drop (cond b (1 + sharing unit top head pairs) 0) (pair ∷ pairs))) [
-      | true ↦ λ same. subst (λ n. NotMiddle unit top head (drop n (pair ∷ pairs))) (let e : suc (sharing unit top head pairs) ≡ 1 + sharing unit top head pairs = omega arith in e) (sharing-rest unit top head pairs)
+      | true ↦ λ same. subst (λ n. NotMiddle unit top head (drop n (pair ∷ pairs))) (let e : suc (sharing unit top head pairs) ≡ 1 + sharing unit top head pairs = omega arith in e)
+          (sharing-rest unit top head pairs)
       | false ↦ λ apart. eqb-false (middle unit top pair.0) head apart
     ] refl
 
@@ -117,7 +119,8 @@ pub map-after : (words low unit byte : ℕ) (one rest : Pairs) → 0 < unit → 
     → IsMap words low (unit * 256) (low_pairs (unit * 256) (one ++ rest)) → IsMap words ((byte + 1) * unit) (unit * 256) (low_pairs (unit * 256) rest)
 map-after words low unit byte [] rest some any all apart map = let never : ⊥ = omega arith in absurd never
 map-after words low unit byte (pair ∷ []) rest some any all apart map =
-    let digits : pair.0 % (unit * 256) ≡ byte * unit + pair.0 % unit = ap (λ n. pair.0 % n) (mul_comm unit 256) ∙ mod-mul pair.0 (let e : 0 < 256 = omega arith in e) some ∙ ap (λ n. n * unit + pair.0 % unit) all.0 in
+    let digits : pair.0 % (unit * 256) ≡ byte * unit + pair.0 % unit = ap (λ n. pair.0 % n) (mul_comm unit 256) ∙ mod-mul pair.0 (let e : 0 < 256 = omega arith in e) some ∙
+    ap (λ n. n * unit + pair.0 % unit) all.0 in
     map-next words (pair.0 % (unit * 256) + 1) unit byte rest some (omega arith) apart map.3
 map-after words low unit byte (pair ∷ other ∷ one) rest some any all apart map = map-after words (pair.0 % (unit * 256) + 1) unit byte (other ∷ one) rest some (omega arith) all.1 apart map.3
 
@@ -160,7 +163,8 @@ share_more : (unit byte : ℕ) (pair : ℕ × ℕ) (pairs : Pairs) (at : ℕ) �
     → sharing unit 256 byte (pair ∷ pairs) ≡ suc at + 1 + sharing unit 256 byte (drop (suc at + 1) (pair ∷ pairs))
 share_more unit byte pair pairs at here rest =
     let one : sharing unit 256 byte (pair ∷ pairs) ≡ 1 + sharing unit 256 byte pairs = ap (λ b. cond b (1 + sharing unit 256 byte pairs) 0) (eq-eqb (middle unit 256 pair.0) byte here) in
-    let left : sharing unit 256 byte (drop (at + 1) pairs) ≡ sharing unit 256 byte (drop (suc at + 1) (pair ∷ pairs)) = ap (λ n. sharing unit 256 byte (drop n (pair ∷ pairs))) (let e : suc (at + 1) ≡ suc at + 1 = omega arith in e) in
+    let left : sharing unit 256 byte (drop (at + 1) pairs) ≡ sharing unit 256 byte (drop (suc at + 1) (pair ∷ pairs)) = ap (λ n. sharing unit 256 byte (drop n (pair ∷ pairs)))
+    (let e : suc (at + 1) ≡ suc at + 1 = omega arith in e) in
     omega arith
 
 share_one : (unit byte : ℕ) (pair : ℕ × ℕ) (pairs : Pairs) → middle unit 256 pair.0 ≡ byte → sharing unit 256 byte (pair ∷ pairs) ≡ 0 + 1 + sharing unit 256 byte (drop (0 + 1) (pair ∷ pairs))
@@ -192,7 +196,8 @@ middle-at unit top head (pair ∷ pairs) (suc at) d all within = middle-at unit 
 
 -- ---- one child more, behind the others
 
-pub children-push : (words width low : ℕ) (bytes : List ℕ) (kids : List Tree) (byte : ℕ) (kid : Tree) → AreChildren words width low bytes kids → low ≤ byte → AllBelow byte bytes → byte < 256 → IsChild words width kid
+pub children-push : (words width low : ℕ) (bytes : List ℕ) (kids : List Tree) (byte : ℕ) (kid : Tree) → AreChildren words width low bytes kids → low ≤ byte →
+    AllBelow byte bytes → byte < 256 → IsChild words width kid
     → AreChildren words width low (bytes ++ byte ∷ []) (kids ++ kid ∷ [])
 children-push words width low [] [] byte kid are from below within is = (from, within, is, tt)
 children-push words width low [] (other ∷ kids) byte kid are from below within is = absurd are
@@ -215,7 +220,8 @@ forms-push [] kid = ap loose_in (append-nil kid.form) ∙ (let e : loose_in kid.
 forms-push (other ∷ kids) kid =
     let both = loose_in-append other.form (forms_in kids) in
     let rest = forms-push kids kid in
-    loose_in-append other.form (forms_in (kids ++ kid ∷ [])) ∙ (let e : loose_in other.form + loose_in (forms_in (kids ++ kid ∷ [])) ≡ loose_in (other.form ++ forms_in kids) + loose_in kid.form = omega arith in e)
+    loose_in-append other.form (forms_in (kids ++ kid ∷ [])) ∙ (let e : loose_in other.form + loose_in (forms_in (kids ++ kid ∷ [])) ≡
+    loose_in (other.form ++ forms_in kids) + loose_in kid.form = omega arith in e)
 
 pub below-push : (next byte : ℕ) (bytes : List ℕ) → next ≤ byte → AllBelow next bytes → AllBelow (byte + 1) (bytes ++ byte ∷ [])
 below-push next byte [] from below = (omega arith, tt)

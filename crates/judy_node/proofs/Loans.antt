@@ -15,7 +15,15 @@ use denote.Struct.Props.{props}
 vec_back : {X Z : Type 0} (v : Vec X Z) (at : ℕ) (default : X) → with_item v at (get_or v.items at default) ≡ v
 vec_back v at default =
     let e = set-get_or v.items at default in
-    λ i. record { ptr = v.ptr; len = v.len; cap = v.cap; alloc = v.alloc; items = e i; ok = is_prop→PathP (λ j. (v.len ≡ length (e j)) × (v.len ≤ v.cap)) (λ j. hlevel props) (v.ok.0 ∙ sym (length-set v.items at (get_or v.items at default)), v.ok.1) v.ok i; small = v.small }
+    λ i. record {
+      ptr = v.ptr;
+      len = v.len;
+      cap = v.cap;
+      alloc = v.alloc;
+      items = e i;
+      ok = is_prop→PathP (λ j. (v.len ≡ length (e j)) × (v.len ≤ v.cap)) (λ j. hlevel props) (v.ok.0 ∙ sym (length-set v.items at (get_or v.items at default)), v.ok.1) v.ok i;
+      small = v.small;
+    }
 
 module _ {V : _} (branch : BranchOf V) (at : ℕ) (child : Tree) (is : child ≡ child_at branch at) where
   pub written : (rest value : ℕ) → with_child branch at (with_value child rest value) ≡ branch_written branch at rest value

@@ -1,5 +1,6 @@
 -- The children of a branch, made one group of pairs after another.
-use Rattle.std.proofs.Common.{◌≡◌, ◌≢◌, ℕ, suc, ◌+◌, ◌*◌, ◌/◌, ◌%◌, ◌^◌, ◌<◌, ◌≤◌, List, [], ◌∷◌, ◌++◌, length, take, drop, get_or, sym, refl, ap, ◌∙◌, subst, arith, ⊎_elim, append_assoc, length-append, length-drop}
+use Rattle.std.proofs.Common.{◌≡◌, ◌≢◌, ℕ, suc, ◌+◌, ◌*◌, ◌/◌, ◌%◌, ◌^◌, ◌<◌, ◌≤◌, List, [], ◌∷◌, ◌++◌, length, take, drop, get_or, sym, refl, ap, ◌∙◌, subst, arith, ⊎_elim}
+use Rattle.std.proofs.Common.{append_assoc, length-append, length-drop}
 use Rattle.std.proofs.Math.Nat.{pow-suc, mul_comm, mod-eq_of_lt}
 use Rattle.std.proofs.lemmas.Nat.{le-div, mod_below, div-mul-add}
 use Rattle.std.proofs.Math.Arith.{mod-mul}
@@ -20,7 +21,8 @@ use Rattle.judy_node.specs.Trees.{Pairs, Tree, IsMap, join, forms_in, IsChild, I
 use Rattle.judy_node.specs.Built.{middle, sharing, IsBuilt, AreMade}
 use Rattle.judy_node.proofs.Maps.{map-wider, map-AllBelow}
 use Rattle.judy_node.proofs.Shaped.{branch-child}
-use Rattle.judy_node.proofs.Groups.{AllMiddle, NotMiddle, sharing-within, sharing-front, sharing-rest, sharing-yes, middle-at, front_share, length-low_pairs, low_pairs-append, low_pairs-shared, map-front, map-down, map-after, children-push, join-push, forms-push, below-push, below-wider}
+use Rattle.judy_node.proofs.Groups.{AllMiddle, NotMiddle, sharing-within, sharing-front, sharing-rest, sharing-yes, middle-at, front_share, length-low_pairs, low_pairs-append}
+use Rattle.judy_node.proofs.Groups.{low_pairs-shared, map-front, map-down, map-after, children-push, join-push, forms-push, below-push, below-wider}
 
 -- The unit above a byte.
 pub unit_above : (below : ℕ) → 256 ^ (below + 1) ≡ 256 ^ below * 256
@@ -32,7 +34,9 @@ made_none words below pairs map some =
     record {
       children = tt;
       before = tt;
-      after = map-wider words 0 (256 ^ below * 256) (0 * 256 ^ below) (256 ^ below * 256) (low_pairs (256 ^ below * 256) pairs) (omega arith) (omega arith) (subst (λ n. IsMap words 0 n (low_pairs n pairs)) top map);
+      after =
+          map-wider words 0 (256 ^ below * 256) (0 * 256 ^ below) (256 ^ below * 256) (low_pairs (256 ^ below * 256) pairs) (omega arith) (omega arith)
+          (subst (λ n. IsMap words 0 n (low_pairs n pairs)) top map);
       joined = refl;
       tight = refl;
       none = λ _. refl;
@@ -51,7 +55,8 @@ next_within words next unit (pair ∷ rest) positive some map =
     subst (λ n. next ≤ n) digit (le-div next (pair.0 % (unit * 256)) unit positive map.0)
 
 -- The map of the first group, by the bytes below.
-pub group_map : (words below : ℕ) (pairs rest : Pairs) (bytes : List ℕ) (kids : List Tree) (next byte end : ℕ) → AreMade words below pairs rest bytes kids next → end ≡ sharing (256 ^ below) 256 byte rest
+pub group_map : (words below : ℕ) (pairs rest : Pairs) (bytes : List ℕ) (kids : List Tree) (next byte end : ℕ) → AreMade words below pairs rest bytes kids next →
+    end ≡ sharing (256 ^ below) 256 byte rest
     → IsMap words 0 (256 ^ below) (low_pairs (256 ^ below) (take end rest))
 group_map words below pairs rest bytes kids next byte end made is =
     let unit = 256 ^ below in
@@ -60,10 +65,12 @@ group_map words below pairs rest bytes kids next byte end made is =
     let whole : low_pairs (unit * 256) rest ≡ low_pairs (unit * 256) group ++ low_pairs (unit * 256) (drop end rest) =
     ap (low_pairs (unit * 256)) (sym (take-append-drop end rest)) ∙ low_pairs-append (unit * 256) group (drop end rest) in
     let front = map-front words (next * unit) (unit * 256) (low_pairs (unit * 256) group) (low_pairs (unit * 256) (drop end rest)) (subst (IsMap words (next * unit) (unit * 256)) whole made.after) in
-    let shared : low_pairs (unit * 256) group ≡ shift (byte * unit) (low_pairs unit group) = ap (λ n. low_pairs n group) (mul_comm unit 256) ∙ low_pairs-shared unit 256 byte group (unit_pos below) (omega arith) all in
+    let shared : low_pairs (unit * 256) group ≡ shift (byte * unit) (low_pairs unit group) = ap (λ n. low_pairs n group) (mul_comm unit 256) ∙
+    low_pairs-shared unit 256 byte group (unit_pos below) (omega arith) all in
     map-down words (next * unit) (unit * 256) (byte * unit) unit group (subst (IsMap words (next * unit) (unit * 256)) shared front) (unit_pos below)
 
-pub group_some : (below : ℕ) (rest : Pairs) (byte end : ℕ) → 0 < length rest → byte ≡ middle (256 ^ below) 256 (get_or rest 0 (0, 0)).0 → end ≡ sharing (256 ^ below) 256 byte rest → (0 < end) × (end ≤ length rest)
+pub group_some : (below : ℕ) (rest : Pairs) (byte end : ℕ) → 0 < length rest → byte ≡ middle (256 ^ below) 256 (get_or rest 0 (0, 0)).0 → end ≡ sharing (256 ^ below) 256 byte rest →
+    (0 < end) × (end ≤ length rest)
 group_some below rest byte end some is_byte is =
     let first = first_some (256 ^ below) 256 rest some in
     let all = sharing-within (256 ^ below) 256 byte rest in
@@ -82,7 +89,8 @@ made_more words below pairs rest bytes kids next byte end kid made some is_byte 
     let apart : NotMiddle unit 256 byte left = subst (λ n. NotMiddle unit 256 byte (drop n rest)) (sym is) (sharing-rest unit 256 byte rest) in
     let whole : low_pairs (unit * 256) rest ≡ low_pairs (unit * 256) group ++ low_pairs (unit * 256) left =
     ap (low_pairs (unit * 256)) (sym (take-append-drop end rest)) ∙ low_pairs-append (unit * 256) group left in
-    let shared : low_pairs (unit * 256) group ≡ shift (byte * unit) (low_pairs unit group) = ap (λ n. low_pairs n group) (mul_comm unit 256) ∙ low_pairs-shared unit 256 byte group (unit_pos below) (omega arith) all in
+    let shared : low_pairs (unit * 256) group ≡ shift (byte * unit) (low_pairs unit group) = ap (λ n. low_pairs n group) (mul_comm unit 256) ∙
+    low_pairs-shared unit 256 byte group (unit_pos below) (omega arith) all in
     let bounds = group_some below rest byte end some is_byte is in
     let first = bounds.0 in
     let last = bounds.1 in
@@ -108,7 +116,8 @@ made_more words below pairs rest bytes kids next byte end kid made some is_byte 
       none = λ (never : length (bytes ++ byte ∷ []) ≡ 0). let no_way : ⊥ = omega arith in absurd no_way;
       one = λ (only : length (bytes ++ byte ∷ []) ≡ 1).
           let begun : rest ≡ pairs = made.none (omega arith) in
-          let end_is : end ≡ sharing unit 256 (middle unit 256 (get_or pairs 0 (0, 0)).0) pairs = is ∙ ap (λ b. sharing unit 256 b rest) is_byte ∙ ap (λ (ps : Pairs). sharing unit 256 (middle unit 256 (get_or ps 0 (0, 0)).0) ps) begun in
+          let end_is : end ≡ sharing unit 256 (middle unit 256 (get_or pairs 0 (0, 0)).0) pairs = is ∙ ap (λ b. sharing unit 256 b rest) is_byte ∙
+          ap (λ (ps : Pairs). sharing unit 256 (middle unit 256 (get_or ps 0 (0, 0)).0) ps) begun in
           let same_length = ap length begun in
           omega arith;
     }
@@ -118,7 +127,8 @@ made_two words below pairs [] kids next made many = let empty = ap length (made.
 made_two words below pairs (byte ∷ []) kids next made many = let some = made.one refl in omega arith
 made_two words below pairs (byte ∷ other ∷ bytes) kids next made many = omega arith
 
-pub made_branch : (words below : ℕ) (pairs rest : Pairs) (bytes : List ℕ) (kids : List Tree) (next : ℕ) → AreMade words below pairs rest bytes kids next → rest ≡ [] → 1 ≤ below → below ≤ 7 → 32 < length pairs
+pub made_branch : (words below : ℕ) (pairs rest : Pairs) (bytes : List ℕ) (kids : List Tree) (next : ℕ) → AreMade words below pairs rest bytes kids next →
+    rest ≡ [] → 1 ≤ below → below ≤ 7 → 32 < length pairs
     → IsBranch words below [] bytes kids (length pairs)
 made_branch words below pairs rest bytes kids next more over low high many =
     let made = subst (λ ps. AreMade words below pairs ps bytes kids next) over more in
@@ -135,7 +145,8 @@ made_branch words below pairs rest bytes kids next more over low high many =
       holds = omega arith;
     }
 
-pub made_built : (words below : ℕ) (pairs rest : Pairs) (bytes : List ℕ) (kids : List Tree) (next : ℕ) → AreMade words below pairs rest bytes kids next → rest ≡ [] → 1 ≤ below → below ≤ 7 → 32 < length pairs
+pub made_built : (words below : ℕ) (pairs rest : Pairs) (bytes : List ℕ) (kids : List Tree) (next : ℕ) → AreMade words below pairs rest bytes kids next → rest ≡ [] →
+    1 ≤ below → below ≤ 7 → 32 < length pairs
     → IsBuilt words (below + 1) pairs (branch_tree below [] bytes kids (length pairs))
 made_built words below pairs rest bytes kids next more over low high many =
     let made = subst (λ ps. AreMade words below pairs ps bytes kids next) over more in

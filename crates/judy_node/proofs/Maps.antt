@@ -111,7 +111,8 @@ join-map words width low block (byte ∷ bytes) (kid ∷ kids) below are =
     let unit = 256 ^ width in
     let start = (block + byte) * unit in
     let next = (block + (byte + 1)) * unit in
-    let step : next ≡ start + unit = ap (λ n. n * unit) (let e : block + (byte + 1) ≡ block + byte + 1 = omega arith in e) ∙ add-mul (block + byte) 1 unit ∙ (let e : start + 1 * unit ≡ start + unit = omega arith in e) in
+    let step : next ≡ start + unit = ap (λ n. n * unit) (let e : block + (byte + 1) ≡ block + byte + 1 = omega arith in e) ∙ add-mul (block + byte) 1 unit ∙
+    (let e : start + 1 * unit ≡ start + unit = omega arith in e) in
     let lower : (block + low) * unit ≤ start = mul-le (block + low) unit (block + byte) unit (omega arith) (omega arith) in
     let upper : next ≤ (block + 256) * unit = mul-le (block + (byte + 1)) unit (block + 256) unit (omega arith) (omega arith) in
     map-append words ((block + low) * unit) next ((block + 256) * unit) (shift start kid.pairs) (join unit block bytes kids) (omega arith) upper

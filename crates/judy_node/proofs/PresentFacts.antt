@@ -1,5 +1,6 @@
 -- Where a key that is there stands in a node of each kind, without a look at the bytes that the node skips.
-use Rattle.std.proofs.Common.{◌≡◌, ℕ, zero, suc, ◌+◌, ◌-◌, ◌*◌, ◌/◌, ◌%◌, ◌^◌, ◌<◌, ◌≤◌, true, false, cond, List, [], ◌∷◌, length, is_some, slice_get, Some, None, sym, refl, ap, ◌∙◌, ⊎_elim, arith, true≢false}
+use Rattle.std.proofs.Common.{◌≡◌, ℕ, zero, suc, ◌+◌, ◌-◌, ◌*◌, ◌/◌, ◌%◌, ◌^◌, ◌<◌, ◌≤◌, true, false, cond, List, [], ◌∷◌, length, is_some, slice_get, Some, None, sym, refl, ap}
+use Rattle.std.proofs.Common.{◌∙◌, ⊎_elim, arith, true≢false}
 use Rattle.std.proofs.lemmas.Bool.{cases_order}
 use Rattle.std.proofs.lemmas.Nat.{div-add-mod', mul-le}
 use Rattle.std.proofs.lemmas.Option.{same_Some, slice_get_within}
@@ -88,7 +89,8 @@ bit-there words skipped key block some =
     let same : low ≡ key % 256 = omega arith in
     (omega arith, key-has (key % 256) pairs (ap (λ n. is_some (value_of n pairs)) (sym same) ∙ ap is_some (sym value) ∙ some))
 
-module _ (words width : ℕ) (skipped bytes : List ℕ) (kids : List Tree) (count key : ℕ) (is : IsBranch words width skipped bytes kids count) (some : is_some (value_of key (branch_pairs width skipped bytes kids)) ≡ true) where
+module _ (words width : ℕ) (skipped bytes : List ℕ) (kids : List Tree) (count key : ℕ) (is : IsBranch words width skipped bytes kids count)
+    (some : is_some (value_of key (branch_pairs width skipped bytes kids)) ≡ true) where
   absent : value_of key (branch_pairs width skipped bytes kids) ≡ None → ⊥
   absent = not_none key (branch_pairs width skipped bytes kids) some
 
@@ -100,7 +102,8 @@ module _ (words width : ℕ) (skipped bytes : List ℕ) (kids : List Tree) (coun
       let front = number_of skipped * 256 in
       let from : front ≤ block = ⊎_elim
       (λ (same : block ≡ front). omega arith)
-      (λ apart. ⊎_elim (λ (less : block < front). absurd (absent (branch-below words width skipped bytes kids count key is (below_block key unit front (unit_pos width) less)))) (λ more. omega arith) apart)
+      (λ apart. ⊎_elim (λ (less : block < front). absurd (absent (branch-below words width skipped bytes kids count key is (below_block key unit front (unit_pos width) less))))
+      (λ more. omega arith) apart)
       (cases_order block front) in
       let few : front + 256 ≤ block → ⊥ = λ high.
       let whole : (front + 256) * unit ≤ block * unit = mul-le (front + 256) unit block unit high (omega arith) in

@@ -26,7 +26,8 @@ use Rattle.judy_node.proofs.SumFacts.{sums-same}
 use Rattle.judy_node.proofs.Maps.{map-shift, map-length, join-map, length-keys_of}
 use Rattle.judy_node.proofs.Leaves.{leaf_map, bit_map}
 use Rattle.judy_node.proofs.StepFacts.{absent_place}
-use Rattle.judy_node.proofs.SlotFacts.{place-there, value-shift, value-low, value-high, value-has, value-there, written-shift, written-there, written-keys, written-length, join-value, join-absent, join-written, children-written, forms-written, children-there, child-there}
+use Rattle.judy_node.proofs.SlotFacts.{place-there, value-shift, value-low, value-high, value-has, value-there, written-shift, written-there, written-keys, written-length}
+use Rattle.judy_node.proofs.SlotFacts.{join-value, join-absent, join-written, children-written, forms-written, children-there, child-there}
 
 -- ---- no place
 
@@ -35,9 +36,11 @@ leaf-none words count key block none = value-has key (leaf_list words count bloc
 
 pub bit-below : (words skipped key : ℕ) (block : Contents) → key < skipped * 256 → value_of key (bit_tree words skipped block).pairs ≡ None
 bit-below words skipped key block below =
-    value-low words (skipped * 256 + 0) (skipped * 256 + 256) key (shift (skipped * 256) (bit_list words block).pairs) (map-shift words 0 256 (skipped * 256) (bit_list words block).pairs (bit_map words block)) (omega arith)
+    value-low words (skipped * 256 + 0) (skipped * 256 + 256) key (shift (skipped * 256) (bit_list words block).pairs)
+    (map-shift words 0 256 (skipped * 256) (bit_list words block).pairs (bit_map words block)) (omega arith)
 
-pub bit-none : (words skipped key low : ℕ) (block : Contents) → key ≡ skipped * 256 + low → None ≡ place (keys_of (bit_list words block).pairs) low → value_of key (bit_tree words skipped block).pairs ≡ None
+pub bit-none : (words skipped key low : ℕ) (block : Contents) → key ≡ skipped * 256 + low → None ≡ place (keys_of (bit_list words block).pairs) low →
+    value_of key (bit_tree words skipped block).pairs ≡ None
 bit-none words skipped key low block is none =
     let pairs = (bit_list words block).pairs in
     ap (λ k. value_of k (shift (skipped * 256) pairs)) is ∙ value-shift (skipped * 256) low pairs ∙ value-has low pairs (absent_place (keys_of pairs) low (sym none))
@@ -51,7 +54,8 @@ module _ (words width : ℕ) (skipped bytes : List ℕ) (kids : List Tree) (coun
   pub branch-below : IsStep (256 ^ width) (number_of skipped * 256) bytes key Below → value_of key (branch_pairs width skipped bytes kids) ≡ None
   branch-below below =
       value-low words ((number_of skipped * 256 + 0) * 256 ^ width) ((number_of skipped * 256 + 256) * 256 ^ width) key (branch_pairs width skipped bytes kids)
-      (join-map words width 0 (number_of skipped * 256) bytes kids (omega arith) is.parts.children) (subst (λ n. key < n * 256 ^ width) (let e : number_of skipped * 256 ≡ number_of skipped * 256 + 0 = omega arith in e) below)
+      (join-map words width 0 (number_of skipped * 256) bytes kids (omega arith) is.parts.children) (subst (λ n. key < n * 256 ^ width)
+      (let e : number_of skipped * 256 ≡ number_of skipped * 256 + 0 = omega arith in e) below)
 
   pub branch-above : IsStep (256 ^ width) (number_of skipped * 256) bytes key Above → value_of key (branch_pairs width skipped bytes kids) ≡ None
   branch-above above =
@@ -107,7 +111,9 @@ kind-level words (Branch b) key at rest value one level seat =
           within = parts.within;
           skipped_bytes = parts.skipped_bytes;
           children = children-written words branch.width 0 at rest value branch.bytes kids empty_tree one parts.children;
-          counted = parts.counted ∙ sym (ap length written_pairs ∙ written-length ((number_of branch.skip * 256 + seat.0) * 256 ^ branch.width + rest) value (branch_pairs branch.width branch.skip branch.bytes kids));
+          counted =
+              parts.counted ∙ sym (ap length written_pairs ∙ written-length ((number_of branch.skip * 256 + seat.0) * 256 ^ branch.width + rest) value
+              (branch_pairs branch.width branch.skip branch.bytes kids));
         };
         holds = level.0.holds;
       },
@@ -115,13 +121,15 @@ kind-level words (Branch b) key at rest value one level seat =
           (written-length rest value (get_or kids at empty_tree).pairs) level.1,
     )
 
-pub kind-tree : {V : _} (words : ℕ) (kind : KindOf V) (key at rest value : ℕ) → words ≡ 1 → IsLevel words kind → IsSeat words kind key at rest → tree_of words (kind_written kind at rest value) ≡ with_value (tree_of words kind) key value
+pub kind-tree : {V : _} (words : ℕ) (kind : KindOf V) (key at rest value : ℕ) → words ≡ 1 → IsLevel words kind → IsSeat words kind key at rest →
+    tree_of words (kind_written kind at rest value) ≡ with_value (tree_of words kind) key value
 kind-tree zero (Imm head word) key at rest value one level seat = let never : ⊥ = omega arith in absurd never
 kind-tree (suc words) (Imm head word) key at rest value one level seat =
     λ t. record { width = 0; pairs = (head, cond (sym (eq-eqb head key (sym seat)) t) value word) ∷ []; form = immediate (head ∷ []) ∷ [] }
 kind-tree words (Leaf count block) key at rest value one level seat =
     let pairs = (leaf_list words count block).pairs in
-    let same = ap (λ l. l.pairs) (leaf_valued words count at value block level.parts one (leaf_within words count key at block level seat)).1 ∙ written-there words 0 (256 ^ block.tag) at key value pairs (leaf_map words count block level.parts) seat in
+    let same = ap (λ l. l.pairs) (leaf_valued words count at value block level.parts one (leaf_within words count key at block level seat)).1 ∙
+    written-there words 0 (256 ^ block.tag) at key value pairs (leaf_map words count block level.parts) seat in
     let keys = ap keys_of same ∙ written-keys key value pairs in
     λ t. record { width = block.tag; pairs = same t; form = leaf (keys t) ∷ [] }
 kind-tree words (Bit skipped block) key at rest value one level seat =
@@ -131,7 +139,8 @@ kind-tree words (Bit skipped block) key at rest value one level seat =
     let front = skipped * 256 in
     let new = record block { words = set block.words (4 + place) value } in
     let inner : (bit_list words new).pairs ≡ written low value list.pairs =
-    ap (λ l. l.pairs) (bit_written words place value block level.parts list refl one (bit_within words low place block seat.4)) ∙ written-there words 0 256 place low value list.pairs (bit_map words block) seat.4 in
+    ap (λ l. l.pairs) (bit_written words place value block level.parts list refl one (bit_within words low place block seat.4)) ∙
+    written-there words 0 256 place low value list.pairs (bit_map words block) seat.4 in
     let same = ap (shift front) inner ∙ sym (written-shift front low value list.pairs) ∙ ap (λ k. written k value (shift front list.pairs)) (sym seat.3) in
     let keys = ap keys_of inner ∙ written-keys low value list.pairs in
     ap (λ n. bit_tree words skipped (record block { words = set block.words n value })) seat.2
@@ -145,7 +154,8 @@ kind-tree words (Branch b) key at rest value one level seat =
 
 -- ---- the value at a place
 
-pub kind-value : {V : _} (words : ℕ) (kind : KindOf V) (key at rest : ℕ) → words ≡ 1 → IsLevel words kind → IsSeat words kind key at rest → value_at kind at rest ≡ value_of key (tree_of words kind).pairs
+pub kind-value : {V : _} (words : ℕ) (kind : KindOf V) (key at rest : ℕ) → words ≡ 1 → IsLevel words kind → IsSeat words kind key at rest →
+    value_at kind at rest ≡ value_of key (tree_of words kind).pairs
 kind-value zero (Imm head word) key at rest one level seat = let never : ⊥ = omega arith in absurd never
 kind-value (suc words) (Imm head word) key at rest one level seat = ap (λ b. cond b (Some word) None) (sym (eq-eqb head key (sym seat)))
 kind-value words (Leaf count block) key at rest one level seat =
@@ -193,7 +203,8 @@ kind-seat words depth (Branch b) key at rest one level seat short =
 
 -- ---- places that are found
 
-pub leaf-seat : (words count key at : ℕ) (block : Contents) → IsLeaf words count block → Some at ≡ place (keys_of (leaf_list words count block).pairs) key → slice_get (keys_of (leaf_list words count block).pairs) at ≡ Some key
+pub leaf-seat : (words count key at : ℕ) (block : Contents) → IsLeaf words count block → Some at ≡ place (keys_of (leaf_list words count block).pairs) key →
+    slice_get (keys_of (leaf_list words count block).pairs) at ≡ Some key
 leaf-seat words count key at block level found = place-there words 0 (256 ^ block.tag) at key (leaf_list words count block).pairs (leaf_map words count block level.parts) (sym found)
 
 pub bit-seat : (words low at : ℕ) (block : Contents) → Some at ≡ place (keys_of (bit_list words block).pairs) low → (slice_get (keys_of (bit_list words block).pairs) at ≡ Some low) × (at < 256)
@@ -204,5 +215,6 @@ bit-seat words low at block found =
     (there, omega arith)
 
 -- What a node keeps is kept by its kind that is lent.
-pub lent_kind : {V : _} (words : ℕ) {place : PlaceOf V} {kind : KindOf V} {tree : Tree} → placed kind ≡ place → IsLevel words (kind_in place) → tree_of words (kind_in place) ≡ tree → IsLevel words kind × (tree_of words kind ≡ tree)
+pub lent_kind : {V : _} (words : ℕ) {place : PlaceOf V} {kind : KindOf V} {tree : Tree} → placed kind ≡ place → IsLevel words (kind_in place) →
+    tree_of words (kind_in place) ≡ tree → IsLevel words kind × (tree_of words kind ≡ tree)
 lent_kind words same level seen = let is = ap kind_in same in (subst (IsLevel words) (sym is) level, ap (tree_of words) is ∙ seen)

@@ -6,7 +6,8 @@ use Rattle.judy_model.specs.Forms as forms
 use Rattle.judy_node.specs.Trees.{Tree, forms_in}
 use Rattle.judy_node.specs.ShapeSums.{plus, nodes_in}
 
-plus-same : (one other : forms.Shape) → one.immediates ≡ other.immediates → one.leaves ≡ other.leaves → one.bitmap_leaves ≡ other.bitmap_leaves → one.linear ≡ other.linear → one.bitmap ≡ other.bitmap → one.full ≡ other.full
+plus-same : (one other : forms.Shape) → one.immediates ≡ other.immediates → one.leaves ≡ other.leaves → one.bitmap_leaves ≡ other.bitmap_leaves → one.linear ≡ other.linear →
+    one.bitmap ≡ other.bitmap → one.full ≡ other.full
     → one ≡ other
 plus-same one other a b c d e f = λ t. record { immediates = a t; leaves = b t; bitmap_leaves = c t; linear = d t; bitmap = e t; full = f t }
 
@@ -16,7 +17,8 @@ plus-assoc one other more = plus-same (plus (plus one other) more) (plus one (pl
 plus-branch : (children : ℕ) (one other : forms.Shape) → plus (with_branch children one) other ≡ with_branch children (plus one other)
 plus-branch children one other =
     elim (leb children 7) as (λ b. plus (cond b (record one { linear = one.linear + 1 }) (cond (leb children 127) (record one { bitmap = one.bitmap + 1 }) (record one { full = one.full + 1 }))) other
-    ≡ cond b (record (plus one other) { linear = one.linear + other.linear + 1 }) (cond (leb children 127) (record (plus one other) { bitmap = one.bitmap + other.bitmap + 1 }) (record (plus one other) { full = one.full + other.full + 1 }))) [
+    ≡ cond b (record (plus one other) { linear = one.linear + other.linear + 1 }) (cond (leb children 127) (record (plus one other) { bitmap = one.bitmap + other.bitmap + 1 })
+    (record (plus one other) { full = one.full + other.full + 1 }))) [
       | true ↦ plus-same _ _ refl refl refl (omega arith) refl refl
       | false ↦ elim (leb children 127) as (λ b. plus (cond b (record one { bitmap = one.bitmap + 1 }) (record one { full = one.full + 1 })) other
           ≡ cond b (record (plus one other) { bitmap = one.bitmap + other.bitmap + 1 }) (record (plus one other) { full = one.full + other.full + 1 })) [
@@ -48,7 +50,8 @@ nodes-plus one other = omega arith
 
 pub nodes-branch : (children : ℕ) (one : forms.Shape) → nodes_in (with_branch children one) ≡ nodes_in one + 1
 nodes-branch children one =
-    elim (leb children 7) as (λ b. nodes_in (cond b (record one { linear = one.linear + 1 }) (cond (leb children 127) (record one { bitmap = one.bitmap + 1 }) (record one { full = one.full + 1 }))) ≡ nodes_in one + 1) [
+    elim (leb children 7) as (λ b. nodes_in (cond b (record one { linear = one.linear + 1 }) (cond (leb children 127) (record one { bitmap = one.bitmap + 1 })
+    (record one { full = one.full + 1 }))) ≡ nodes_in one + 1) [
       | true ↦ omega arith
       | false ↦ elim (leb children 127) as (λ b. nodes_in (cond b (record one { bitmap = one.bitmap + 1 }) (record one { full = one.full + 1 })) ≡ nodes_in one + 1) [
         | true ↦ omega arith
@@ -81,7 +84,8 @@ forms-more kids at kid within is =
 pub forms-within : (kids : List Tree) (at : ℕ) (kid : Tree) → at < length kids → kid ≡ get_or kids at kid → length (forms_in (take at kids)) + length kid.form ≤ length (forms_in kids)
 forms-within kids at kid within is =
     let more = ap length (forms-more kids at kid within is) ∙ length-append (forms_in (take at kids)) kid.form in
-    let all = ap length (ap forms_in (sym (take-append-drop (at + 1) kids)) ∙ forms_in-append (take (at + 1) kids) (drop (at + 1) kids)) ∙ length-append (forms_in (take (at + 1) kids)) (forms_in (drop (at + 1) kids)) in
+    let all = ap length (ap forms_in (sym (take-append-drop (at + 1) kids)) ∙ forms_in-append (take (at + 1) kids) (drop (at + 1) kids)) ∙
+    length-append (forms_in (take (at + 1) kids)) (forms_in (drop (at + 1) kids)) in
     omega arith
 
 -- One child more is counted.

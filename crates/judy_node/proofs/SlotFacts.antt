@@ -1,5 +1,6 @@
 -- The values of keys: under shifts, behind one another, in leaves and among the pairs of children.
-use Rattle.std.proofs.Common.{◌≡◌, ℕ, zero, suc, ◌+◌, ◌*◌, ◌^◌, ◌<◌, ◌≤◌, ◌||◌, true, false, cond, eqb, IsFalse, List, [], ◌∷◌, ◌++◌, length, get_or, set, slice_get, Some, None, sym, refl, ap, ◌∙◌, subst, ⊎_elim, arith, ne_eqb}
+use Rattle.std.proofs.Common.{◌≡◌, ℕ, zero, suc, ◌+◌, ◌*◌, ◌^◌, ◌<◌, ◌≤◌, ◌||◌, true, false, cond, eqb, IsFalse, List, [], ◌∷◌, ◌++◌, length, get_or, set, slice_get, Some, None}
+use Rattle.std.proofs.Common.{sym, refl, ap, ◌∙◌, subst, ⊎_elim, arith, ne_eqb}
 use Rattle.std.proofs.Math.Nat.{add-mul}
 use Rattle.std.proofs.lemmas.Nat.{mul-le}
 use Rattle.std.proofs.lemmas.Bool.{cases_order, eq-eqb}
@@ -147,24 +148,28 @@ ends_before block byte later unit rest below =
     let whole = mul-le (block + byte + 1) unit (block + later) unit (omega arith) (omega arith) in
     omega arith
 
-shift_high : (words width block byte later rest : ℕ) (kid : Tree) → IsChild words width kid → byte < later → value_of ((block + later) * 256 ^ width + rest) (shift ((block + byte) * 256 ^ width) kid.pairs) ≡ None
+shift_high : (words width block byte later rest : ℕ) (kid : Tree) → IsChild words width kid → byte < later →
+    value_of ((block + later) * 256 ^ width + rest) (shift ((block + byte) * 256 ^ width) kid.pairs) ≡ None
 shift_high words width block byte later rest kid is below =
     let unit = 256 ^ width in
     value-high words ((block + byte) * unit + 0) ((block + byte) * unit + unit) ((block + later) * unit + rest) (shift ((block + byte) * unit) kid.pairs)
     (map-shift words 0 unit ((block + byte) * unit) kid.pairs is.map) (ends_before block byte later unit rest below)
 
-shift_low : (words width block byte later rest : ℕ) (kid : Tree) → IsChild words width kid → byte < later → rest < 256 ^ width → value_of ((block + byte) * 256 ^ width + rest) (shift ((block + later) * 256 ^ width) kid.pairs) ≡ None
+shift_low : (words width block byte later rest : ℕ) (kid : Tree) → IsChild words width kid → byte < later → rest < 256 ^ width →
+    value_of ((block + byte) * 256 ^ width + rest) (shift ((block + later) * 256 ^ width) kid.pairs) ≡ None
 shift_low words width block byte later rest kid is below within =
     let unit = 256 ^ width in
     let apart = ends_before block byte later unit 0 below in
     value-low words ((block + later) * unit + 0) ((block + later) * unit + unit) ((block + byte) * unit + rest) (shift ((block + later) * unit) kid.pairs)
     (map-shift words 0 unit ((block + later) * unit) kid.pairs is.map) (omega arith)
 
-join_low : (words width block byte rest : ℕ) (bytes : List ℕ) (kids : List Tree) → byte < 256 → AreChildren words width (byte + 1) bytes kids → rest < 256 ^ width → value_of ((block + byte) * 256 ^ width + rest) (join (256 ^ width) block bytes kids) ≡ None
+join_low : (words width block byte rest : ℕ) (bytes : List ℕ) (kids : List Tree) → byte < 256 → AreChildren words width (byte + 1) bytes kids → rest < 256 ^ width →
+    value_of ((block + byte) * 256 ^ width + rest) (join (256 ^ width) block bytes kids) ≡ None
 join_low words width block byte rest bytes kids small are within =
     let unit = 256 ^ width in
     let apart = ends_before block byte (byte + 1) unit 0 (omega arith) in
-    value-low words ((block + (byte + 1)) * unit) ((block + 256) * unit) ((block + byte) * unit + rest) (join unit block bytes kids) (join-map words width (byte + 1) block bytes kids (omega arith) are) (omega arith)
+    value-low words ((block + (byte + 1)) * unit) ((block + 256) * unit) ((block + byte) * unit + rest) (join unit block bytes kids)
+    (join-map words width (byte + 1) block bytes kids (omega arith) are) (omega arith)
 
 pub byte-from : (words width low at byte : ℕ) (bytes : List ℕ) (kids : List Tree) → AreChildren words width low bytes kids → slice_get bytes at ≡ Some byte → low ≤ byte
 byte-from words width low at byte [] kids are there = cc
@@ -214,7 +219,8 @@ join-absent words width low block byte rest (first ∷ bytes) (kid ∷ kids) are
     (cases_order first byte)
 
 -- Another value of a key of a child.
-pub join-written : (words width low block at byte rest value : ℕ) (bytes : List ℕ) (kids : List Tree) (d : Tree) → AreChildren words width low bytes kids → slice_get bytes at ≡ Some byte → rest < 256 ^ width
+pub join-written : (words width low block at byte rest value : ℕ) (bytes : List ℕ) (kids : List Tree) (d : Tree) → AreChildren words width low bytes kids →
+    slice_get bytes at ≡ Some byte → rest < 256 ^ width
     → join (256 ^ width) block bytes (set kids at (with_value (get_or kids at d) rest value)) ≡ written ((block + byte) * 256 ^ width + rest) value (join (256 ^ width) block bytes kids)
 join-written words width low block at byte rest value [] kids d are there within = cc
 join-written words width low block at byte rest value (first ∷ bytes) [] d are there within = absurd are
@@ -231,7 +237,8 @@ join-written words width low block (suc at) byte rest value (first ∷ bytes) (k
     let later = byte-from words width (first + 1) at byte bytes kids are.3 there in
     let key = (block + byte) * unit + rest in
     let front = shift ((block + first) * unit) kid.pairs in
-    (λ t. sym (written-none key value front (shift_high words width block first byte rest kid are.2 (omega arith))) t ++ join-written words width (first + 1) block at byte rest value bytes kids d are.3 there within t)
+    (λ t. sym (written-none key value front (shift_high words width block first byte rest kid are.2 (omega arith))) t ++
+    join-written words width (first + 1) block at byte rest value bytes kids d are.3 there within t)
     ∙ sym (written-append key value front (join unit block bytes kids))
 
 pub children-written : (words width low at rest value : ℕ) (bytes : List ℕ) (kids : List Tree) (d : Tree) → words ≡ 1 → AreChildren words width low bytes kids
@@ -254,7 +261,8 @@ children-there words width low at byte (first ∷ bytes) [] are there = absurd a
 children-there words width low zero byte (first ∷ bytes) (kid ∷ kids) are there = omega arith
 children-there words width low (suc at) byte (first ∷ bytes) (kid ∷ kids) are there = let rest = children-there words width (first + 1) at byte bytes kids are.3 there in omega arith
 
-pub child-there : (words width low at byte : ℕ) (bytes : List ℕ) (kids : List Tree) (d : Tree) → AreChildren words width low bytes kids → slice_get bytes at ≡ Some byte → IsChild words width (get_or kids at d)
+pub child-there : (words width low at byte : ℕ) (bytes : List ℕ) (kids : List Tree) (d : Tree) → AreChildren words width low bytes kids → slice_get bytes at ≡ Some byte →
+    IsChild words width (get_or kids at d)
 child-there words width low at byte [] kids d are there = cc
 child-there words width low at byte (first ∷ bytes) [] d are there = absurd are
 child-there words width low zero byte (first ∷ bytes) (kid ∷ kids) d are there = are.2

@@ -1,5 +1,6 @@
 -- Where a key goes at a branch.
-use Rattle.std.proofs.Common.{◌≡◌, ℕ, zero, suc, ◌+◌, ◌-◌, ◌*◌, ◌/◌, ◌%◌, ◌^◌, ◌<◌, ◌≤◌, true, false, cond, IsFalse, List, [], ◌∷◌, length, Some, None, slice_get, get_or, Less, sym, refl, ap, ◌∙◌, subst, arith}
+use Rattle.std.proofs.Common.{◌≡◌, ℕ, zero, suc, ◌+◌, ◌-◌, ◌*◌, ◌/◌, ◌%◌, ◌^◌, ◌<◌, ◌≤◌, true, false, cond, IsFalse, List, [], ◌∷◌, length, Some, None, slice_get, get_or, Less}
+use Rattle.std.proofs.Common.{sym, refl, ap, ◌∙◌, subst, arith}
 use Rattle.std.proofs.Math.Nat.{add-mul, pow-le-pow_right}
 use Rattle.std.proofs.lemmas.Nat.{div-add-mod', mod_below, mul-le}
 use Rattle.std.proofs.lemmas.List.Elements.{All-nil, All-cons}
@@ -42,7 +43,8 @@ pub children-IsByteSet : (words width low : ℕ) (bytes : List ℕ) (kids : List
 children-IsByteSet words width low bytes kids are = record { ascending = children-ascend words width low bytes kids are; bytes = children-IsByteString words width low bytes kids are }
 
 -- Where a child stands for each byte from one on, a byte is its place.
-every_byte : (words width low : ℕ) (bytes : List ℕ) (kids : List Tree) (at : ℕ) → AreChildren words width low bytes kids → low + length bytes ≡ 256 → at < length bytes → slice_get bytes at ≡ Some (low + at)
+every_byte : (words width low : ℕ) (bytes : List ℕ) (kids : List Tree) (at : ℕ) → AreChildren words width low bytes kids → low + length bytes ≡ 256 → at < length bytes →
+    slice_get bytes at ≡ Some (low + at)
 every_byte words width low [] kids at are all within = let never : ⊥ = omega arith in absurd never
 every_byte words width low (byte ∷ bytes) [] at are all within = absurd are
 every_byte words width low (byte ∷ bytes) (kid ∷ kids) zero are all within =
@@ -56,21 +58,24 @@ every_byte words width low (byte ∷ bytes) (kid ∷ kids) (suc at) are all with
     let rest = children-few words width (byte + 1) bytes kids (omega arith) are.3 in
     every_byte words width (byte + 1) bytes kids at are.3 (omega arith) (omega arith) ∙ ap Some (let e : byte + 1 + at ≡ low + suc at = omega arith in e)
 
-pub place_of_all : (words width : ℕ) (skipped bytes : List ℕ) (kids : List Tree) (count byte : ℕ) → IsBranch words width skipped bytes kids count → length kids ≡ 256 → byte < 256 → place bytes byte ≡ Some byte
+pub place_of_all : (words width : ℕ) (skipped bytes : List ℕ) (kids : List Tree) (count byte : ℕ) → IsBranch words width skipped bytes kids count → length kids ≡ 256 →
+    byte < 256 → place bytes byte ≡ Some byte
 place_of_all words width skipped bytes kids count byte is all below =
     let are = is.parts.children in
     let long = children-length words width 0 bytes kids are in
     (place-nth bytes byte byte (children-IsByteSet words width 0 bytes kids are)).1
     (every_byte words width 0 bytes kids byte are (omega arith) (omega arith) ∙ ap Some (let e : 0 + byte ≡ byte = omega arith in e))
 
-pub byte_of_all : (words width : ℕ) (skipped bytes : List ℕ) (kids : List Tree) (count at : ℕ) → IsBranch words width skipped bytes kids count → length kids ≡ 256 → at < length kids → slice_get bytes at ≡ Some at
+pub byte_of_all : (words width : ℕ) (skipped bytes : List ℕ) (kids : List Tree) (count at : ℕ) → IsBranch words width skipped bytes kids count → length kids ≡ 256 →
+    at < length kids → slice_get bytes at ≡ Some at
 byte_of_all words width skipped bytes kids count at is all inside =
     let are = is.parts.children in
     let long = children-length words width 0 bytes kids are in
     every_byte words width 0 bytes kids at are (omega arith) (omega arith) ∙ ap Some (let e : 0 + at ≡ at = omega arith in e)
 
 -- Each child has a byte.
-pub byte_there : (words width : ℕ) (skipped bytes : List ℕ) (kids : List Tree) (count at : ℕ) → IsBranch words width skipped bytes kids count → at < length kids → slice_get bytes at ≡ Some (get_or bytes at 0)
+pub byte_there : (words width : ℕ) (skipped bytes : List ℕ) (kids : List Tree) (count at : ℕ) → IsBranch words width skipped bytes kids count → at < length kids →
+    slice_get bytes at ≡ Some (get_or bytes at 0)
 byte_there words width skipped bytes kids count at is inside =
     let long = children-length words width 0 bytes kids is.parts.children in
     slice_get-get_or bytes at 0 (omega arith)
@@ -101,7 +106,8 @@ pub key_read : (width number key block : ℕ) {w front rest : ℕ} → front ≡
     → IsKeyOf (256 ^ width) (number * 256) key (block - front * 256) rest
 key_read width number key block is_front is_width is_block is_rest above below =
     let front = ap (λ n. n * 256) is_front in
-    key_of (256 ^ width) (number * 256) key _ _ _ (unit_pos width) (is_block ∙ ap (λ w. key / 256 ^ w) is_width) (is_rest ∙ ap (λ w. key % 256 ^ w) is_width) (omega arith) (ap (λ n. block - n) front) below
+    key_of (256 ^ width) (number * 256) key _ _ _ (unit_pos width) (is_block ∙ ap (λ w. key / 256 ^ w) is_width) (is_rest ∙ ap (λ w. key % 256 ^ w) is_width)
+    (omega arith) (ap (λ n. block - n) front) below
 
 pub absent_place : (members : List ℕ) (byte : ℕ) → place members byte ≡ None → IsFalse (has members byte)
 absent_place members byte none =

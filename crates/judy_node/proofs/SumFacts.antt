@@ -1,5 +1,6 @@
 -- Sums of children by sixteens.
-use Rattle.std.proofs.Common.{◌≡◌, ℕ, ◌+◌, ◌-◌, ◌*◌, ◌/◌, ◌<◌, ◌≤◌, List, [], ◌∷◌, ◌++◌, length, take, drop, set, get_or, sum, sum_by, Option, Some, None, IfSome, ⊎_elim, sym, refl, ap, ◌∙◌, subst, arith, length-take, length-drop, length-set}
+use Rattle.std.proofs.Common.{◌≡◌, ℕ, ◌+◌, ◌-◌, ◌*◌, ◌/◌, ◌<◌, ◌≤◌, List, [], ◌∷◌, ◌++◌, length, take, drop, set, get_or, sum, sum_by, Option, Some, None, IfSome, ⊎_elim, sym}
+use Rattle.std.proofs.Common.{refl, ap, ◌∙◌, subst, arith, length-take, length-drop, length-set}
 use Rattle.std.proofs.lemmas.List.{take_all, take-take, drop-take, take-set-le, take_more_set, take_rest, drop-set-lt, get_or-take, get_or-drop, set-get_or}
 use Rattle.std.proofs.lemmas.List.Sums.{sum_by-cons, sum_by-set, sum_by-take-drop, sum_by_more, sum_by_push, get_or-le-sum_by}
 use Rattle.std.proofs.lemmas.Bool.{cases_lt}
@@ -55,7 +56,8 @@ module _ (sums : List ℕ) (kids : List Tree) (are : AreGroups sums kids) where
   pub behind_group : (group place : ℕ) → group ≤ 16 → 16 * group ≤ place → keys_before place kids ≡ sum (take group sums) + population (take (place - 16 * group) (drop (16 * group) kids))
   behind_group group place few past =
       let same : place ≡ 16 * group + (place - 16 * group) = omega arith in
-      ap (λ n. keys_before n kids) same ∙ population-span kids (16 * group) (place - 16 * group) ∙ ap (λ n. n + population (take (place - 16 * group) (drop (16 * group) kids))) (sym (are.each group few))
+      ap (λ n. keys_before n kids) same ∙ population-span kids (16 * group) (place - 16 * group) ∙ ap (λ n. n + population (take (place - 16 * group) (drop (16 * group) kids)))
+      (sym (are.each group few))
 
   pub before_group : (group place : ℕ) → group ≤ 16 → place ≤ 16 * group → sum (take group sums) ≡ keys_before place kids + population (take (16 * group - place) (drop place kids))
   before_group group place few past =
@@ -112,7 +114,8 @@ module _ (sums : List ℕ) (kids : List Tree) (are : AreGroups sums kids) where
           let many = are.all in
           let long = are.groups in
           let old = are.each group few in
-          let sums-now : sum (take group (set sums (at / 16) new_sum)) + sum (drop group (set sums (at / 16) new_sum)) ≡ sum (set sums (at / 16) new_sum) = sum_by-take-drop (λ x. x) (set sums (at / 16) new_sum) group in
+          let sums-now : sum (take group (set sums (at / 16) new_sum)) + sum (drop group (set sums (at / 16) new_sum)) ≡
+          sum (set sums (at / 16) new_sum) = sum_by-take-drop (λ x. x) (set sums (at / 16) new_sum) group in
           let sums-old : sum (take group sums) + sum (drop group sums) ≡ sum sums = sum_by-take-drop (λ x. x) sums group in
           let sums-rest : sum (drop group (set sums (at / 16) new_sum)) ≡ sum (drop group sums) = ap sum (drop-set-lt group sums (at / 16) new_sum behind) in
           let sums-all : sum (set sums (at / 16) new_sum) + get_or sums (at / 16) 0 ≡ sum sums + new_sum = sum_by-set (λ x. x) sums (at / 16) new_sum 0 (omega arith) in
@@ -164,7 +167,8 @@ holds-span kids from count own place left kid holds =
     let long = length-take count (drop from kids) in
     let rest = length-drop from kids in
     let here : get_or kids (from + place) kid ≡ kid =
-    sym (get_or-take count (drop from kids) place kid (omega arith) ∙ get_or-drop from kids place kid) ∙ same_Some (get_or part place kid) kid (sym (slice_get-get_or part place kid inside) ∙ holds.there) in
+    sym (get_or-take count (drop from kids) place kid (omega arith) ∙ get_or-drop from kids place kid) ∙
+    same_Some (get_or part place kid) kid (sym (slice_get-get_or part place kid inside) ∙ holds.there) in
     let span = population-span kids from place in
     let front = ap population (take-take place count (drop from kids) (omega arith)) in
     let counted = holds.counted in (

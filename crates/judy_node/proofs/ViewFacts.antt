@@ -32,7 +32,8 @@ one_parts (suc words) width head word some level child =
     let fits = one_fits words width head word child in
     (imm_parts_one words width head word level fits.0 fits.1, imm_pair words width head word level fits.0 fits.1)
 
-pub bit_view : {V : _} (words width skipped : ℕ) (block : Contents) (tree : Tree) (list : KeyList) (number : ℕ) → IsBit words skipped block → bit_tree words skipped block ≡ tree → IsChild words width tree
+pub bit_view : {V : _} (words width skipped : ℕ) (block : Contents) (tree : Tree) (list : KeyList) (number : ℕ) → IsBit words skipped block →
+    bit_tree words skipped block ≡ tree → IsChild words width tree
     → list ≡ bit_list words block → number ≡ skipped → IsView {V = V} words width tree (BitLeaf number list)
 bit_view {V = V} words width skipped block tree list number level is child of same =
     let inner : IsChild words width (bit_tree words skipped block) = subst (IsChild words width) (sym is) child in

@@ -33,7 +33,8 @@ IsPlace words width (One key value) = width ≡ 8
 IsPlace words width (Imm list) = list.width ≡ width
 IsPlace words width (Leaf list) = list.width ≡ width
 IsPlace words width (BitLeaf skipped list) = (list.width ≡ width) × (skipped < 256 ^ (width - 1)) × IsMap words 0 256 list.pairs
-IsPlace words width (Branch b) = (length b.now.skip + 1 + b.now.width ≡ width) × IsBranch words b.now.width b.now.skip b.now.bytes b.now.children.items b.now.population × AreSums b.now.sums b.now.children.items
+IsPlace words width (Branch b) = (length b.now.skip + 1 + b.now.width ≡ width) × IsBranch words b.now.width b.now.skip b.now.bytes b.now.children.items b.now.population ×
+    AreSums b.now.sums b.now.children.items
 
 -- The view of a tree whose keys have a width.
 pub record IsView {V : _} (words width : ℕ) (tree : Tree) (view : ViewOf V) : Type 0 where

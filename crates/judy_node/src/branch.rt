@@ -89,8 +89,8 @@ impl<V: Words + Drop> BranchOf<V> {
         Sums::of(alloc, &self.children)
     }
 
-    /// How many keys there are below the first children, so many, and at most all. It adds from the nearer end, by sums of sixteen
-    /// children where there are any.
+    /// How many keys there are below the first children, so many, and at most all. It adds from the nearer end, by sums
+    /// of sixteen children where there are any.
     pub fn keys_before(&self, place: usize) -> u64
         requires branch { IsWholeBranch V.WORDS self.now }
         requires sums { AreSums self.now.sums self.now.children.items }
@@ -104,8 +104,8 @@ impl<V: Words + Drop> BranchOf<V> {
         }
     }
 
-    /// The place of the child that has the n-th of the keys below, counted from 0 and below their number, and which of its own keys it
-    /// is. It is looked for from the end that fewer keys part it from.
+    /// The place of the child that has the n-th of the keys below, counted from 0 and below their number, and which of
+    /// its own keys it is. It is looked for from the end that fewer keys part it from.
     pub fn holding(&self, n: u64) -> (usize, u64)
         requires branch { IsWholeBranch V.WORDS self.now }
         requires sums { AreSums self.now.sums self.now.children.items }

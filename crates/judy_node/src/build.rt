@@ -28,8 +28,8 @@ fn byte_above(key: u64, below: u8) -> u8
 // Pairs are passed by so many at once: where two of sorted pairs have one byte, all between them have it.
 const STRIDE: usize = 64;
 
-// How often the byte there changes from a key to the next, and from the byte before them to the first. Where it does can't be foreseen, so
-// the changes are added up without a branch.
+// How often the byte there changes from a key to the next, and from the byte before them to the first. Where it does
+// can't be foreseen, so the changes are added up without a branch.
 fn changes_above(pairs: &[(u64, u64)], below: u8, before: u8) -> usize
     requires { below ≤ 7 }
 {
@@ -164,8 +164,8 @@ fn fits_immediate<V: Words + Drop>(count: usize, width: u8) -> bool
     }
 }
 
-/// The immediate of sorted pairs, at least one and no more than it holds, whose keys are read by their lowest bytes, `width` of them, 1
-/// to 7. It takes no memory.
+/// The immediate of sorted pairs, at least one and no more than it holds, whose keys are read by their lowest bytes,
+/// `width` of them, 1 to 7. It takes no memory.
 pub fn immediate_of_sorted<V: Words + Drop>(width: u8, pairs: &[(u64, u64)]) -> KindOf<V>
     requires one { V.WORDS ≤ 1 }
     requires width { (1 ≤ width) × (width ≤ 7) }
@@ -202,8 +202,8 @@ pub fn immediate_of_one<V: Words + Drop>(width: u8, key: u64, value: u64) -> Kin
     }
 }
 
-/// The leaf of two pairs, of which an immediate holds but one; their keys ascend and have `width` bytes, 1 to 8. The error is want of
-/// memory; nothing is kept then.
+/// The leaf of two pairs, of which an immediate holds but one; their keys ascend and have `width` bytes, 1 to 8. The
+/// error is want of memory; nothing is kept then.
 #[inline(always)]
 pub fn leaf_of_two<V: Words + Drop>(
     alloc: Global,
@@ -237,8 +237,8 @@ fn bits<V: Words + Drop>(alloc: Global, pairs: &[(u64, u64)]) -> Result<KindOf<V
     Ok(KindOf::Bit(Head::new(0), block))
 }
 
-// Makes the child of the first pairs, those of one byte, and puts it behind the others, and the byte among theirs. The answer is the rest of
-// the pairs.
+// Makes the child of the first pairs, those of one byte, and puts it behind the others, and the byte among theirs. The
+// answer is the rest of the pairs.
 #[cycle(build)]
 fn add_group<'a, V: Words + Drop>(
     alloc: Global,
@@ -280,8 +280,8 @@ fn pushed<V: Words + Drop>(
     Ok(())
 }
 
-// Makes the tight node of sorted pairs and puts it behind the others. Of scattered keys most are immediates: these are written where they are
-// to stand, and not first as the answer of a call.
+// Makes the tight node of sorted pairs and puts it behind the others. Of scattered keys most are immediates: these are
+// written where they are to stand, and not first as the answer of a call.
 #[cycle(build)]
 #[inline(always)]
 fn add_child<V: Words + Drop>(
@@ -328,7 +328,8 @@ pub fn child_of_sorted<V: Words + Drop>(
     Ok(ChildOf::close(kind))
 }
 
-/// The same for more pairs than an immediate holds, by the node's kind; `width` may be 8 here. Where it is a leaf, it has so much to spare.
+/// The same for more pairs than an immediate holds, by the node's kind; `width` may be 8 here. Where it is a leaf, it
+/// has so much to spare.
 #[cycle(build)]
 #[inline(never)]
 pub fn kind_of_sorted<V: Words + Drop>(

@@ -1,9 +1,10 @@
 //! The nodes below the root.
 //!
-//! A node stands in its parent in 16 bytes. So a leaf is kept as its parts, the number of its keys and its block; its width is in the
-//! block's tag, but the way down knows it and needn't read it there. A bitmap leaf keeps the number that its skipped bytes
-//! spell beside its block, and a branch is behind one pointer. Where keys have values an immediate is its one key and its
-//! value; else its head is the number of its keys and 256 times their width, and its word holds them.
+//! A node stands in its parent in 16 bytes. So a leaf is kept as its parts, the number of its keys and its block; its
+//! width is in the block's tag, but the way down knows it and needn't read it there. A bitmap leaf keeps the number
+//! that its skipped bytes spell beside its block, and a branch is behind one pointer. Where keys have values an
+//! immediate is its one key and its value; else its head is the number of its keys and 256 times their width, and its
+//! word holds them.
 
 ghost use Rattle.std.specs.Prelude.{◌≡◌, ◌+◌, ◌-◌, ◌%◌, ◌^◌, ◌<◌, ◌≤◌, length, if◌then◌else◌, ◌==◌};
 ghost use Rattle.judy_node.specs.Trees.{IsChild};
@@ -38,15 +39,15 @@ pub struct PlaceOf<V: Words + Drop> {
 pub type Child<const W: usize> = ChildOf<ValueWords<W>>;
 
 /// The kinds of nodes below the root, by their parts: for writing.
-// The immediate and the bitmap leaf stand in front, side by side: so a leaf and a branch are told from the rest by two questions. With the leaf
-// between them, the three are told apart by a jump through a table.
+// The immediate and the bitmap leaf stand in front, side by side: so a leaf and a branch are told from the rest by two
+// questions. With the leaf between them, the three are told apart by a jump through a table.
 #[cycle(node)]
 #[derive(Drop)]
 pub enum KindOf<V: Words + Drop> {
     /// An immediate: a few keys.
     Imm(Head, u64),
-    /// A bitmap leaf: keys that differ in their last byte alone. The number that the skipped bytes spell, and the block that
-    /// holds the last bytes.
+    /// A bitmap leaf: keys that differ in their last byte alone. The number that the skipped bytes spell, and the block
+    /// that holds the last bytes.
     Bit(Head, Block),
     /// A leaf of up to 32 keys: how many they are, and the block that holds them.
     Leaf(u8, Block),
@@ -118,8 +119,8 @@ impl<V: Words + Drop> ChildOf<V> {
         }
     }
 
-    // The same, asked whether it is a leaf, then whether it is a branch. A match over the kinds is a jump through a table, one more to
-    // foresee for each key that comes in.
+    // The same, asked whether it is a leaf, then whether it is a branch. A match over the kinds is a jump through a
+    // table, one more to foresee for each key that comes in.
     #[inline(always)]
     pub(crate) fn pop_in_turn(&self) -> u64
         ensures { result ≡ length self.now.pairs }

@@ -11,8 +11,8 @@ use judy_leaf::{BitRef, LeafRef, Words};
 use judy_unmetered::Unmetered;
 
 impl<V: Words + Drop> ChildOf<V> {
-    /// Writes the pairs, by ascending key, into a slice that has just the places for them. The node's keys have `width` bytes; each
-    /// is so much higher there. No visit is counted, which takes leave.
+    /// Writes the pairs, by ascending key, into a slice that has just the places for them. The node's keys have `width`
+    /// bytes; each is so much higher there. No visit is counted, which takes leave.
     #[cycle(fill)]
     pub fn fill(&self, leave: Unmetered, width: u8, base: u64, out: &mut [(u64, u64)])
         requires child { IsChild V.WORDS width self.now }

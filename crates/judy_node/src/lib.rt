@@ -1,22 +1,25 @@
 //! The tree of a set or a map of words: its nodes, and what reads them.
 //!
-//! To its callers a tree is its keys with their values and its form (specs/Trees.antt), the list of its nodes without what they
-//! hold beside keys. Where no node is loose, the form is that of judy_model's rule, a function of the keys: that is a law of every tree
-//! ([`NodeOf::told`], laws.rt), and so two tight trees with the same keys are alike.
+//! To its callers a tree is its keys with their values and its form (specs/Trees.antt), the list of its nodes without
+//! what they hold beside keys. Where no node is loose, the form is that of judy_model's rule, a function of the keys:
+//! that is a law of every tree ([`NodeOf::told`], laws.rt), and so two tight trees with the same keys are alike.
 //!
-//! The root, a [`Node`], has keys of eight bytes: it is empty, one pair, or a [`Child`] with two keys or more. A child is an
-//! immediate, a leaf, a bitmap leaf or a branch, in 16 bytes: seven bytes and a word, a number of keys and a block, or one pointer. Not
-//! each child tells the width of its keys, so those who come down the tree bring it. Root and children are entered, which is one visit
-//! on a [`judy_bits::Meter`], and give the same [`View`]; a branch answers by [`BranchOf::step`] where a key goes.
+//! The root, a [`Node`], has keys of eight bytes: it is empty, one pair, or a [`Child`] with two keys or more. A child
+//! is an immediate, a leaf, a bitmap leaf or a branch, in 16 bytes: seven bytes and a word, a number of keys and a
+//! block, or one pointer. Not each child tells the width of its keys, so those who come down the tree bring it. Root
+//! and children are entered, which is one visit on a [`judy_bits::Meter`], and give the same [`View`]; a branch answers
+//! by [`BranchOf::step`] where a key goes.
 //!
-//! child.rt has the nodes (bundle.rt the array that one is moved in, head.rt the seven bytes beside its word), node.rt the root, and
-//! view.rt what a node shows to those who enter it. branch.rt has what is asked of a branch, step.rt where a key goes there, populations.rt
-//! how many keys its children have, and sums.rt the same by sixteens, where all 256 stand. shape.rt and fill.rt go over a whole tree,
-//! build.rt makes the tight tree of sorted pairs, room.rt makes room for a child, seat.rt finds where a value stands, and slot.rt lends
-//! its slot. The parts for writing ([`KindOf`], [`RootOf`], [`BranchOf`], [`Sums`]) are for judy_change. Which nodes there are and how they
-//! lie is this project's own.
+//! child.rt has the nodes (bundle.rt the array that one is moved in, head.rt the seven bytes beside its word), node.rt
+//! the root, and view.rt what a node shows to those who enter it. branch.rt has what is asked of a branch, step.rt
+//! where a key goes there, populations.rt how many keys its children have, and sums.rt the same by sixteens, where all
+//! 256 stand. shape.rt and fill.rt go over a whole tree, build.rt makes the tight tree of sorted pairs, room.rt makes
+//! room for a child, seat.rt finds where a value stands, and slot.rt lends its slot. The parts for writing ([`KindOf`],
+//! [`RootOf`], [`BranchOf`], [`Sums`]) are for judy_change. Which nodes there are and how they lie is this project's
+//! own.
 //!
-//! The crate stands on judy_model, judy_bits, judy_block and judy_leaf; judy_query, judy_change and judy_word stand on it.
+//! The crate stands on judy_model, judy_bits, judy_block and judy_leaf; judy_query, judy_change and judy_word stand on
+//! it.
 #![tactic(auto)]
 
 mod branch;

@@ -33,8 +33,8 @@ pub struct RootPlaceOf<V: Words + Drop> {
 /// A tree whose keys have `W` words of value each, 0 or 1.
 pub type Node<const W: usize> = NodeOf<ValueWords<W>>;
 
-/// The kinds of roots, by their parts: for writing. A pair with a key of eight bytes has no room in a child, so it stands here,
-/// and what stands below has two keys or more.
+/// The kinds of roots, by their parts: for writing. A pair with a key of eight bytes has no room in a child, so it
+/// stands here, and what stands below has two keys or more.
 #[derive(Drop)]
 pub enum RootOf<V: Words + Drop> {
     /// No key.
@@ -65,7 +65,8 @@ impl<V: Words + Drop> NodeOf<V> {
         NodeOf::close(RootOf::Empty)
     }
 
-    /// A law, told by a call that does nothing, of what every tree keeps: its keys ascend, and where no node is loose, its form is that of the rule.
+    /// A law, told by a call that does nothing, of what every tree keeps: its keys ascend, and where no node is loose,
+    /// its form is that of the rule.
     pub fn law(&self)
         ensures { IsNode V.WORDS self.now }
     {
@@ -138,7 +139,8 @@ impl<V: Words + Drop> NodeOf<V> {
         shape
     }
 
-    /// The pairs by ascending key, in a vector of their own; no visit is counted, which takes leave. The error is want of memory.
+    /// The pairs by ascending key, in a vector of their own; no visit is counted, which takes leave. The error is want
+    /// of memory.
     pub fn gather(&self, leave: Unmetered, alloc: Global) -> Result<Vec<(u64, u64)>, AllocError>
         ensures { IfOk result (λ pairs. pairs.items ≡ self.now.pairs) }
     {
@@ -153,8 +155,8 @@ impl<V: Words + Drop> NodeOf<V> {
         }
     }
 
-    /// The tight tree of pairs whose keys strictly ascend; their values are 0 where keys have no values. The error is want
-    /// of memory; nothing is kept then.
+    /// The tight tree of pairs whose keys strictly ascend; their values are 0 where keys have no values. The error is
+    /// want of memory; nothing is kept then.
     pub fn from_sorted(alloc: Global, pairs: &[(u64, u64)]) -> Result<NodeOf<V>, AllocError>
         requires one { V.WORDS ≤ 1 }
         requires map { IsMap V.WORDS 0 (256 ^ 8) pairs.now }

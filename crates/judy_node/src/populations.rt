@@ -36,7 +36,8 @@ pub(crate) fn keys_by_children<V: Words + Drop>(
     }
 }
 
-/// The child that has the n-th of the keys below children, counted from 0, and which of its own keys it is. All the keys are so many;
+/// The child that has the n-th of the keys below children, counted from 0, and which of its own keys it is. All the
+/// keys are so many;
 /// the search begins at the nearer end.
 pub(crate) fn child_holding<V: Words + Drop>(
     children: &[ChildOf<V>],

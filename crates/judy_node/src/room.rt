@@ -12,9 +12,10 @@ const LONG: usize = 48;
 // From so many on it grows to whole 64s.
 const LONGER: usize = 128;
 
-/// Makes room for one more child. Where there is none a short list grows by a quarter and not to its double, since of keys that are
-/// spread wide it is most of what they take. A longer one gets room for 64, 96, 128, 192 or 256: from 64 children on a block is larger
-/// than those that `malloc` keeps at hand. The error is want of memory; the children are the same either way.
+/// Makes room for one more child. Where there is none a short list grows by a quarter and not to its double, since of
+/// keys that are spread wide it is most of what they take. A longer one gets room for 64, 96, 128, 192 or 256: from 64
+/// children on a block is larger than those that `malloc` keeps at hand. The error is want of memory; the children are
+/// the same either way.
 pub fn make_room<V: Words + Drop>(children: &mut Vec<ChildOf<V>>) -> Result<(), AllocError>
     ensures items { children.new.items ≡ children.old.items }
     ensures len { vec_len children.new ≡ vec_len children.old }

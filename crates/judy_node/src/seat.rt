@@ -1,7 +1,8 @@
 //! Where the value of a key stands in a node.
 //!
-//! The way to a slot is given which keys are sought, as a type (`Sought`): of any key the node is asked whether it is there. Of a key that
-//! is there the bytes that a node skips aren't looked at, and no key is compared but those of a leaf, for its rank.
+//! The way to a slot is given which keys are sought, as a type (`Sought`): of any key the node is asked whether it is
+//! there. Of a key that is there the bytes that a node skips aren't looked at, and no key is compared but those of a
+//! leaf, for its rank.
 
 ghost use Rattle.std.specs.Prelude.{◌≡◌, ℕ, IfNone, IfSome, IsSome, IsTrue, None, Some, ⊤};
 ghost use Rattle.judy_bits.specs.ByteSets as set;
@@ -20,8 +21,8 @@ use judy_bits::{tail, without_tail};
 use judy_block::Block;
 use judy_leaf::{BIT_WORDS, BitRef, LeafRef, Words};
 
-// Where the value of a key stands in a node: the place of a word in the block of a leaf or a bitmap leaf; or the place of a
-// child, and what is left of the key there.
+// Where the value of a key stands in a node: the place of a word in the block of a leaf or a bitmap leaf; or the place
+// of a child, and what is left of the key there.
 #[derive(Clone, Copy)]
 pub struct Seat {
     pub at: usize,
@@ -70,8 +71,8 @@ impl Sought for PresentKey {
 }
 
 impl<V: Words + Drop> KindOf<V> {
-    // Where the value of a key stands, in a node whose keys have `width` bytes; none where an immediate or a leaf doesn't have the
-    // key, or a branch has no child for it.
+    // Where the value of a key stands, in a node whose keys have `width` bytes; none where an immediate or a leaf
+    // doesn't have the key, or a branch has no child for it.
     #[inline(always)]
     fn seat(&self, width: u8, key: u64) -> Option<Seat>
         requires words { V.WORDS ≡ 1 }

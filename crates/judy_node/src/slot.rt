@@ -1,7 +1,7 @@
 //! The slot of a key's value, which is lent through the whole tree.
 //!
-//! A slot is lent from node to node down the tree. As no tree is deeper than eight nodes, the way down is unrolled: each depth
-//! is a type, and lends by the one below it. Which keys are sought is a type too (`Sought`).
+//! A slot is lent from node to node down the tree. As no tree is deeper than eight nodes, the way down is unrolled:
+//! each depth is a type, and lends by the one below it. Which keys are sought is a type too (`Sought`).
 
 ghost use Rattle.std.specs.Prelude.{◌≡◌, ◌+◌, ◌<◌, ◌≤◌, length, ℕ, Some, IsSome, IsFalse};
 ghost use Rattle.judy_node.specs.Trees.{IsChild};
@@ -260,8 +260,8 @@ impl<V: Words + Drop> NodeOf<V> {
     ghost use Rattle.std.specs.Borrow.{sem, Lends, LendsIf, u64 as word};
     ghost use Rattle.judy_node.specs.contracts.node.NodeOf.{the_row};
 
-    /// Lends the value of a key, of a tree whose keys have values; none where the key is absent. The tree becomes the one with the
-    /// value that is left in the slot, and nothing else changes, its form neither.
+    /// Lends the value of a key, of a tree whose keys have values; none where the key is absent. The tree becomes the
+    /// one with the value that is left in the slot, and nothing else changes, its form neither.
     #[inline(always)]
     pub fn slot(&mut self, key: u64) -> Option<&mut u64>
         requires words { V.WORDS ≡ 1 }

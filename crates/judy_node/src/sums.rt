@@ -1,5 +1,6 @@
-//! The populations of the children of a full branch by sixteens: where all 256 children stand, a rank reads at most eight sums and
-//! eight children in place of 128 children, and the n-th key at most 16 of each in place of 256 children.
+//! The populations of the children of a full branch by sixteens: where all 256 children stand, a rank reads at most
+//! eight sums and eight children in place of 128 children, and the n-th key at most 16 of each in place of 256
+//! children.
 
 ghost use Rattle.std.specs.Prelude.{◌≡◌, ◌+◌, ◌-◌, ◌*◌, ◌^◌, ◌<◌, ◌≤◌, ℕ, List, length, get_or, set, take, sum};
 ghost use Rattle.judy_node.specs.Trees.{Tree};
@@ -10,8 +11,8 @@ use crate::populations::{child_holding, population_of};
 use judy_leaf::Words;
 use std::alloc::Global;
 
-/// The populations of a branch's children in groups of sixteen, where all 256 children stand. Other branches have none, and one for
-/// whose sums there was no memory goes without.
+/// The populations of a branch's children in groups of sixteen, where all 256 children stand. Other branches have none,
+/// and one for whose sums there was no memory goes without.
 #[derive(Drop)]
 pub struct Sums {
     pub(crate) groups: Option<Box<[u64; 16]>>,
@@ -65,8 +66,8 @@ impl Sums {
     }
 }
 
-// The sums of 256 children; none where there is no memory for them. They are seldom made: compiled into the callers, room for them on the
-// stack is made ready at each child.
+// The sums of 256 children; none where there is no memory for them. They are seldom made: compiled into the callers,
+// room for them on the stack is made ready at each child.
 #[inline(never)]
 fn all_sums<V: Words + Drop>(alloc: Global, children: &[ChildOf<V>]) -> Sums
     requires all { length children.now ≡ 256 }
@@ -188,8 +189,8 @@ fn group_from_last(groups: &[u64], rest: u64) -> (usize, u64)
     unreachable!()
 }
 
-/// The one of 256 children that has the n-th of all keys, counted from 0, and which of its own keys it is: first its group is looked
-/// for, then the child in it, each from the nearer end.
+/// The one of 256 children that has the n-th of all keys, counted from 0, and which of its own keys it is: first its
+/// group is looked for, then the child in it, each from the nearer end.
 pub(crate) fn holding_by_groups<V: Words + Drop>(
     groups: &[u64; 16],
     children: &[ChildOf<V>],

@@ -25,7 +25,8 @@ module _ (side : Side) (pairs list : Pairs) (held width key : ℕ) (answer : Opt
 
 -- ---- a bitmap leaf
 
-module _ (words skipped width : ℕ) (pairs : Pairs) (some : 1 ≤ width) (small : skipped < 256 ^ (width - 1)) (map : IsMap words 0 256 pairs) (key : ℕ) (above : skipped * 256 ≤ key) (below : key - skipped * 256 ≤ 255) where
+module _ (words skipped width : ℕ) (pairs : Pairs) (some : 1 ≤ width) (small : skipped < 256 ^ (width - 1)) (map : IsMap words 0 256 pairs) (key : ℕ)
+    (above : skipped * 256 ≤ key) (below : key - skipped * 256 ≤ 255) where
   -- A byte that is none of its last bytes.
   pub byte_told : (side : Side) (byte : ℕ) → IsAbsent side pairs (low_of side (key - skipped * 256)) (high_of side (key - skipped * 256) 256) (Some byte)
       → IsAbsent side (shift (skipped * 256) pairs) (low_of side key) (high_of side key (256 ^ width)) (Some (skipped * 256 + byte))
@@ -43,7 +44,8 @@ module _ (words skipped width : ℕ) (pairs : Pairs) (some : 1 ≤ width) (small
   )
 
   -- All bytes from one on, to a side that is known.
-  run_told : (side other : Side) → side ≡ other → IsAbsent side pairs (low_of side (key - skipped * 256)) (high_of side (key - skipped * 256) 256) None → IsAbsent other pairs (low_of other (key - skipped * 256)) (high_of other (key - skipped * 256) 256) None
+  run_told : (side other : Side) → side ≡ other → IsAbsent side pairs (low_of side (key - skipped * 256)) (high_of side (key - skipped * 256) 256) None →
+      IsAbsent other pairs (low_of other (key - skipped * 256)) (high_of other (key - skipped * 256) 256) None
   run_told side other is = subst (λ s. IsAbsent s pairs (low_of s (key - skipped * 256)) (high_of s (key - skipped * 256) 256) None) is
 
   -- The word behind all of them, and the one before them.

@@ -1,5 +1,6 @@
 -- The rooms of a branch.
-use Rattle.std.proofs.Common.{◌≡◌, ◌≢◌, ℕ, zero, suc, ◌+◌, ◌-◌, ◌*◌, ◌/◌, ◌<◌, ◌≤◌, ◌^◌, true, false, List, [], length, get_or, slice_get, Some, refl, sym, ap, ◌∙◌, subst, arith, nat_lt, lt-ltb, is_lt, ⊎_elim, Bool, ◌==◌, true≢false, eq-eqb, eqb-true}
+use Rattle.std.proofs.Common.{◌≡◌, ◌≢◌, ℕ, zero, suc, ◌+◌, ◌-◌, ◌*◌, ◌/◌, ◌<◌, ◌≤◌, ◌^◌, true, false, List, [], length, get_or, slice_get, Some, refl, sym, ap, ◌∙◌, subst, arith}
+use Rattle.std.proofs.Common.{nat_lt, lt-ltb, is_lt, ⊎_elim, Bool, ◌==◌, true≢false, eq-eqb, eqb-true}
 use Rattle.std.proofs.lemmas.Nat.{mul-le}
 use Rattle.std.proofs.lemmas.Bool.{cases_lt, false_from_ne_true}
 use Rattle.std.proofs.lemmas.Bool.Decides.{nat_tests}
@@ -31,7 +32,8 @@ use Rattle.judy_query.proofs.Runs.{window-part, window-window, window-shift, run
 -- ---- places
 
 rank-mono : (xs : List ℕ) (less more : ℕ) → less ≤ more → rank xs less ≤ rank xs more
-rank-mono xs less more below = length-filter-mono (λ x. is_lt (word_order x less)) (λ x. is_lt (word_order x more)) (λ x before. let small = lt_from_word x less before in lt_word x more (omega arith)) xs
+rank-mono xs less more below =
+    length-filter-mono (λ x. is_lt (word_order x less)) (λ x. is_lt (word_order x more)) (λ x before. let small = lt_from_word x less before in lt_word x more (omega arith)) xs
 
 module _ (xs : List ℕ) (ascending : IsStrictlySortedBy word_order xs) (byte at : ℕ) (ranked : rank xs byte ≡ at) where
   -- What stands at the rank of a byte isn't below it.
@@ -84,7 +86,8 @@ rank_all words width skipped bytes kids count is =
     let within = slice_get_within bytes at.0 x at.1 in
     let long = children-length words width 0 bytes kids is.parts.children in
     let kid = get_or kids at.0 (record { width = 0; pairs = []; form = [] }) in
-    let small = (split-at words width 0 (number_of skipped * 256) bytes kids x at.0 kid (omega arith) is.parts.children at.1 (slice_get-get_or kids at.0 (record { width = 0; pairs = []; form = [] }) (omega arith))).high_byte in
+    let small = (split-at words width 0 (number_of skipped * 256) bytes kids x at.0 kid (omega arith) is.parts.children at.1
+    (slice_get-get_or kids at.0 (record { width = 0; pairs = []; form = [] }) (omega arith))).high_byte in
     lt_word x 256 small)))
 
 -- Where some are below a byte, it isn't 0.
@@ -107,7 +110,8 @@ previous bytes byte at ranked some most =
     record { byte_is = next; small = omega arith; inside = omega arith; ranked = ap (rank bytes) next ∙ ranked ∙ (let e : at ≡ at - 1 + 1 = omega arith in e) }
 
 -- A run from the block of a byte on begins behind the block before.
-pub previous_run : (pairs : Pairs) (base block byte unit start end : ℕ) → byte - 1 + 1 ≡ byte → start ≡ base + (block + (byte - 1)) * unit → IsRun pairs (base + (block + byte) * unit) end → IsRun pairs (start + unit) end
+pub previous_run : (pairs : Pairs) (base block byte unit start end : ℕ) → byte - 1 + 1 ≡ byte → start ≡ base + (block + (byte - 1)) * unit →
+    IsRun pairs (base + (block + byte) * unit) end → IsRun pairs (start + unit) end
 previous_run pairs base block byte unit start end next is_start run =
     let step = next_unit block (byte - 1) unit in
     subst (λ m. IsRun pairs m end) (ap (λ m. base + (block + m) * unit) (sym next) ∙ (let e : base + (block + (byte - 1 + 1)) * unit ≡ start + unit = omega arith in e)) run
@@ -159,14 +163,17 @@ module _ (words width : ℕ) (skipped bytes : List ℕ) (kids : List Tree) (coun
   as_many = children-length words width 0 bytes kids is.parts.children
 
   pub block_within : (byte : ℕ) → byte < 256 → (number_of skipped * 256 + byte) * 256 ^ width + 256 ^ width ≤ 256 ^ (length skipped + 1 + width)
-  block_within byte small = let next = next_unit (number_of skipped * 256) byte (256 ^ width) in let most = units (number_of skipped * 256) (byte + 1) 256 (256 ^ width) (omega arith) in let all = blocks_within skipped width is.parts.skipped_bytes in omega arith
+  block_within byte small =
+      let next = next_unit (number_of skipped * 256) byte (256 ^ width) in let most = units (number_of skipped * 256) (byte + 1) 256 (256 ^ width) (omega arith) in
+      let all = blocks_within skipped width is.parts.skipped_bytes in omega arith
 
   -- Behind them there is a word just where the skipped bytes aren't the greatest ones.
   pub words_behind : number_of skipped + 1 < 256 ^ length skipped → (number_of skipped * 256 + 256) * 256 ^ width < 256 ^ (length skipped + 1 + width)
   words_behind less =
       let some = unit_pos width in
       let next = next_unit (number_of skipped * 256) 256 (256 ^ width) in
-      let most : (number_of skipped * 256 + (256 + 1)) * 256 ^ width ≤ 256 ^ length skipped * 256 * 256 ^ width = mul-le (number_of skipped * 256 + (256 + 1)) (256 ^ width) (256 ^ length skipped * 256) (256 ^ width) (omega arith) (omega arith) in
+      let most : (number_of skipped * 256 + (256 + 1)) * 256 ^ width ≤ 256 ^ length skipped * 256 * 256 ^ width = mul-le (number_of skipped * 256 + (256 + 1))
+      (256 ^ width) (256 ^ length skipped * 256) (256 ^ width) (omega arith) (omega arith) in
       let same = spread skipped width in
       omega arith
 
@@ -181,7 +188,8 @@ module _ (words width : ℕ) (skipped bytes : List ℕ) (kids : List Tree) (coun
       let long = as_many in
       let none : Tree = record { width = 0; pairs = []; form = [] } in
       let there = slice_get-get_or bytes at 0 (omega arith) in
-      let high = (split-at words width 0 (number_of skipped * 256) bytes kids (get_or bytes at 0) at (get_or kids at none) (omega arith) is.parts.children there (slice_get-get_or kids at none inside)).high_byte in
+      let high = (split-at words width 0 (number_of skipped * 256) bytes kids (get_or bytes at 0) at (get_or kids at none) (omega arith) is.parts.children there
+      (slice_get-get_or kids at none inside)).high_byte in
       let low = stands_from bytes bytes_ascend byte at ranked (get_or bytes at 0) there in
       omega arith
 
@@ -191,13 +199,16 @@ module _ (words width : ℕ) (skipped bytes : List ℕ) (kids : List Tree) (coun
   -- ---- words that are no keys
 
   -- A key that leads to no child.
-  pub beside_absent : (step : Step) (key : ℕ) → IsBeside step → IsStep (256 ^ width) (number_of skipped * 256) bytes key step → key < 256 ^ (length skipped + 1 + width) → has (keys_of (branch_pairs width skipped bytes kids)) key ≡ false
+  pub beside_absent : (step : Step) (key : ℕ) → IsBeside step → IsStep (256 ^ width) (number_of skipped * 256) bytes key step → key < 256 ^ (length skipped + 1 + width) →
+      has (keys_of (branch_pairs width skipped bytes kids)) key ≡ false
   beside_absent step key beside steps within =
       ap (has (keys_of (branch_pairs width skipped bytes kids))) (let e : key ≡ key + 0 = omega arith in e)
-      ∙ (window-part words (256 ^ (length skipped + 1 + width)) key 1 (branch_pairs width skipped bytes kids) [] _ _ (gap_part words width skipped bytes kids count is key step beside steps within)).same 0 (omega arith)
+      ∙ (window-part words (256 ^ (length skipped + 1 + width)) key 1 (branch_pairs width skipped bytes kids) [] _ _
+      (gap_part words width skipped bytes kids count is key step beside steps within)).same 0 (omega arith)
 
   -- The words of a byte without a child.
-  pub missing_absent : (byte rest key : ℕ) → byte < 256 → rest < 256 ^ width → key ≡ (number_of skipped * 256 + byte) * 256 ^ width + rest → has bytes byte ≡ false → has (keys_of (branch_pairs width skipped bytes kids)) key ≡ false
+  pub missing_absent : (byte rest key : ℕ) → byte < 256 → rest < 256 ^ width → key ≡ (number_of skipped * 256 + byte) * 256 ^ width + rest → has bytes byte ≡ false →
+      has (keys_of (branch_pairs width skipped bytes kids)) key ≡ false
   missing_absent byte rest key small below is_key absent =
       let fits = block_within byte small in
       beside_absent (Missing byte (rank bytes byte) rest) key tt (record { byte_is = small; rest_is = below; key_is = is_key }, absent, refl) (omega arith)
@@ -222,7 +233,8 @@ module _ (words width : ℕ) (skipped bytes : List ℕ) (kids : List Tree) (coun
   -- ---- the branch's words from a base on
 
   module _ (base : ℕ) where
-    raised_absent : (word key : ℕ) → word ≡ base + key → has (keys_of (branch_pairs width skipped bytes kids)) key ≡ false → has (keys_of (shift base (branch_pairs width skipped bytes kids))) word ≡ false
+    raised_absent : (word key : ℕ) → word ≡ base + key → has (keys_of (branch_pairs width skipped bytes kids)) key ≡ false →
+        has (keys_of (shift base (branch_pairs width skipped bytes kids))) word ≡ false
     raised_absent word key is_word absent =
         ap (has (keys_of (shift base (branch_pairs width skipped bytes kids)))) is_word
         ∙ (window-shift (branch_pairs width skipped bytes kids) base (suc key)).same key (omega arith) ∙ absent
@@ -255,27 +267,33 @@ module _ (words width : ℕ) (skipped bytes : List ℕ) (kids : List Tree) (coun
         (omega arith, raised_absent start ((number_of skipped * 256 + 256) * 256 ^ width) is_start (beside_absent Above _ tt (omega arith) room))
 
     -- The word before all bytes, and before one whose forerunner has no child.
-    pub before_absent : (byte start : ℕ) → start ≡ base + (number_of skipped * 256 + byte) * 256 ^ width → base < start → byte ≤ 256 → ((forerunner : ℕ) → forerunner + 1 ≡ byte → has bytes forerunner ≡ false)
+    pub before_absent : (byte start : ℕ) → start ≡ base + (number_of skipped * 256 + byte) * 256 ^ width → base < start → byte ≤ 256 →
+        ((forerunner : ℕ) → forerunner + 1 ≡ byte → has bytes forerunner ≡ false)
         → has (keys_of (shift base (branch_pairs width skipped bytes kids))) (start - 1) ≡ false
     before_absent zero start is_start above small absent =
-        let same : (number_of skipped * 256 + 0) * 256 ^ width ≡ number_of skipped * 256 * 256 ^ width = ap (λ n. n * 256 ^ width) (let e : number_of skipped * 256 + 0 ≡ number_of skipped * 256 = omega arith in e) in
+        let same : (number_of skipped * 256 + 0) * 256 ^ width ≡ number_of skipped * 256 * 256 ^ width = ap (λ n. n * 256 ^ width)
+        (let e : number_of skipped * 256 + 0 ≡ number_of skipped * 256 = omega arith in e) in
         let all = blocks_within skipped width is.parts.skipped_bytes in
         let rise = units (number_of skipped * 256) 0 256 (256 ^ width) (omega arith) in
         raised_absent (start - 1) ((number_of skipped * 256 + 0) * 256 ^ width - 1) (omega arith) (beside_absent Below _ tt (omega arith) (omega arith))
     before_absent (suc byte) start is_start above small absent =
         let some = unit_pos width in
         let next = ap (λ n. (number_of skipped * 256 + n) * 256 ^ width) (let e : suc byte ≡ byte + 1 = omega arith in e) ∙ next_unit (number_of skipped * 256) byte (256 ^ width) in
-        raised_absent (start - 1) ((number_of skipped * 256 + byte) * 256 ^ width + (256 ^ width - 1)) (omega arith) (missing_absent byte (256 ^ width - 1) _ (omega arith) (omega arith) refl (absent byte (omega arith)))
+        raised_absent (start - 1) ((number_of skipped * 256 + byte) * 256 ^ width + (256 ^ width - 1)) (omega arith)
+        (missing_absent byte (256 ^ width - 1) _ (omega arith) (omega arith) refl (absent byte (omega arith)))
 
-    module _ (byte place : ℕ) (kid : Tree) (at : slice_get bytes place ≡ Some byte) (there : slice_get kids place ≡ Some kid) (start : ℕ) (is_start : start ≡ base + (number_of skipped * 256 + byte) * 256 ^ width) where
+    module _ (byte place : ℕ) (kid : Tree) (at : slice_get bytes place ≡ Some byte) (there : slice_get kids place ≡ Some kid) (start : ℕ)
+        (is_start : start ≡ base + (number_of skipped * 256 + byte) * 256 ^ width) where
       raised_window : IsWindow (shift base (branch_pairs width skipped bytes kids)) start (256 ^ width) kid.pairs
       raised_window =
           let small = kid_small byte place kid at there in
-          window-window (shift base (branch_pairs width skipped bytes kids)) (branch_pairs width skipped bytes kids) kid.pairs base (256 ^ (length skipped + 1 + width)) ((number_of skipped * 256 + byte) * 256 ^ width) (256 ^ width) start is_start
+          window-window (shift base (branch_pairs width skipped bytes kids)) (branch_pairs width skipped bytes kids) kid.pairs base (256 ^ (length skipped + 1 + width))
+          ((number_of skipped * 256 + byte) * 256 ^ width) (256 ^ width) start is_start
           (block_within byte small) (window-shift (branch_pairs width skipped bytes kids) base (256 ^ (length skipped + 1 + width))) (kid_window byte place kid at there)
 
       -- A child that isn't full.
-      pub kid_room : length kid.pairs ≢ 256 ^ width → (start + 256 ^ width ≤ base + 256 ^ (length skipped + 1 + width)) × HasRoom words (shift base (branch_pairs width skipped bytes kids)) kid width start
+      pub kid_room : length kid.pairs ≢ 256 ^ width → (start + 256 ^ width ≤ base + 256 ^ (length skipped + 1 + width)) ×
+          HasRoom words (shift base (branch_pairs width skipped bytes kids)) kid width start
       kid_room room =
           let small = kid_small byte place kid at there in
           let child = kid_is byte place kid at there in

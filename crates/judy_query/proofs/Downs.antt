@@ -90,7 +90,9 @@ module _ (words width : ℕ) (skipped bytes : List ℕ) (kids : List Tree) (coun
         fits = omega arith;
         same = refl;
         before = tt;
-        after = map-wider words ((block + 0) * unit) ((block + 256) * unit) (key + 1) top (branch_pairs width skipped bytes kids) (omega arith) room (join-map words width 0 block bytes kids (omega arith) is.parts.children);
+        after =
+            map-wider words ((block + 0) * unit) ((block + 256) * unit) (key + 1) top (branch_pairs width skipped bytes kids) (omega arith) room
+            (join-map words width 0 block bytes kids (omega arith) is.parts.children);
       }
   gap_part Above beside steps within =
       let unit = 256 ^ width in
@@ -105,7 +107,8 @@ module _ (words width : ℕ) (skipped bytes : List ℕ) (kids : List Tree) (coun
         fits = omega arith;
         same = sym (append-nil (branch_pairs width skipped bytes kids)) ∙ (λ t. sym all t ++ sym none t);
         before = subst (λ ps. IsMap words 0 key ps) (sym all)
-            (map-wider words ((block + 0) * unit) ((block + 256) * unit) 0 key (branch_pairs width skipped bytes kids) (omega arith) steps (join-map words width 0 block bytes kids (omega arith) is.parts.children));
+            (map-wider words ((block + 0) * unit) ((block + 256) * unit) 0 key (branch_pairs width skipped bytes kids) (omega arith) steps
+            (join-map words width 0 block bytes kids (omega arith) is.parts.children));
         after = subst (λ ps. IsMap words (key + 1) top ps) (sym none) tt;
       }
 
@@ -138,7 +141,8 @@ module _ (words width : ℕ) (skipped bytes : List ℕ) (kids : List Tree) (coun
 
   pub kid_is : (place : ℕ) (kid : Tree) → place < length kids → kid ≡ get_or kids place kid → IsChild words width kid
   kid_is place kid inside same =
-      (split-at words width 0 (number_of skipped * 256) bytes kids (get_or bytes place 0) place kid (omega arith) is.parts.children (byte_there place inside) (slice_get-get_or kids place kid inside ∙ ap Some (sym same))).child
+      (split-at words width 0 (number_of skipped * 256) bytes kids (get_or bytes place 0) place kid (omega arith) is.parts.children (byte_there place inside)
+      (slice_get-get_or kids place kid inside ∙ ap Some (sym same))).child
 
   pub kid_some : (place : ℕ) (kid : Tree) → place < length kids → kid ≡ get_or kids place kid → 0 < length kid.pairs
   kid_some place kid inside same = (kid_is place kid inside same).some
@@ -311,7 +315,8 @@ module _ {V : _} {words : ℕ} {tree : Pairs} {b : _} {key left : ℕ} (down : I
       → length down.front + population (take (passed (length b.now.children.items) step) b.now.children.items) ≤ key
   beside_within step beside steps =
       let part = down_gap step beside steps in
-      let few = map-length words 0 key (down.front ++ shift (key - left) (first_of (256 ^ b.now.width) (number_of b.now.skip * 256) b.now.bytes b.now.children.items (passed (length b.now.children.items) step))) (omega arith) part.before in
+      let few = map-length words 0 key (down.front ++ shift (key - left) (first_of (256 ^ b.now.width) (number_of b.now.skip * 256) b.now.bytes b.now.children.items
+      (passed (length b.now.children.items) step))) (omega arith) part.before in
       let long = front_long (passed (length b.now.children.items) step) in
       omega arith
 
@@ -323,7 +328,8 @@ module _ {V : _} {words : ℕ} {tree : Pairs} {b : _} {key left : ℕ} (down : I
       let default : Tree = record { width = 0; pairs = []; form = [] } in
       let kid = get_or b.now.children.items place default in
       let part = down_part byte place rest steps (read_again b.now.children.items place default kid inside) in
-      let few = map-length words 0 (key - rest) (down.front ++ shift (key - left) (first_of (256 ^ b.now.width) (number_of b.now.skip * 256) b.now.bytes b.now.children.items place)) (omega arith) part.before in
+      let few = map-length words 0 (key - rest) (down.front ++ shift (key - left) (first_of (256 ^ b.now.width) (number_of b.now.skip * 256) b.now.bytes b.now.children.items place))
+      (omega arith) part.before in
       let long = front_long place in
       omega arith
     where
@@ -358,7 +364,8 @@ passed_few words width skipped bytes kids count key Below is steps = omega arith
 passed_few words width skipped bytes kids count key Above is steps = omega arith
 
 -- The way of another key to the same node.
-abbrev pub rekeyed : {V : _} (words : ℕ) (tree : Pairs) (view : ViewOf V) (key left other rest : ℕ) (down : IsDown words tree view key left) → rest < 256 ^ width_of view → other ≡ (key - left) + rest → IsDown words tree view other rest
+abbrev pub rekeyed : {V : _} (words : ℕ) (tree : Pairs) (view : ViewOf V) (key left other rest : ℕ) (down : IsDown words tree view key left) → rest < 256 ^ width_of view →
+    other ≡ (key - left) + rest → IsDown words tree view other rest
 rekeyed words tree view key left other rest down inside sum = record {
   above = omega arith;
   inside = inside;

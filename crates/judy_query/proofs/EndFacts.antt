@@ -66,7 +66,8 @@ module _ {V : _} (words : ℕ) (view : ViewOf V) (skipped : ℕ) (list : KeyList
   pub bits_inside : (at : ℕ) → at < length (view_pairs view) → at < length list.pairs
   bits_inside at inside = let moved = length-shift (skipped * 256) list.pairs in let same = ap length same_pairs in omega arith
 
-  pub bits_at : (at key value : ℕ) → at < length list.pairs → key ≡ get_or (keys_of list.pairs) at 0 → value ≡ get_or (values_of list.pairs) at 0 → slice_get (view_pairs view) at ≡ Some (skipped * 256 + key, value)
+  pub bits_at : (at key value : ℕ) → at < length list.pairs → key ≡ get_or (keys_of list.pairs) at 0 → value ≡ get_or (values_of list.pairs) at 0 →
+      slice_get (view_pairs view) at ≡ Some (skipped * 256 + key, value)
   bits_at at key value inside is_key is_value =
       ap (λ ps. slice_get ps at) (sym same_pairs) ∙ at-shift (skipped * 256) at list.pairs ∙ ap (raised (skipped * 256)) (pair_at list.pairs at key value inside is_key is_value)
 

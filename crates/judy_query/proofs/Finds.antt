@@ -1,5 +1,6 @@
 -- What is found in pairs by a key.
-use Rattle.std.proofs.Common.{◌≡◌, ℕ, zero, suc, ◌+◌, ◌<◌, ◌≤◌, true, false, cond, ⊎_elim, [], ◌∷◌, ◌++◌, length, get_or, Some, None, slice_get, sym, refl, ap, ◌∙◌, subst, arith, ne_eqb, eq-eqb, true≢false, ◌||◌}
+use Rattle.std.proofs.Common.{◌≡◌, ℕ, zero, suc, ◌+◌, ◌<◌, ◌≤◌, true, false, cond, ⊎_elim, [], ◌∷◌, ◌++◌, length, get_or, Some, None, slice_get, sym, refl, ap, ◌∙◌, subst, arith}
+use Rattle.std.proofs.Common.{ne_eqb, eq-eqb, true≢false, ◌||◌}
 use Rattle.std.specs.Cmp.{unsigned_tied}
 use Rattle.std.specs.Ordering.{eq_by_cmp}
 use Rattle.std.specs.List.Sorted.{IsStrictlySortedBy}
@@ -92,7 +93,8 @@ value-shift by key whole (pair ∷ pairs) rest sum none =
     (cases_order key pair.0)
 
 -- The value of a key of a part is what the part has for what is left of the key.
-pub part-value : (words top : ℕ) (tree : Pairs) (base unit left key : ℕ) (pairs front back : Pairs) → IsPart words top tree base unit pairs front back → key ≡ base + left → left < unit → value_of tree key ≡ value_of pairs left
+pub part-value : (words top : ℕ) (tree : Pairs) (base unit left key : ℕ) (pairs front back : Pairs) → IsPart words top tree base unit pairs front back →
+    key ≡ base + left → left < unit → value_of tree key ≡ value_of pairs left
 part-value words top tree base unit left key pairs front back part sum within =
     ap (λ ps. value_of ps key) part.same
     ∙ value-below words 0 base front (shift base pairs ++ back) key (omega arith) part.before

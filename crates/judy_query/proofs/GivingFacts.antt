@@ -25,7 +25,8 @@ bits_given made view skipped list is base count out new long fits written =
       within = fits;
       there = omega arith;
       out = ap (λ (part : List _). part ++ drop count out)
-          (written ∙ ap (λ n. made_of made (shift top (take n pairs))) (length-take-le count out fits) ∙ ap (λ ps. made_of made (shift top ps)) (take_all count pairs (omega arith)) ∙ ap (made_of made) (sym (take_all count (shift top pairs) (omega arith))));
+          (written ∙ ap (λ n. made_of made (shift top (take n pairs))) (length-take-le count out fits) ∙ ap (λ ps. made_of made (shift top ps)) (take_all count pairs (omega arith)) ∙
+          ap (made_of made) (sym (take_all count (shift top pairs) (omega arith))));
       others = sym (drop_all count (shift top pairs) (omega arith));
     })
 
@@ -51,7 +52,8 @@ pub bits_room : {V : _} (view : ViewOf V) (skipped : ℕ) (list : KeyList) → v
 bits_room view skipped list is = ap (λ v. length (view_pairs v)) is ∙ length-shift (skipped * 256) list.pairs
 
 -- The next pairs of a node are written, so many.
-pub next_given : {E : Type 0} (made : ℕ → ℕ → E) (base at n later : ℕ) (pairs all : Pairs) (out new : List E) → later ≡ at + n → shift base (drop at pairs) ≡ all → n ≤ length out → later ≤ length pairs
+pub next_given : {E : Type 0} (made : ℕ → ℕ → E) (base at n later : ℕ) (pairs all : Pairs) (out new : List E) → later ≡ at + n → shift base (drop at pairs) ≡ all →
+    n ≤ length out → later ≤ length pairs
     → new ≡ made_of made (shift base (take (length (take n out)) (drop at pairs))) → AreGiven made all (shift base (drop later pairs)) out (new ++ drop n out) n
 next_given made base at n later pairs all out new sum is fits inside written =
     let long = length-shift base (drop at pairs) in
@@ -59,7 +61,9 @@ next_given made base at n later pairs all out new sum is fits inside written =
     subst (λ (all : Pairs). AreGiven made all (shift base (drop later pairs)) out (new ++ drop n out) n) is (record {
       within = fits;
       there = omega arith;
-      out = ap (λ (part : List _). part ++ drop n out) (written ∙ ap (λ n. made_of made (shift base (take n (drop at pairs)))) (length-take-le n out fits) ∙ ap (made_of made) (sym (take-shift base n (drop at pairs))));
+      out =
+          ap (λ (part : List _). part ++ drop n out) (written ∙ ap (λ n. made_of made (shift base (take n (drop at pairs)))) (length-take-le n out fits) ∙
+          ap (made_of made) (sym (take-shift base n (drop at pairs))));
       others = ap (λ n. shift base (drop n pairs)) sum ∙ ap (shift base) (sym (drop-drop n at pairs)) ∙ sym (drop-shift base n (drop at pairs));
     })
 
@@ -132,7 +136,8 @@ module _ {E : Type 0} (made : ℕ → ℕ → E) where
         }
 
     -- The same where the slice was passed on from there.
-    pub put_more : n ≤ length now → (left : Pairs) (new : List E) (m : ℕ) → AreGiven made mid left (mid_of n (length now - n) now) new m → AreGiven made all left before (put_mid n (length now - n) now new) (n + m)
+    pub put_more : n ≤ length now → (left : Pairs) (new : List E) (m : ℕ) → AreGiven made mid left (mid_of n (length now - n) now) new m →
+        AreGiven made all left before (put_mid n (length now - n) now new) (n + m)
     put_more inside left new m more =
         let rest = length-drop n now in
         let none = drop_all (length now - n) (drop n now) (omega arith) in

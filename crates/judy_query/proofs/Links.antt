@@ -1,6 +1,7 @@
 -- What judy_model's definitions say of the map of a tree's pairs, told by these pairs: which words are keys, how many keys are
 -- below a word, and which key stands at a place.
-use Rattle.std.proofs.Common.{◌≡◌, ℕ, ◌+◌, ◌<◌, Bool, true, false, cond, ◌&&◌, T, [], ◌∷◌, map, length, filter, find, slice_get, Option, Some, None, refl, sym, ap, ◌∙◌, subst, arith, is_lt, is_le, is_ge, reverse, option_map}
+use Rattle.std.proofs.Common.{◌≡◌, ℕ, ◌+◌, ◌<◌, Bool, true, false, cond, ◌&&◌, T, [], ◌∷◌, map, length, filter, find, slice_get, Option, Some, None, refl, sym, ap, ◌∙◌, subst}
+use Rattle.std.proofs.Common.{arith, is_lt, is_le, is_ge, reverse, option_map}
 use Rattle.std.specs.Cmp.{nat_cmp_total}
 use Rattle.std.specs.FinMap.{is_sorted, get, get-from_sorted, keys, len, contains_key, nat_cmp-IsAntisymmetric}
 use Rattle.std.specs.FinMap as finmap
@@ -56,10 +57,11 @@ keys_are (pair ∷ pairs) = ap (λ rest. pair.0 ∷ rest) (keys_are pairs)
 
 find-key : (q : ℕ → Bool) (pairs : Pairs) → option_map (λ (pair : ℕ × ℕ). pair.0) (find (λ (pair : ℕ × ℕ). q pair.0) pairs) ≡ find q (keys_of pairs)
 find-key q [] = refl
-find-key q (pair ∷ pairs) = elim (q pair.0) as (λ b. option_map (λ (other : ℕ × ℕ). other.0) (cond b (Some pair) (find (λ (other : ℕ × ℕ). q other.0) pairs)) ≡ cond b (Some pair.0) (find q (keys_of pairs))) [
-  | true ↦ refl
-  | false ↦ find-key q pairs
-]
+find-key q (pair ∷ pairs) =
+    elim (q pair.0) as (λ b. option_map (λ (other : ℕ × ℕ). other.0) (cond b (Some pair) (find (λ (other : ℕ × ℕ). q other.0) pairs)) ≡ cond b (Some pair.0) (find q (keys_of pairs))) [
+      | true ↦ refl
+      | false ↦ find-key q pairs
+    ]
 
 find_last-key : (q : ℕ → Bool) (pairs : Pairs) → option_map (λ (pair : ℕ × ℕ). pair.0) (find_last (λ (pair : ℕ × ℕ). q pair.0) pairs) ≡ find_last q (keys_of pairs)
 find_last-key q [] = refl
@@ -84,10 +86,6 @@ module _ (words top : ℕ) (pairs : Pairs) (is : IsMap words 0 top pairs) where
   -- The keys of the map are those of the pairs.
   pub keys_is : keys (map_of pairs) ≡ keys_of pairs
   keys_is = keys-from_sorted word_order pairs in_order ∙ keys_are pairs
-
-  -- The keys of the pairs ascend.
-  pub ascending : IsStrictlySortedBy word_order (keys_of pairs)
-  ascending = subst (IsStrictlySortedBy word_order) keys_is (keys_ascending (map_of pairs))
 
   -- There are as many keys as pairs.
   pub len_is : len (map_of pairs) ≡ length pairs

@@ -1,5 +1,6 @@
 -- The pairs nearest to a key, in a part of a tree and beside it.
-use Rattle.std.proofs.Common.{◌≡◌, ℕ, ◌+◌, ◌-◌, ◌^◌, ◌<◌, ◌≤◌, ⊎_elim, Bool, true, false, cond, nat_le, [], ◌∷◌, ◌++◌, length, find, Option, Some, None, IfSome, slice_get, sym, refl, ap, ◌∙◌, subst, arith, length-append, leb-true, le-leb, is_le, is_ge}
+use Rattle.std.proofs.Common.{◌≡◌, ℕ, ◌+◌, ◌-◌, ◌^◌, ◌<◌, ◌≤◌, ⊎_elim, Bool, true, false, cond, nat_le, [], ◌∷◌, ◌++◌, length, find, Option, Some, None, IfSome, slice_get, sym}
+use Rattle.std.proofs.Common.{refl, ap, ◌∙◌, subst, arith, length-append, leb-true, le-leb, is_le, is_ge}
 use Rattle.std.specs.Option.{option_or}
 use Rattle.std.proofs.lemmas.Bool.{false_from_ne_true, cases_lt, cases_order}
 use Rattle.std.proofs.lemmas.List.{append-nil}
@@ -47,7 +48,8 @@ find-front : (words low top : ℕ) (p : ℕ × ℕ → Bool) (pairs rest : Pairs
 find-front words low top p [] rest map fails = refl
 find-front words low top p (pair ∷ pairs) rest map fails = ap (λ b. cond b (Some pair) (find p (pairs ++ rest))) (fails pair map.1) ∙ find-front words (pair.0 + 1) top p pairs rest map.3 fails
 
-find-shift : (by : ℕ) (p q : ℕ × ℕ → Bool) (pairs rest : Pairs) → ((pair : ℕ × ℕ) → p (by + pair.0, pair.1) ≡ q pair) → find p (shift by pairs ++ rest) ≡ option_or (raised by (find q pairs)) (find p rest)
+find-shift : (by : ℕ) (p q : ℕ × ℕ → Bool) (pairs rest : Pairs) → ((pair : ℕ × ℕ) → p (by + pair.0, pair.1) ≡ q pair) →
+    find p (shift by pairs ++ rest) ≡ option_or (raised by (find q pairs)) (find p rest)
 find-shift by p q [] rest same = refl
 find-shift by p q (pair ∷ pairs) rest same =
     ap (λ b. cond b (Some (by + pair.0, pair.1)) (find p (shift by pairs ++ rest))) (same pair)
@@ -68,7 +70,8 @@ part-from words top tree base unit left key pairs front back part sum within =
     ∙ find-front words 0 base (λ pair. is_ge (word_order pair.0 key)) front (shift base pairs ++ back) part.before (λ pair below. is_ge_word pair.0 key ∙ le_false key pair.0 (omega arith))
     ∙ find-shift base (λ pair. is_ge (word_order pair.0 key)) (λ pair. is_ge (word_order pair.0 left)) pairs back
     (λ pair. is_ge_word (base + pair.0) key ∙ same_test key (base + pair.0) left pair.0 (λ less. omega arith) (λ less. omega arith) ∙ sym (is_ge_word pair.0 left))
-    ∙ ap (option_or (raised base (pair_from pairs left))) (find-head words (base + unit) top (λ pair. is_ge (word_order pair.0 key)) back part.after (λ pair above. is_ge_word pair.0 key ∙ le-leb key pair.0 (omega arith)))
+    ∙ ap (option_or (raised base (pair_from pairs left))) (find-head words (base + unit) top (λ pair. is_ge (word_order pair.0 key)) back part.after
+    (λ pair above. is_ge_word pair.0 key ∙ le-leb key pair.0 (omega arith)))
 
 -- From the end of all words on there is none.
 pub from_end : (words low top : ℕ) (pairs : Pairs) (key : ℕ) → IsMap words low top pairs → top ≤ key → pair_from pairs key ≡ None
@@ -109,7 +112,8 @@ from_value words low top (pair ∷ pairs) key value map found =
     apart)
     (cases_order key pair.0)
 
-pub from_looked : (words low top : ℕ) (pairs : Pairs) (key : ℕ) (found : Option ℕ) → IsMap words low top pairs → found ≡ value_of pairs key → IfSome found (λ value. pair_from pairs key ≡ Some (key, value))
+pub from_looked : (words low top : ℕ) (pairs : Pairs) (key : ℕ) (found : Option ℕ) → IsMap words low top pairs → found ≡ value_of pairs key →
+    IfSome found (λ value. pair_from pairs key ≡ Some (key, value))
 from_looked words low top pairs key None map is = tt
 from_looked words low top pairs key (Some value) map is = from_value words low top pairs key value map (sym is)
 
@@ -117,7 +121,8 @@ from_looked words low top pairs key (Some value) map is = from_value words low t
 
 last-append : (p : ℕ × ℕ → Bool) (one other : Pairs) → find_last p (one ++ other) ≡ option_or (find_last p other) (find_last p one)
 last-append p [] other = sym (none_after (find_last p other))
-last-append p (pair ∷ one) other = ap (λ found. option_or found (cond (p pair) (Some pair) None)) (last-append p one other) ∙ three (find_last p other) (find_last p one) (cond (p pair) (Some pair) None)
+last-append p (pair ∷ one) other =
+    ap (λ found. option_or found (cond (p pair) (Some pair) None)) (last-append p one other) ∙ three (find_last p other) (find_last p one) (cond (p pair) (Some pair) None)
 
 last-shift : (by : ℕ) (p q : ℕ × ℕ → Bool) (pairs : Pairs) → ((pair : ℕ × ℕ) → p (by + pair.0, pair.1) ≡ q pair) → find_last p (shift by pairs) ≡ raised by (find_last q pairs)
 last-shift by p q [] same = refl
@@ -170,7 +175,8 @@ up_to-shift by key pairs above =
 
 pub up_to-none : (words low top : ℕ) (pairs : Pairs) (key : ℕ) → key < low → IsMap words low top pairs → pair_up_to pairs key ≡ None
 up_to-none words low top pairs key below map =
-    find-reverse (λ pair. is_le (word_order pair.0 key)) pairs ∙ last-none words low top (λ pair. is_le (word_order pair.0 key)) pairs map (λ pair above. is_le_word pair.0 key ∙ le_false pair.0 key (omega arith))
+    find-reverse (λ pair. is_le (word_order pair.0 key)) pairs ∙ last-none words low top (λ pair. is_le (word_order pair.0 key)) pairs map
+    (λ pair above. is_le_word pair.0 key ∙ le_false pair.0 key (omega arith))
 
 last_below : (words low top : ℕ) (p : ℕ × ℕ → Bool) (pairs : Pairs) (key value : ℕ) → IsMap words low top pairs → find_last p pairs ≡ Some (key, value) → key < top
 last_below words low top p [] key value map = λ found. cc

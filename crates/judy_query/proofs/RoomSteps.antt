@@ -29,7 +29,8 @@ same-window : (all pairs : Pairs) (base unit : ℕ) → IsWindow all base unit p
 same-window all pairs base unit window = record {
   same = λ word low high.
       let inner : word ≡ base + (word - base) = omega arith in
-      ap (has (keys_of all)) inner ∙ window.same (word - base) (omega arith) ∙ sym ((window-shift pairs base unit).same (word - base) (omega arith)) ∙ ap (has (keys_of (shift base pairs))) (sym inner);
+      ap (has (keys_of all)) inner ∙ window.same (word - base) (omega arith) ∙ sym ((window-shift pairs base unit).same (word - base) (omega arith)) ∙
+      ap (has (keys_of (shift base pairs))) (sym inner);
 }
 
 run-same : (one other : Pairs) (low top from to : ℕ) → low ≤ from → to ≤ top → HasSame one other low top → IsRun other from to → IsRun one from to
@@ -39,8 +40,10 @@ room-same : (words : ℕ) (one other kid : Pairs) (low top start unit : ℕ) →
 room-same words one other kid low top start unit above below same window = record { same = λ word within. same.same (start + word) (omega arith) (omega arith) ∙ window.same word within }
 
 -- What a branch's own words tell is told of the tree.
-pub room-window : {V : _} (words : ℕ) (all pairs : Pairs) (base unit from : ℕ) (room : Room V) → base ≤ from → IsWindow all base unit pairs → IsRoomFrom words (shift base pairs) from (base + unit) room → IsRoomFrom words all from (base + unit) room
-room-window words all pairs base unit from Nowhere above window run = run-same all (shift base pairs) base (base + unit) from (base + unit) above (omega arith) (same-window all pairs base unit window) run
+pub room-window : {V : _} (words : ℕ) (all pairs : Pairs) (base unit from : ℕ) (room : Room V) → base ≤ from → IsWindow all base unit pairs →
+    IsRoomFrom words (shift base pairs) from (base + unit) room → IsRoomFrom words all from (base + unit) room
+room-window words all pairs base unit from Nowhere above window run =
+    run-same all (shift base pairs) base (base + unit) from (base + unit) above (omega arith) (same-window all pairs base unit window) run
 room-window words all pairs base unit from (At word) above window room =
     let within = room.0 in
     let low = room.1.rising in
@@ -53,7 +56,12 @@ room-window words all pairs base unit from (In child width start) above window r
     let inner = room.2 in (
       room.0,
       run-same all (shift base pairs) base (base + unit) from start above (omega arith) same room.1,
-      record { child = inner.child; narrow = inner.narrow; window = room-same words all (shift base pairs) child.now.pairs base (base + unit) start (256 ^ width) (omega arith) within same inner.window; room = inner.room },
+      record {
+        child = inner.child;
+        narrow = inner.narrow;
+        window = room-same words all (shift base pairs) child.now.pairs base (base + unit) start (256 ^ width) (omega arith) within same inner.window;
+        room = inner.room;
+      },
     )
 
 -- ---- one behind the other
@@ -76,21 +84,27 @@ or_else Holds Told (At word) result so is = is
 or_else Holds Told (In child width start) result so is = is
 
 -- The nearer of two rooms.
-pub room-nearer : {V : _} (words : ℕ) (all : Pairs) (from middle top : ℕ) (room result : Room V) → middle ≤ top → IsRoomFrom words all from middle room → OrElse room (λ (other : Room V). IsRoomFrom words all middle top other) result
+pub room-nearer : {V : _} (words : ℕ) (all : Pairs) (from middle top : ℕ) (room result : Room V) → middle ≤ top → IsRoomFrom words all from middle room →
+    OrElse room (λ (other : Room V). IsRoomFrom words all middle top other) result
     → IsRoomFrom words all from top result
 room-nearer words all from middle top Nowhere result within run later = room-behind words all from middle top result run later
 room-nearer words all from middle top (At word) result within room is = let small = room.0 in subst (IsRoomFrom words all from top) (sym is) (omega arith, room.1, room.2)
 room-nearer words all from middle top (In child width start) result within room is = let small = room.0 in subst (IsRoomFrom words all from top) (sym is) (omega arith, room.1, room.2)
 
 -- The word in a child's room.
-pub word-in : (words : ℕ) (all : Pairs) (from top : ℕ) (kid : Tree) (width start word : ℕ) → start + 256 ^ width ≤ top → IsRun all from start → HasRoom words all kid width start → IsFirstAbsent kid.pairs 0 (256 ^ width) (Some word) → IsFirstAbsent all from top (Some (start + word))
+pub word-in : (words : ℕ) (all : Pairs) (from top : ℕ) (kid : Tree) (width start word : ℕ) → start + 256 ^ width ≤ top → IsRun all from start →
+    HasRoom words all kid width start → IsFirstAbsent kid.pairs 0 (256 ^ width) (Some word) → IsFirstAbsent all from top (Some (start + word))
 word-in words all from top kid width start word fits run room told =
-    let small = told.0 in
-    (omega arith, run-join all from start (start + word) run (run-window all kid.pairs start (256 ^ width) 0 word start (start + word) (omega arith) refl (omega arith) room.window told.1), room.window.same word small ∙ told.2)
+    let small = told.0 in (
+      omega arith,
+      run-join all from start (start + word) run (run-window all kid.pairs start (256 ^ width) 0 word start (start + word) (omega arith) refl (omega arith) room.window told.1),
+      room.window.same word small ∙ told.2,
+    )
 
 -- ---- the same downwards
 
-pub room-window-down : {V : _} (words : ℕ) (all pairs : Pairs) (base unit to : ℕ) (room : Room V) → to ≤ base + unit → IsWindow all base unit pairs → IsRoomUpTo words (shift base pairs) base to room → IsRoomUpTo words all base to room
+pub room-window-down : {V : _} (words : ℕ) (all pairs : Pairs) (base unit to : ℕ) (room : Room V) → to ≤ base + unit → IsWindow all base unit pairs →
+    IsRoomUpTo words (shift base pairs) base to room → IsRoomUpTo words all base to room
 room-window-down words all pairs base unit to Nowhere below window run = run-same all (shift base pairs) base (base + unit) base to (omega arith) below (same-window all pairs base unit window) run
 room-window-down words all pairs base unit to (At word) below window room =
     let low = room.0 in
@@ -104,7 +118,12 @@ room-window-down words all pairs base unit to (In child width start) below windo
     let inner = room.2 in (
       low,
       run-same all (shift base pairs) base (base + unit) (start + 256 ^ width) to (omega arith) below same room.1,
-      record { child = inner.child; narrow = inner.narrow; window = room-same words all (shift base pairs) child.now.pairs base (base + unit) start (256 ^ width) low (omega arith) same inner.window; room = inner.room },
+      record {
+        child = inner.child;
+        narrow = inner.narrow;
+        window = room-same words all (shift base pairs) child.now.pairs base (base + unit) start (256 ^ width) low (omega arith) same inner.window;
+        room = inner.room;
+      },
     )
 
 pub room-before : {V : _} (words : ℕ) (all : Pairs) (from middle to : ℕ) (room : Room V) → IsRun all middle to → IsRoomUpTo words all from middle room → IsRoomUpTo words all from to room
@@ -112,17 +131,20 @@ room-before words all from middle to Nowhere run room = run-join all from middle
 room-before words all from middle to (At word) run room = (room.0, run-join all (word + 1) middle to room.1 run, room.2)
 room-before words all from middle to (In child width start) run room = (room.0, run-join all (start + 256 ^ width) middle to room.1 run, room.2)
 
-pub room-nearer-down : {V : _} (words : ℕ) (all : Pairs) (from middle to : ℕ) (room result : Room V) → from ≤ middle → IsRoomUpTo words all middle to room → OrElse room (λ (other : Room V). IsRoomUpTo words all from middle other) result
+pub room-nearer-down : {V : _} (words : ℕ) (all : Pairs) (from middle to : ℕ) (room result : Room V) → from ≤ middle → IsRoomUpTo words all middle to room →
+    OrElse room (λ (other : Room V). IsRoomUpTo words all from middle other) result
     → IsRoomUpTo words all from to result
 room-nearer-down words all from middle to Nowhere result within run earlier = room-before words all from middle to result run earlier
 room-nearer-down words all from middle to (At word) result within room is = let low = room.0 in subst (IsRoomUpTo words all from to) (sym is) (omega arith, room.1, room.2)
 room-nearer-down words all from middle to (In child width start) result within room is = let low = room.0 in subst (IsRoomUpTo words all from to) (sym is) (omega arith, room.1, room.2)
 
-pub word-in-last : (words : ℕ) (all : Pairs) (from to : ℕ) (kid : Tree) (width start word : ℕ) → from ≤ start → IsRun all (start + 256 ^ width) to → HasRoom words all kid width start → IsLastAbsent kid.pairs 0 (256 ^ width) (Some word) → IsLastAbsent all from to (Some (start + word))
+pub word-in-last : (words : ℕ) (all : Pairs) (from to : ℕ) (kid : Tree) (width start word : ℕ) → from ≤ start → IsRun all (start + 256 ^ width) to →
+    HasRoom words all kid width start → IsLastAbsent kid.pairs 0 (256 ^ width) (Some word) → IsLastAbsent all from to (Some (start + word))
 word-in-last words all from to kid width start word low run room told =
     let high = told.1.rising in (
       omega arith,
-      run-join all (start + word + 1) (start + 256 ^ width) to (run-window all kid.pairs start (256 ^ width) (word + 1) (256 ^ width) (start + word + 1) (start + 256 ^ width) (omega arith) refl (omega arith) room.window told.1) run,
+      run-join all (start + word + 1) (start + 256 ^ width) to (run-window all kid.pairs start (256 ^ width) (word + 1) (256 ^ width) (start + word + 1)
+          (start + 256 ^ width) (omega arith) refl (omega arith) room.window told.1) run,
       room.window.same word (omega arith) ∙ told.2,
     )
 
@@ -144,8 +166,11 @@ module _ {V : _} (words : ℕ) (tree : Pairs) (view : ViewOf V) (key left : ℕ)
   down_word word told =
       let above = down.above in
       let fits = down.part.fits in
-      let small = told.0 in
-      (omega arith, run-window tree (view_pairs view) (key - left) (256 ^ width_of view) left word key (key - left + word) (omega arith) refl (omega arith) down_window told.1, down_window.same word small ∙ told.2)
+      let small = told.0 in (
+        omega arith,
+        run-window tree (view_pairs view) (key - left) (256 ^ width_of view) left word key (key - left + word) (omega arith) refl (omega arith) down_window told.1,
+        down_window.same word small ∙ told.2,
+      )
 
   pub down_last : (word : ℕ) → IsLastAbsent (view_pairs view) 0 (left + 1) (Some word) → IsLastAbsent tree 0 (key + 1) (Some (key - left + word))
   down_last word told =
@@ -158,7 +183,9 @@ module _ {V : _} (words : ℕ) (tree : Pairs) (view : ViewOf V) (key left : ℕ)
       )
 
   pub down_run_last : IsRun (view_pairs view) 0 (left + 1) → IsRun tree (key - left) (key + 1)
-  down_run_last run = let above = down.above in let inside = down.inside in run-window tree (view_pairs view) (key - left) (256 ^ width_of view) 0 (left + 1) (key - left) (key + 1) (omega arith) (omega arith) (omega arith) down_window run
+  down_run_last run =
+      let above = down.above in let inside = down.inside in run-window tree (view_pairs view) (key - left) (256 ^ width_of view) 0 (left + 1) (key - left) (key + 1)
+      (omega arith) (omega arith) (omega arith) down_window run
 
   pub down_run : (to : ℕ) → to ≤ 256 ^ width_of view → IsRun (view_pairs view) left to → IsRun tree key (key - left + to)
   down_run to fits run = let above = down.above in run-window tree (view_pairs view) (key - left) (256 ^ width_of view) left to key (key - left + to) (omega arith) refl fits down_window run
@@ -175,7 +202,8 @@ module _ {V : _} (words : ℕ) (tree : Pairs) (b : _) (key left : ℕ) (down : I
           let is_key = steps.0.key_is in
           let above = down.above in
           let small = steps.0.byte_is in
-          window-window tree (branch_pairs b.now.width b.now.skip b.now.bytes b.now.children.items) kid.pairs (key - left) (256 ^ (length b.now.skip + 1 + b.now.width)) ((number_of b.now.skip * 256 + byte) * 256 ^ b.now.width) (256 ^ b.now.width) (key - rest) (omega arith)
+          window-window tree (branch_pairs b.now.width b.now.skip b.now.bytes b.now.children.items) kid.pairs (key - left) (256 ^ (length b.now.skip + 1 + b.now.width))
+          ((number_of b.now.skip * 256 + byte) * 256 ^ b.now.width) (256 ^ b.now.width) (key - rest) (omega arith)
           (block_within words b.now.width b.now.skip b.now.bytes b.now.children.items b.now.population level byte small)
           (down_window words tree (Branch b) key left down)
           (kid_window words b.now.width b.now.skip b.now.bytes b.now.children.items b.now.population level byte place kid steps.1 there)

@@ -1,5 +1,6 @@
 -- Runs of words that are all keys, and the words beside them that are none.
-use Rattle.std.proofs.Common.{◌≡◌, ◌≢◌, ℕ, zero, suc, ◌+◌, ◌-◌, ◌*◌, ◌<◌, ◌≤◌, ◌^◌, Bool, true, false, cond, not, ◌&&◌, ◌||◌, ◌==◌, nat_lt, [], ◌∷◌, length, Option, Some, None, is_some, refl, sym, ap, ◌∙◌, arith, is_le, is_ge, ◌⊎◌, true≢false, ne_eqb, eq-eqb, ⊎_elim, ltb-true, lt-ltb, leb-true, le-leb}
+use Rattle.std.proofs.Common.{◌≡◌, ◌≢◌, ℕ, zero, suc, ◌+◌, ◌-◌, ◌*◌, ◌<◌, ◌≤◌, ◌^◌, Bool, true, false, cond, not, ◌&&◌, ◌||◌, ◌==◌, nat_lt, [], ◌∷◌, length, Option, Some, None}
+use Rattle.std.proofs.Common.{is_some, refl, sym, ap, ◌∙◌, arith, is_le, is_ge, ◌⊎◌, true≢false, ne_eqb, eq-eqb, ⊎_elim, ltb-true, lt-ltb, leb-true, le-leb}
 use Rattle.std.proofs.Math.Nat.{pow-suc, pow-le-pow_right}
 use Rattle.std.specs.Cmp.{unsigned_tied}
 use Rattle.std.specs.Ordering.{is_eq}
@@ -54,7 +55,8 @@ window-part words top base unit tree pairs front back part = record {
   same = λ word within. has-value tree (base + word) ∙ ap is_some (part-value words top tree base unit word (base + word) pairs front back part refl within) ∙ sym (has-value pairs word);
 }
 
-pub window-window : (all pairs inner : Pairs) (base unit at small both : ℕ) → both ≡ base + at → at + small ≤ unit → IsWindow all base unit pairs → IsWindow pairs at small inner → IsWindow all both small inner
+pub window-window : (all pairs inner : Pairs) (base unit at small both : ℕ) → both ≡ base + at → at + small ≤ unit → IsWindow all base unit pairs →
+    IsWindow pairs at small inner → IsWindow all both small inner
 window-window all pairs inner base unit at small both sum fits outer deep = record {
   same = λ word within. ap (has (keys_of all)) (let e : both + word ≡ base + (at + word) = omega arith in e) ∙ outer.same (at + word) (omega arith) ∙ deep.same word within;
 }
@@ -111,7 +113,9 @@ run-full words low top pairs below map full = record { rising = below; held = λ
         let rest = map-length words (pair.0 + 1) top pairs (omega arith) map.3 in
         ⊎_elim
         (λ (same : pair.0 ≡ word). ap (λ b. b || has (keys_of pairs) word) (eq-eqb pair.0 word same))
-        (λ apart. other_first pair pairs word apart ∙ each words (pair.0 + 1) top pairs word (omega arith) map.3 (omega arith) (let more : pair.0 + 1 ≤ word = ⊎_elim (λ e. absurd (apart e)) (λ order. ⊎_elim (λ less. omega arith) (λ more. let never : ⊥ = omega arith in absurd never) order) (cases_order pair.0 word) in more) to)
+        (λ apart. other_first pair pairs word apart ∙ each words (pair.0 + 1) top pairs word (omega arith) map.3 (omega arith)
+        (let more : pair.0 + 1 ≤ word = ⊎_elim (λ e. absurd (apart e)) (λ order. ⊎_elim (λ less. omega arith) (λ more. let never : ⊥ = omega arith in absurd never) order)
+        (cases_order pair.0 word) in more) to)
         (cases_eq pair.0 word)
 
 absent-below : (words low top : ℕ) (pairs : Pairs) (word : ℕ) → word < low → IsMap words low top pairs → has (keys_of pairs) word ≡ false
@@ -132,7 +136,8 @@ full-run words low top [] map run = ⊎_elim (λ less. let never : false ≡ tru
 full-run words low top (pair ∷ pairs) map run =
     let first = map.0 in
     let last = map.1 in
-    let here : pair.0 ≤ low = ⊎_elim (λ (less : low < pair.0). absurd (true≢false (sym (run.held low (omega arith) (omega arith)) ∙ absent-below words (low + 1) top (pair ∷ pairs) low (omega arith) (omega arith, map.1, map.2, map.3)))) (λ done. done) (cases_lt low pair.0) in
+    let here : pair.0 ≤ low = ⊎_elim (λ (less : low < pair.0). absurd (true≢false (sym (run.held low (omega arith) (omega arith)) ∙
+    absent-below words (low + 1) top (pair ∷ pairs) low (omega arith) (omega arith, map.1, map.2, map.3)))) (λ done. done) (cases_lt low pair.0) in
     let rest = full-run words (pair.0 + 1) top pairs map.3 (record {
       rising = omega arith;
       held = λ word from to. sym (other_first pair pairs word (λ e. omega arith)) ∙ run.held word (omega arith) to;
@@ -172,7 +177,9 @@ module _ (pairs : Pairs) (from bound : ℕ) where
   pub last-absent : (answer : Option ℕ) → from < bound → IsLast word_order (is_absent bound (keys_of pairs)) from answer → IsLastAbsent pairs 0 (from + 1) answer
   last-absent None within none = record {
     rising = omega arith;
-    held = λ word low high. true_or (has (keys_of pairs) word) (λ absent. true≢false (sym (and_from _ _ (is_free word (omega arith) absent) (is_le_word word from ∙ le-leb word from (omega arith))) ∙ none word));
+    held =
+        λ word low high. true_or (has (keys_of pairs) word) (λ absent. true≢false (sym (and_from _ _ (is_free word (omega arith) absent)
+        (is_le_word word from ∙ le-leb word from (omega arith))) ∙ none word));
   }
   last-absent (Some greatest) within some =
       let parts = and_parts (nat_lt greatest bound && not (has (keys_of pairs) greatest)) (is_le (word_order greatest from)) some.0 in
@@ -182,7 +189,8 @@ module _ (pairs : Pairs) (from bound : ℕ) where
         record {
           rising = omega arith;
           held = λ word low high. true_or (has (keys_of pairs) word) (λ absent.
-              let greatest_is = leb-true word greatest (sym (is_le_word word greatest) ∙ some.1 word (and_from _ _ (is_free word (omega arith) absent) (is_le_word word from ∙ le-leb word from (omega arith)))) in
+              let greatest_is = leb-true word greatest (sym (is_le_word word greatest) ∙ some.1 word
+              (and_from _ _ (is_free word (omega arith) absent) (is_le_word word from ∙ le-leb word from (omega arith)))) in
               let never : ⊥ = omega arith in never);
         },
         there.1,
@@ -219,7 +227,8 @@ module _ (words skipped width : ℕ) (pairs : Pairs) (map : IsMap words 0 256 pa
 
   -- What the last bytes tell.
   pub bits_run : (from to first last : ℕ) → first ≡ skipped * 256 + from → last ≡ skipped * 256 + to → IsRun pairs from to → IsRun (shift (skipped * 256) pairs) first last
-  bits_run from to first last is_first is_last run = run-window (shift (skipped * 256) pairs) pairs (skipped * 256) to from to first last is_first is_last (omega arith) (window-shift pairs (skipped * 256) to) run
+  bits_run from to first last is_first is_last run =
+      run-window (shift (skipped * 256) pairs) pairs (skipped * 256) to from to first last is_first is_last (omega arith) (window-shift pairs (skipped * 256) to) run
 
   pub bits_absent : (byte word : ℕ) → word ≡ skipped * 256 + byte → has (keys_of pairs) byte ≡ false → has (keys_of (shift (skipped * 256) pairs)) word ≡ false
   bits_absent byte word is_word absent = ap (has (keys_of (shift (skipped * 256) pairs))) is_word ∙ (window-shift pairs (skipped * 256) (suc byte)).same byte (omega arith) ∙ absent
@@ -228,11 +237,14 @@ module _ (words skipped width : ℕ) (pairs : Pairs) (map : IsMap words 0 256 pa
 pub first-empty : (words : ℕ) (pairs : Pairs) (from : ℕ) (answer : Option ℕ) → IsMap words 0 (256 ^ 8) pairs → IsFirstAbsent pairs from (2 ^ 64) answer → answer ≡ first_empty (map_of pairs) from
 first-empty words pairs from None map run = sym (first_empty_run_none (map_of pairs) from (λ word low high. held_is words (256 ^ 8) pairs map word ∙ run.held word low high))
 first-empty words pairs from (Some least) map some =
-    sym (first_empty_run (map_of pairs) from least some.1.rising some.0 (held_is words (256 ^ 8) pairs map least ∙ some.2) (λ word low high. held_is words (256 ^ 8) pairs map word ∙ some.1.held word low high))
+    sym (first_empty_run (map_of pairs) from least some.1.rising some.0 (held_is words (256 ^ 8) pairs map least ∙ some.2)
+    (λ word low high. held_is words (256 ^ 8) pairs map word ∙ some.1.held word low high))
 
 -- And the last one.
-pub last-empty : (words : ℕ) (pairs : Pairs) (from : ℕ) (answer : Option ℕ) → IsMap words 0 (256 ^ 8) pairs → from < 2 ^ 64 → IsLastAbsent pairs 0 (from + 1) answer → answer ≡ last_empty (map_of pairs) from
+pub last-empty : (words : ℕ) (pairs : Pairs) (from : ℕ) (answer : Option ℕ) → IsMap words 0 (256 ^ 8) pairs → from < 2 ^ 64 → IsLastAbsent pairs 0 (from + 1) answer →
+    answer ≡ last_empty (map_of pairs) from
 last-empty words pairs from None map small run = sym (last_empty_run_none (map_of pairs) from (λ word low high. held_is words (256 ^ 8) pairs map word ∙ run.held word (omega arith) (omega arith)))
 last-empty words pairs from (Some greatest) map small some =
     let rising = some.1.rising in
-    sym (last_empty_run (map_of pairs) from greatest (omega arith) (omega arith) (held_is words (256 ^ 8) pairs map greatest ∙ some.2) (λ word low high within. held_is words (256 ^ 8) pairs map word ∙ some.1.held word (omega arith) (omega arith)))
+    sym (last_empty_run (map_of pairs) from greatest (omega arith) (omega arith) (held_is words (256 ^ 8) pairs map greatest ∙ some.2)
+    (λ word low high within. held_is words (256 ^ 8) pairs map word ∙ some.1.held word (omega arith) (omega arith)))

@@ -15,10 +15,12 @@ use Rattle.judy_query.specs.declared.sides.Side.{Side}
 use Rattle.judy_query.specs.declared.sides.Side.TheVariants.{Up, Down}
 use Rattle.judy_query.specs.Maps.{map_of}
 use Rattle.judy_query.specs.Parts.{IsDown, IsShown, width_of}
-use Rattle.judy_query.specs.Rooms.{IsRun, IsWindow, HasRoom, IsFirstAbsent, IsLastAbsent, IsRoomFrom, IsRoomUpTo, OrElse, IsRoomOrElse, room_of, low_of, high_of, end_of, IsAbsent, IsRoom, IsRoomPast, nearest_empty}
+use Rattle.judy_query.specs.Rooms.{IsRun, IsWindow, HasRoom, IsFirstAbsent, IsLastAbsent, IsRoomFrom, IsRoomUpTo, OrElse, IsRoomOrElse, room_of, low_of, high_of, end_of, IsAbsent}
+use Rattle.judy_query.specs.Rooms.{IsRoom, IsRoomPast, nearest_empty}
 use Rattle.judy_query.proofs.Downs.{down_branch, view_width, is_shown}
 use Rattle.judy_query.proofs.Runs.{run-none, run-later, run-join, run-window, full-run, first-empty, last-empty}
-use Rattle.judy_query.proofs.RoomSteps.{or_else, room-window, room-behind, room-nearer, word-in, room-window-down, room-before, room-nearer-down, word-in-last, run-back, down_window, down_word, down_last, down_run_last, down_run, full_behind, full_before}
+use Rattle.judy_query.proofs.RoomSteps.{or_else, room-window, room-behind, room-nearer, word-in, room-window-down, room-before, room-nearer-down, word-in-last, run-back}
+use Rattle.judy_query.proofs.RoomSteps.{down_window, down_word, down_last, down_run_last, down_run, full_behind, full_before}
 
 -- ---- words
 
@@ -31,7 +33,8 @@ high_within Up key top below = omega arith
 high_within Down key top below = omega arith
 
 -- From the word that is met first on, all words are asked for.
-pub from_end : (side : Side) (pairs : Pairs) (key unit : ℕ) (answer : Option ℕ) → 0 < unit → key ≡ end_of side unit → IsAbsent side pairs (low_of side key) (high_of side key unit) answer → IsAbsent side pairs 0 unit answer
+pub from_end : (side : Side) (pairs : Pairs) (key unit : ℕ) (answer : Option ℕ) → 0 < unit → key ≡ end_of side unit → IsAbsent side pairs (low_of side key) (high_of side key unit) answer →
+    IsAbsent side pairs 0 unit answer
 from_end Up pairs key unit answer some is told = subst (λ n. IsFirstAbsent pairs n unit answer) is told
 from_end Down pairs key unit answer some is told = subst (λ n. IsLastAbsent pairs 0 n answer) (let e : key + 1 ≡ unit = omega arith in e) told
 
@@ -40,7 +43,8 @@ absent_below Up pairs from top word told = told.0
 absent_below Down pairs from top word told = let high = told.1.rising in omega arith
 
 -- It is the nearest empty word of the map.
-pub nearest-empty : (side : Side) (words : ℕ) (pairs : Pairs) (key : ℕ) (answer : Option ℕ) → IsMap words 0 (256 ^ 8) pairs → key < 2 ^ 64 → IsAbsent side pairs (low_of side key) (high_of side key (2 ^ 64)) answer
+pub nearest-empty : (side : Side) (words : ℕ) (pairs : Pairs) (key : ℕ) (answer : Option ℕ) → IsMap words 0 (256 ^ 8) pairs → key < 2 ^ 64 →
+    IsAbsent side pairs (low_of side key) (high_of side key (2 ^ 64)) answer
     → answer ≡ nearest_empty side (map_of pairs) key
 nearest-empty Up words pairs key answer map small told = first-empty words pairs key answer map told
 nearest-empty Down words pairs key answer map small told = last-empty words pairs key answer map small told
@@ -60,9 +64,11 @@ module _ {V : _} (words : ℕ) (all : Pairs) (from top : ℕ) (room : Room V) wh
   in_room Up child width start is told = (subst (IsRoomFrom words all from top) is told).2
   in_room Down child width start is told = (subst (IsRoomUpTo words all from top) is told).2
 
-  pub absent_in : (side : Side) (child : _) (width start word : ℕ) → room ≡ In child width start → IsRoom side words all from top room → IsAbsent side child.now.pairs 0 (256 ^ width) (Some word) → IsAbsent side all from top (Some (start + word))
+  pub absent_in : (side : Side) (child : _) (width start word : ℕ) → room ≡ In child width start → IsRoom side words all from top room →
+      IsAbsent side child.now.pairs 0 (256 ^ width) (Some word) → IsAbsent side all from top (Some (start + word))
   absent_in Up child width start word is told found = let heard = subst (IsRoomFrom words all from top) is told in word-in words all from top child.now width start word heard.0 heard.1 heard.2 found
-  absent_in Down child width start word is told found = let heard = subst (IsRoomUpTo words all from top) is told in word-in-last words all from top child.now width start word heard.0 heard.1 heard.2 found
+  absent_in Down child width start word is told found =
+      let heard = subst (IsRoomUpTo words all from top) is told in word-in-last words all from top child.now width start word heard.0 heard.1 heard.2 found
 
 -- What was told of a word, told of a room.
 pub room_told : (V : _) (side : Side) (words : ℕ) (all : Pairs) (from top : ℕ) (answer : Option ℕ) → IsAbsent side all from top answer → IsRoom {V = V} side words all from top (room_of answer)
@@ -88,14 +94,17 @@ at_key V side words all key top small absent = room_told V side words all (low_o
 
 module _ {V : _} (words : ℕ) (tree : Pairs) (view : ViewOf V) (key left : ℕ) (down : IsDown words tree view key left) where
   -- What a node without children tells.
-  down_at : (side : Side) (word : ℕ) → IsAbsent side (view_pairs view) (low_of side left) (high_of side left (256 ^ width_of view)) (Some word) → IsAbsent side tree (low_of side key) (high_of side key (2 ^ 64)) (Some (key - left + word))
+  down_at : (side : Side) (word : ℕ) → IsAbsent side (view_pairs view) (low_of side left) (high_of side left (256 ^ width_of view)) (Some word) →
+      IsAbsent side tree (low_of side key) (high_of side key (2 ^ 64)) (Some (key - left + word))
   down_at Up word told = down_word words tree view key left down word told
   down_at Down word told = down_last words tree view key left down word told
 
   -- As it was searched, with its width.
-  pub down_told : (side : Side) (word : ℕ) {wide : ℕ} {found : Option ℕ} → wide ≡ width_of view → found ≡ Some word → IsAbsent side (view_pairs view) (low_of side left) (high_of side left (256 ^ wide)) found → IsAbsent side tree (low_of side key) (high_of side key (2 ^ 64)) (Some (key - left + word))
+  pub down_told : (side : Side) (word : ℕ) {wide : ℕ} {found : Option ℕ} → wide ≡ width_of view → found ≡ Some word →
+      IsAbsent side (view_pairs view) (low_of side left) (high_of side left (256 ^ wide)) found → IsAbsent side tree (low_of side key) (high_of side key (2 ^ 64)) (Some (key - left + word))
   down_told side word {wide} {found} same is told =
-      down_at side word (subst (IsAbsent side (view_pairs view) (low_of side left) (high_of side left (256 ^ width_of view))) is (subst (λ w. IsAbsent side (view_pairs view) (low_of side left) (high_of side left (256 ^ w)) found) same told))
+      down_at side word (subst (IsAbsent side (view_pairs view) (low_of side left) (high_of side left (256 ^ width_of view))) is
+      (subst (λ w. IsAbsent side (view_pairs view) (low_of side left) (high_of side left (256 ^ w)) found) same told))
 
   pub down_past : (side : Side) (room : Room V) → IsAbsent side (view_pairs view) (low_of side left) (high_of side left (256 ^ width_of view)) None
       → IsRoomPast side words tree 0 (2 ^ 64) (key - left) (256 ^ width_of view) room → IsRoom side words tree (low_of side key) (high_of side key (2 ^ 64)) room
@@ -106,8 +115,10 @@ module _ {V : _} (words : ℕ) (tree : Pairs) (b : _) (key left : ℕ) (down : I
     (byte place rest : ℕ) (steps : IsStep (256 ^ b.now.width) (number_of b.now.skip * 256) b.now.bytes left (Child byte place rest)) where
   -- The nearest room past the child.
   child_past : (side : Side) (room result : Room V)
-      → IsRoomPast side words (shift (key - left) (branch_pairs b.now.width b.now.skip b.now.bytes b.now.children.items)) (key - left) (key - left + 256 ^ (length b.now.skip + 1 + b.now.width)) (key - left + (number_of b.now.skip * 256 + byte) * 256 ^ b.now.width) (256 ^ b.now.width) room
-      → OrElse room (λ (other : Room V). IsRoomPast side words tree 0 (2 ^ 64) (key - left) (256 ^ (length b.now.skip + 1 + b.now.width)) other) result → IsRoomPast side words tree 0 (2 ^ 64) (key - rest) (256 ^ b.now.width) result
+      → IsRoomPast side words (shift (key - left) (branch_pairs b.now.width b.now.skip b.now.bytes b.now.children.items)) (key - left)
+      (key - left + 256 ^ (length b.now.skip + 1 + b.now.width)) (key - left + (number_of b.now.skip * 256 + byte) * 256 ^ b.now.width) (256 ^ b.now.width) room
+      → OrElse room (λ (other : Room V). IsRoomPast side words tree 0 (2 ^ 64) (key - left) (256 ^ (length b.now.skip + 1 + b.now.width)) other) result →
+      IsRoomPast side words tree 0 (2 ^ 64) (key - rest) (256 ^ b.now.width) result
   child_past Up room result told past =
       let unit = 256 ^ b.now.width in
       let top = 256 ^ (length b.now.skip + 1 + b.now.width) in
@@ -117,7 +128,8 @@ module _ {V : _} (words : ℕ) (tree : Pairs) (b : _) (key left : ℕ) (down : I
       let start : key - left + (number_of b.now.skip * 256 + byte) * unit ≡ key - rest = omega arith in
       room-nearer words tree (key - rest + unit) (key - left + top) (2 ^ 64) room result (omega arith)
       (subst (λ n. IsRoomFrom words tree (n + unit) (key - left + top) room) start
-      (room-window words tree (branch_pairs b.now.width b.now.skip b.now.bytes b.now.children.items) (key - left) top (key - left + (number_of b.now.skip * 256 + byte) * unit + unit) room (omega arith)
+      (room-window words tree (branch_pairs b.now.width b.now.skip b.now.bytes b.now.children.items) (key - left) top (key - left + (number_of b.now.skip * 256 + byte) * unit + unit) room
+      (omega arith)
       (down_window words tree (Branch b) key left down) told))
       past
   child_past Down room result told past =
@@ -141,15 +153,18 @@ module _ {V : _} (words : ℕ) (tree : Pairs) (b : _) (key left : ℕ) (down : I
 
 -- The nearest room once a way has gone from a branch to a child: past that child, or else one that is past the branch.
 pub room_passed : {V : _} {words : ℕ} {tree : Pairs} {view : ViewOf V} {b : _} {key left : ℕ} (down : IsDown words tree view key left) (is : view ≡ Branch b)
-    (byte place rest : ℕ) (steps : IsStep (256 ^ b.now.width) (number_of b.now.skip * 256) b.now.bytes left (Child byte place rest)) (edge : ℕ) (same : edge ≡ byte) (side : Side) (Holds : Room V → Type 0) (result : Room V)
+    (byte place rest : ℕ) (steps : IsStep (256 ^ b.now.width) (number_of b.now.skip * 256) b.now.bytes left (Child byte place rest)) (edge : ℕ) (same : edge ≡ byte)
+    (side : Side) (Holds : Room V → Type 0) (result : Room V)
     → IsRoomOrElse side words (record { branch = b; place = place; base = key - left; edge = edge }) Holds result
     → ((other : Room V) → Holds other → IsRoomPast side words tree 0 (2 ^ 64) (key - left) (256 ^ width_of view) other) → IsRoomPast side words tree 0 (2 ^ 64) (key - rest) (256 ^ b.now.width) result
 room_passed {V} {words = words} {tree = tree} {b = b} {key = key} {left = left} down is byte place rest steps edge same side Holds result told past =
     let unit = 256 ^ b.now.width in
     let top = length b.now.skip + 1 + b.now.width in
     child_past words tree b key left (down_branch down is) byte place rest steps side told.0 result
-    (subst (λ n. IsRoomPast side words (shift (key - left) (branch_pairs b.now.width b.now.skip b.now.bytes b.now.children.items)) (key - left) (key - left + 256 ^ top) (key - left + (number_of b.now.skip * 256 + n) * unit) unit told.0) same told.1)
-    (or_else Holds (λ (other : Room V). IsRoomPast side words tree 0 (2 ^ 64) (key - left) (256 ^ top) other) told.0 result (λ other holds. subst (λ v. IsRoomPast side words tree 0 (2 ^ 64) (key - left) (256 ^ width_of v) other) is (past other holds)) told.2)
+    (subst (λ n. IsRoomPast side words (shift (key - left) (branch_pairs b.now.width b.now.skip b.now.bytes b.now.children.items)) (key - left) (key - left + 256 ^ top)
+    (key - left + (number_of b.now.skip * 256 + n) * unit) unit told.0) same told.1)
+    (or_else Holds (λ (other : Room V). IsRoomPast side words tree 0 (2 ^ 64) (key - left) (256 ^ top) other) told.0 result
+    (λ other holds. subst (λ v. IsRoomPast side words tree 0 (2 ^ 64) (key - left) (256 ^ width_of v) other) is (past other holds)) told.2)
 
 -- ---- in a child with room
 
@@ -181,7 +196,12 @@ module _ {V : _} (side : Side) (words : ℕ) (all : Pairs) (top : ℕ) (kid : Tr
 
 -- It begins with the child.
 pub whole_room : (words width : ℕ) (kid : Tree) → IsChild words width kid → width ≤ 7 → length kid.pairs < 256 ^ width → HasRoom words kid.pairs kid width 0
-whole_room words width kid child narrow room = record { child = child; narrow = narrow; window = record { same = λ word within. ap (has (keys_of kid.pairs)) (let e : 0 + word ≡ word = omega arith in e) }; room = room }
+whole_room words width kid child narrow room = record {
+  child = child;
+  narrow = narrow;
+  window = record { same = λ word within. ap (has (keys_of kid.pairs)) (let e : 0 + word ≡ word = omega arith in e) };
+  room = room;
+}
 
 pub whole_run : (side : Side) (all : Pairs) (top : ℕ) → IsRunPast side all top 0 top
 whole_run Up all top = run-none all 0 0 refl
@@ -193,12 +213,14 @@ module _ {V : _} (words : ℕ) (all : Pairs) (top : ℕ) (view : ViewOf V) (star
   at_branch side narrowed = subst (λ v. IsNarrowed side words all top v start) is narrowed
 
   -- Upwards it is the first from 0 on, and downwards the last below the top.
-  room_up : IsNarrowed {V = V} Up words all top (Branch b) start → IsRoomFrom words (shift start (view_pairs {V = V} (Branch b))) start (start + 256 ^ width_of {V = V} (Branch b)) room → IsRoomFrom words all 0 (start + 256 ^ width_of {V = V} (Branch b)) room
+  room_up : IsNarrowed {V = V} Up words all top (Branch b) start → IsRoomFrom words (shift start (view_pairs {V = V} (Branch b))) start (start + 256 ^ width_of {V = V} (Branch b)) room →
+      IsRoomFrom words all 0 (start + 256 ^ width_of {V = V} (Branch b)) room
   room_up here told =
       let unit = 256 ^ width_of {V = V} (Branch b) in
       room-behind words all 0 start (start + unit) room here.run (room-window words all (view_pairs {V = V} (Branch b)) start unit start room (omega arith) here.window told)
 
-  room_down : IsNarrowed {V = V} Down words all top (Branch b) start → IsRoomUpTo words (shift start (view_pairs {V = V} (Branch b))) start (start + 256 ^ width_of {V = V} (Branch b)) room → IsRoomUpTo words all start top room
+  room_down : IsNarrowed {V = V} Down words all top (Branch b) start → IsRoomUpTo words (shift start (view_pairs {V = V} (Branch b))) start (start + 256 ^ width_of {V = V} (Branch b)) room →
+      IsRoomUpTo words all start top room
   room_down here told =
       let unit = 256 ^ width_of {V = V} (Branch b) in
       room-before words all start (start + unit) top room here.run (room-window-down words all (view_pairs {V = V} (Branch b)) start unit (start + unit) room (omega arith) here.window told)
@@ -231,14 +253,16 @@ module _ {V : _} (words : ℕ) (all : Pairs) (top : ℕ) (view : ViewOf V) (star
       let here = at_branch Up narrowed in
       let unit = 256 ^ width_of {V = V} (Branch b) in
       let heard = subst (IsRoomFrom words all 0 (start + unit)) nowhere (room_up here told) in
-      let full = full-run words 0 unit (view_pairs {V = V} (Branch b)) here.shown.map (run-back all (view_pairs {V = V} (Branch b)) start unit here.window (run-later all 0 start (start + unit) (omega arith) (omega arith) heard)) in
+      let full = full-run words 0 unit (view_pairs {V = V} (Branch b)) here.shown.map (run-back all (view_pairs {V = V} (Branch b)) start unit here.window
+      (run-later all 0 start (start + unit) (omega arith) (omega arith) heard)) in
       omega (arith, here.room)
   branch_nowhere Down nowhere narrowed told =
       let here = at_branch Down narrowed in
       let fits = here.fits in
       let unit = 256 ^ width_of {V = V} (Branch b) in
       let heard = subst (IsRoomUpTo words all start top) nowhere (room_down here told) in
-      let full = full-run words 0 unit (view_pairs {V = V} (Branch b)) here.shown.map (run-back all (view_pairs {V = V} (Branch b)) start unit here.window (record { rising = omega arith; held = λ word low high. heard.held word low (omega arith) })) in
+      let full = full-run words 0 unit (view_pairs {V = V} (Branch b)) here.shown.map (run-back all (view_pairs {V = V} (Branch b)) start unit here.window
+      (record { rising = omega arith; held = λ word low high. heard.held word low (omega arith) })) in
       omega (arith, here.room)
 
 module _ (words : ℕ) (all pairs : Pairs) (top start unit : ℕ) (window : IsWindow all start unit pairs) (fits : start + unit ≤ top) where

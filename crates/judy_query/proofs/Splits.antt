@@ -1,5 +1,6 @@
 -- The pairs of a branch on both sides of a child, and on both sides of a byte that no child has.
-use Rattle.std.proofs.Common.{◌≡◌, ℕ, zero, suc, ◌+◌, ◌*◌, ◌^◌, ◌<◌, ◌≤◌, false, cond, ⊎_elim, List, [], ◌∷◌, ◌++◌, length, take, drop, filter, Some, slice_get, sym, refl, ap, ◌∙◌, subst, arith, ne_eqb, eq-eqb, true≢false, ◌||◌, length-append}
+use Rattle.std.proofs.Common.{◌≡◌, ℕ, zero, suc, ◌+◌, ◌*◌, ◌^◌, ◌<◌, ◌≤◌, false, cond, ⊎_elim, List, [], ◌∷◌, ◌++◌, length, take, drop, filter, Some, slice_get, sym, refl, ap, ◌∙◌}
+use Rattle.std.proofs.Common.{subst, arith, ne_eqb, eq-eqb, true≢false, ◌||◌, length-append}
 use Rattle.std.proofs.Math.Nat.{add-mul}
 use Rattle.std.proofs.lemmas.Nat.{mul-le}
 use Rattle.std.proofs.lemmas.Bool.{cases_order}
@@ -27,7 +28,8 @@ pub record IsSplit (words width low block : ℕ) (bytes : List ℕ) (kids : List
   pub low_byte : low ≤ byte
   pub high_byte : byte < 256
   pub child : IsChild words width kid
-  pub same : join (256 ^ width) block bytes kids ≡ first_of (256 ^ width) block bytes kids place ++ (shift ((block + byte) * 256 ^ width) kid.pairs ++ rest_of (256 ^ width) block bytes kids (suc place))
+  pub same : join (256 ^ width) block bytes kids ≡ first_of (256 ^ width) block bytes kids place ++ (shift ((block + byte) * 256 ^ width) kid.pairs ++
+      rest_of (256 ^ width) block bytes kids (suc place))
   pub before : IsMap words ((block + low) * 256 ^ width) ((block + byte) * 256 ^ width) (first_of (256 ^ width) block bytes kids place)
   pub after : IsMap words ((block + (byte + 1)) * 256 ^ width) ((block + 256) * 256 ^ width) (rest_of (256 ^ width) block bytes kids (suc place))
 
@@ -121,12 +123,15 @@ gap-at words width low block (b ∷ bytes) (k ∷ kids) byte below small are abs
     (λ (same : b ≡ byte). absurd (true≢false (sym (ap (λ t. t || has bytes byte) (eq-eqb b byte same)) ∙ absent)))
     (λ apart. ⊎_elim
     (λ (less : b < byte).
-    let rest = gap-at words width (b + 1) block bytes kids byte (omega arith) small are.3 (ap (λ t. t || has bytes byte) (sym (ne_eqb b byte (λ (e : b ≡ byte). let never : ⊥ = omega arith in never))) ∙ absent) in
+    let rest = gap-at words width (b + 1) block bytes kids byte (omega arith) small are.3 (ap (λ t. t || has bytes byte)
+    (sym (ne_eqb b byte (λ (e : b ≡ byte). let never : ⊥ = omega arith in never))) ∙ absent) in
     let within = rest.within in
     subst (λ place. IsGap words width low block (b ∷ bytes) (k ∷ kids) byte place) (sym (rank-less b byte bytes less))
     (record {
       within = omega arith;
-      same = ap (λ ps. shift start k.pairs ++ ps) rest.same ∙ sym (append_assoc (shift start k.pairs) (first_of unit block bytes kids (rank bytes byte)) (rest_of unit block bytes kids (rank bytes byte)));
+      same =
+          ap (λ ps. shift start k.pairs ++ ps) rest.same ∙ sym (append_assoc (shift start k.pairs) (first_of unit block bytes kids (rank bytes byte))
+          (rest_of unit block bytes kids (rank bytes byte)));
       before = map-append words ((block + low) * unit) ((block + (b + 1)) * unit) ((block + byte) * unit) (shift start k.pairs) (first_of unit block bytes kids (rank bytes byte))
           (units block low (b + 1) unit (omega arith)) (units block (b + 1) byte unit (omega arith)) (one_map words width low block b k.pairs first are.2.map) rest.before;
       after = rest.after;

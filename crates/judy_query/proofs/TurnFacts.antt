@@ -88,7 +88,8 @@ module _ (words width : ℕ) (skipped bytes : List ℕ) (kids : List Tree) (coun
         ap (λ ps. option_or (last_pair ps) other) more ∙ last_first (shift base first) (shift (base + start) kid.pairs) other (omega arith) ∙ ap last_pair (sym (turn_is start one_start))
 
   -- From the number of children on there is nothing.
-  pub turn_none : length kids ≤ place → (other : Option (ℕ × ℕ)) → option_or (slice_get (shift base (join (256 ^ width) (number_of skipped * 256) (drop place bytes) (drop place kids))) 0) other ≡ other
+  pub turn_none : length kids ≤ place → (other : Option (ℕ × ℕ)) → option_or (slice_get (shift base (join (256 ^ width) (number_of skipped * 256) (drop place bytes) (drop place kids))) 0)
+      other ≡ other
   turn_none past other =
       let long = children-length words width 0 bytes kids is.parts.children in
       ap (λ bs. option_or (slice_get (shift base (join (256 ^ width) (number_of skipped * 256) bs (drop place kids))) 0) other) (drop_all place bytes (omega arith))
@@ -109,7 +110,8 @@ module _ (words width : ℕ) (skipped bytes : List ℕ) (kids : List Tree) (coun
       let some = kid_some words width skipped bytes kids count is 0 place (get_or kids place no_tree) inside same in
       omega arith
 
-  pub turn_later_there : (inside : place < length kids) (other : Option (ℕ × ℕ)) → option_or (slice_get (shift base (join (256 ^ width) (number_of skipped * 256) (drop place bytes) (drop place kids))) 0) other
+  pub turn_later_there : (inside : place < length kids) (other : Option (ℕ × ℕ)) → option_or (slice_get
+      (shift base (join (256 ^ width) (number_of skipped * 256) (drop place bytes) (drop place kids))) 0) other
       ≡ slice_get (shift base (join (256 ^ width) (number_of skipped * 256) (take 1 (drop place bytes)) (take 1 (drop place kids)))) 0
   turn_later_there inside other = turn_later (get_or kids place no_tree) inside (read_again kids place no_tree (get_or kids place no_tree) inside) other
 

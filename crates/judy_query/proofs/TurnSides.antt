@@ -24,7 +24,8 @@ turn_kept words b step base Down before is none = sym (turn_none_before b.width 
 module _ {V : _} (words : ℕ) (before : Option (Turn V)) (turn : Turn V) (step : Step) (is : IsWholeBranch words turn.branch.now)
     (inside : passed (length turn.branch.now.children.items) step ≤ length turn.branch.now.children.items)
     (fits : turn.base + 256 ^ (length turn.branch.now.skip + 1 + turn.branch.now.width) ≤ 256 ^ 8) where
-  pub turn_made : (side : Side) → turn.edge ≡ edge_of side step → IsStepEdge side turn.branch.now step → IsPlaceBeside side (length turn.branch.now.children.items) step (Some turn.place) → IsTurnTo side words (Some turn)
+  pub turn_made : (side : Side) → turn.edge ≡ edge_of side step → IsStepEdge side turn.branch.now step → IsPlaceBeside side (length turn.branch.now.children.items) step (Some turn.place) →
+      IsTurnTo side words (Some turn)
   turn_made Up edge ranked place = (record { branch = is; inside = place.1; fits = fits }, place.0 ∙ ranked ∙ ap (rank turn.branch.now.bytes) (sym edge))
   turn_made Down edge ranked place = (record { branch = is; inside = omega arith; fits = fits }, (place ∙ ranked.0 ∙ ap (rank turn.branch.now.bytes) (sym edge), (let most = ranked.1 in omega arith)))
 

@@ -28,7 +28,8 @@ drop_there zero (first ∷ pairs) pair there = ap (λ p. p ∷ pairs) (same_Some
 drop_there (suc at) (first ∷ pairs) pair there = drop_there at pairs pair there
 
 -- From a place on stands its pair, and then the others.
-pub stretch_step : (base at next : ℕ) (pairs : Pairs) (key value : ℕ) → next ≡ suc at → slice_get pairs at ≡ Some (key, value) → shift base (drop at pairs) ≡ (base + key, value) ∷ shift base (drop next pairs)
+pub stretch_step : (base at next : ℕ) (pairs : Pairs) (key value : ℕ) → next ≡ suc at → slice_get pairs at ≡ Some (key, value) →
+    shift base (drop at pairs) ≡ (base + key, value) ∷ shift base (drop next pairs)
 stretch_step base at next pairs key value sum there =
     ap (shift base) (drop_there at pairs (key, value) there) ∙ ap (λ n. (base + key, value) ∷ shift base (drop n pairs)) (sym sum)
 
@@ -57,7 +58,8 @@ pub waiting-push : {V : _} (turns : List (Option (Turn V))) (turn : Option (Turn
 waiting-push [] turn = sym (append-nil (rest_if_any turn))
 waiting-push (first ∷ turns) turn = ap (λ ps. ps ++ rest_if_any first) (waiting-push turns turn) ∙ append_assoc (rest_if_any turn) (waiting turns) (rest_if_any first)
 
-pub turns-push : {V : _} (words before : ℕ) (turns : List (Option (Turn V))) (turn : Option (Turn V)) (all : ℕ) → all ≡ before + length turns → AreTurns words before turns → IsTurnBehind words all turn
+pub turns-push : {V : _} (words before : ℕ) (turns : List (Option (Turn V))) (turn : Option (Turn V)) (all : ℕ) → all ≡ before + length turns → AreTurns words before turns →
+    IsTurnBehind words all turn
     → AreTurns words before (turns ++ turn ∷ [])
 turns-push words before [] turn all sum are is = (subst (λ n. IsTurnBehind words n turn) (let e : all ≡ before = omega arith in e) is, tt)
 turns-push words before (first ∷ turns) turn all sum are is = (are.0, turns-push words (suc before) turns turn all (omega arith) are.1 is)
@@ -77,10 +79,11 @@ module _ {V : _} (words : ℕ) (old new : List (Option (Turn V))) (last : Option
   left_turns = apart.0
 
   pub taken_pairs : MatchOption last ((waiting old ≡ []) × (waiting new ≡ [])) (λ turn. waiting old ≡ rest_of_turn turn ++ waiting new)
-  taken_pairs = elim last as (λ turn. old ≡ new ++ turn ∷ [] → IsTurnBehind words (length new) turn → MatchOption turn ((waiting old ≡ []) × (waiting new ≡ [])) (λ turn. waiting old ≡ rest_of_turn turn ++ waiting new)) [
-    | None ↦ λ is behind. absurd behind
-    | Some turn ↦ λ is behind. ap waiting is ∙ waiting-push new (Some turn)
-  ] taken apart.1
+  taken_pairs = elim last as (λ turn. old ≡ new ++ turn ∷ [] → IsTurnBehind words (length new) turn →
+      MatchOption turn ((waiting old ≡ []) × (waiting new ≡ [])) (λ turn. waiting old ≡ rest_of_turn turn ++ waiting new)) [
+        | None ↦ λ is behind. absurd behind
+        | Some turn ↦ λ is behind. ap waiting is ∙ waiting-push new (Some turn)
+      ] taken apart.1
 
   pub taken_turn : MatchOption last (0 ≤ 0) (λ turn. IsTurn words turn × (length new + 1 + turn.branch.now.width ≤ 8) × IsFirst turn)
   taken_turn = elim last as (λ turn. IsTurnBehind words (length new) turn → MatchOption turn (0 ≤ 0) (λ turn. IsTurn words turn × (length new + 1 + turn.branch.now.width ≤ 8) × IsFirst turn)) [
@@ -112,12 +115,15 @@ pub record IsEntered {V : _} (words width : ℕ) (skipped bytes : List ℕ) (kid
   pub same : kid ≡ get_or kids place kid
   pub view : IsView words width kid next
 
-pub entered_of : {V : _} {words width : ℕ} {skipped bytes : List ℕ} {kids : List Tree} {count place start byte : ℕ} {kid : Tree} {next : ViewOf V} → IsBranch words width skipped bytes kids count → place < length kids
+pub entered_of : {V : _} {words width : ℕ} {skipped bytes : List ℕ} {kids : List Tree} {count place start byte : ℕ} {kid : Tree} {next : ViewOf V} →
+    IsBranch words width skipped bytes kids count → place < length kids
     → slice_get bytes place ≡ Some byte → start ≡ (number_of skipped * 256 + byte) * 256 ^ width → kid ≡ get_or kids place kid → IsView words width kid next
     → IsEntered words width skipped bytes kids count place start kid next
-entered_of {V} {words} {width} {skipped} {bytes} {kids} {count} {place} {start} {byte} is inside there begins same view = record { is = is; inside = inside; from = (byte, there, begins); same = same; view = view }
+entered_of {V} {words} {width} {skipped} {bytes} {kids} {count} {place} {start} {byte} is inside there begins same view =
+    record { is = is; inside = inside; from = (byte, there, begins); same = same; view = view }
 
-module _ {V : _} {words width : ℕ} {skipped bytes : List ℕ} {kids : List Tree} {count place start : ℕ} {kid : Tree} {next : ViewOf V} (it : IsEntered words width skipped bytes kids count place start kid next) where
+module _ {V : _} {words width : ℕ} {skipped bytes : List ℕ} {kids : List Tree} {count place start : ℕ} {kid : Tree} {next : ViewOf V}
+    (it : IsEntered words width skipped bytes kids count place start kid next) where
   child : IsChild words width kid
   child = kid_is words width skipped bytes kids count it.is 0 place kid it.inside it.same
 

@@ -13,7 +13,9 @@ use Rattle.judy_query.specs.Parts.{passed, reached, byte_passed, byte_behind}
 
 -- The pairs of the child that a turn leads to, as the tree has them.
 abbrev pub turn_pairs : {V : _} → Turn V → Pairs
-turn_pairs turn = shift turn.base (join (256 ^ turn.branch.now.width) (number_of turn.branch.now.skip * 256) (take 1 (drop turn.place turn.branch.now.bytes)) (take 1 (drop turn.place turn.branch.now.children.items)))
+turn_pairs turn =
+    shift turn.base (join (256 ^ turn.branch.now.width) (number_of turn.branch.now.skip * 256) (take 1 (drop turn.place turn.branch.now.bytes))
+    (take 1 (drop turn.place turn.branch.now.children.items)))
 
 -- A turn leads to a child of a branch, whose keys begin at a word and fit the words.
 pub record IsTurn {V : _} (words : ℕ) (turn : Turn V) : Type 0 where

@@ -23,8 +23,8 @@ macro_rules! absent_in {
 }
 
 impl Side {
-    /// The nearest word from a key on, of a node's width, that is no key of the node, which has no children; none where all of these are
-    /// keys.
+    /// The nearest word from a key on, of a node's width, that is no key of the node, which has no children; none where
+    /// all of these are keys.
     // Where a node was just entered its kind is known: by a call it would be written to memory and told anew.
     #[inline(always)]
     pub(crate) fn absent<V: Words + Drop>(

@@ -12,8 +12,8 @@ use judy_bits::Meter;
 use judy_leaf::Words;
 use judy_node::{NodeOf, Step, ViewOf};
 
-/// The least key that isn't below a word, with its value, 0 where keys have no value; `None` where all are below. At most 15 visits; the
-/// meter stands at most at `u64::MAX - 16`.
+/// The least key that isn't below a word, with its value, 0 where keys have no value; `None` where all are below. At
+/// most 15 visits; the meter stands at most at `u64::MAX - 16`.
 // Within the call that asks, the answer needn't be written to memory and read back from there.
 #[inline(always)]
 pub fn entry_at_or_after<V: Words + Drop>(

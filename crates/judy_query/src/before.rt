@@ -12,8 +12,8 @@ use judy_bits::Meter;
 use judy_leaf::Words;
 use judy_node::{NodeOf, Step, ViewOf};
 
-/// The greatest key that isn't above a word, with its value, 0 where keys have no value; `None` where all are above. At most 15 visits;
-/// the meter stands at most at `u64::MAX - 16`.
+/// The greatest key that isn't above a word, with its value, 0 where keys have no value; `None` where all are above. At
+/// most 15 visits; the meter stands at most at `u64::MAX - 16`.
 // As `entry_at_or_after`.
 #[inline(always)]
 pub fn entry_at_or_before<V: Words + Drop>(

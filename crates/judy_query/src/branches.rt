@@ -71,7 +71,8 @@ pub(crate) fn start_of<V: Words + Drop>(branch: &BranchOf<V>, place: usize) -> u
     start_at(branch, branch.byte_at(place))
 }
 
-/// The same for the first child from a byte on, whose place is known: its own byte is the next one in the set, and none are counted.
+/// The same for the first child from a byte on, whose place is known: its own byte is the next one in the set, and none
+/// are counted.
 pub(crate) fn start_from<V: Words + Drop>(branch: &BranchOf<V>, place: usize, from: u64) -> u64
     requires branch { IsWholeBranch V.WORDS branch.now }
     requires place { place < length branch.now.children.items }
@@ -82,7 +83,8 @@ pub(crate) fn start_from<V: Words + Drop>(branch: &BranchOf<V>, place: usize, fr
     start_at(branch, byte_from(branch, place, from))
 }
 
-/// The byte of the first child from a byte on, whose place is known. Where all 256 children stand, that place is the byte.
+/// The byte of the first child from a byte on, whose place is known. Where all 256 children stand, that place is the
+/// byte.
 pub(crate) fn byte_from<V: Words + Drop>(branch: &BranchOf<V>, place: usize, from: u64) -> u8
     requires branch { IsWholeBranch V.WORDS branch.now }
     requires place { place < length branch.now.children.items }
@@ -98,7 +100,8 @@ pub(crate) fn byte_from<V: Words + Drop>(branch: &BranchOf<V>, place: usize, fro
     }
 }
 
-/// Where the keys of the last child below a byte begin, whose place is known: its own byte is the one before in the set.
+/// Where the keys of the last child below a byte begin, whose place is known: its own byte is the one before in the
+/// set.
 pub(crate) fn start_below<V: Words + Drop>(branch: &BranchOf<V>, place: usize, below: u64) -> u64
     requires branch { IsWholeBranch V.WORDS branch.now }
     requires place { place < length branch.now.children.items }
@@ -141,8 +144,8 @@ pub(crate) fn start_at<V: Words + Drop>(branch: &BranchOf<V>, byte: u8) -> u64
     )
 }
 
-/// The child that has the n-th of the keys below, counted from 0, and which of its own keys it is: at either end it is known without
-/// a count.
+/// The child that has the n-th of the keys below, counted from 0, and which of its own keys it is: at either end it is
+/// known without a count.
 // Inside a way down to first keys nothing is left of it.
 #[inline(always)]
 pub(crate) fn holding<V: Words + Drop>(branch: &BranchOf<V>, n: u64) -> (usize, u64)

@@ -11,8 +11,8 @@ use judy_bits::Meter;
 use judy_leaf::Words;
 use judy_node::{NodeOf, Step, ViewOf};
 
-/// How many keys are below a word; below 0 there is none, and no node is entered. At most 8 visits; the meter stands at most at
-/// `u64::MAX - 16`.
+/// How many keys are below a word; below 0 there is none, and no node is entered. At most 8 visits; the meter stands at
+/// most at `u64::MAX - 16`.
 pub fn rank<V: Words + Drop>(tree: &NodeOf<V>, key: u64, meter: &mut Meter) -> u64
     requires { meter.old ≤ 2 ^ 64 - 17 }
     ensures value { result ≡ counts.rank (map_of tree.now.pairs) key }

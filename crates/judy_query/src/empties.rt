@@ -14,8 +14,8 @@ use judy_bits::Meter;
 use judy_leaf::Words;
 use judy_node::{ChildOf, NodeOf, Step, ViewOf};
 
-/// The nearest word from a key on, to one side, that is no key of the tree; `None` where all of these are keys. At most 15 visits; the meter
-/// stands at most at `u64::MAX - 16`.
+/// The nearest word from a key on, to one side, that is no key of the tree; `None` where all of these are keys. At most
+/// 15 visits; the meter stands at most at `u64::MAX - 16`.
 // Compiled where it is asked for, since the side is known there.
 #[inline(always)]
 pub fn nearest_empty<V: Words + Drop>(
@@ -42,6 +42,7 @@ pub(crate) fn empty_beside<V: Words + Drop, M: Sparing>(
 ) -> Option<u64>
     requires { M.visits meter.old ≤ 2 ^ 64 - 17 }
     ensures word { result ≡ nearest_empty side (map_of tree.now.pairs) key }
+    ensures spared { M.full meter.new ≡ M.full meter.old }
     ensures no_fewer { M.visits meter.old ≤ M.visits meter.new }
     ensures visits { M.visits meter.new ≤ M.visits meter.old + most_visits_near }
 {
@@ -53,9 +54,9 @@ pub(crate) fn empty_beside<V: Words + Drop, M: Sparing>(
     }
 }
 
-// Goes down the way of a key as far as nodes aren't full. Mostly the word is met where the way ends, so what is beside the way is looked for
-// only where it ends in a run of keys, and beside the branch above only where the last one has no room. But of a third branch on, what is
-// beside the first is looked for as it is passed, so that no list is kept.
+// Goes down the way of a key as far as nodes aren't full. Mostly the word is met where the way ends, so what is beside
+// the way is looked for only where it ends in a run of keys, and beside the branch above only where the last one has no
+// room. But of a third branch on, what is beside the first is looked for as it is passed, so that no list is kept.
 #[inline(always)]
 fn seek<'a, V: Words + Drop, M: Sparing>(
     side: Side,
@@ -66,6 +67,7 @@ fn seek<'a, V: Words + Drop, M: Sparing>(
     requires { M.visits meter.old ≤ 2 ^ 64 - 17 }
     ensures room { IsRoom side V.WORDS tree.now.pairs (low_of side key)
         (high_of side key (2 ^ 64)) result }
+    ensures spared { M.full meter.new ≡ M.full meter.old }
     ensures no_fewer { M.visits meter.old ≤ M.visits meter.new }
     ensures visits { M.visits meter.new ≤ M.visits meter.old + most_visits_down }
 {
@@ -108,7 +110,8 @@ fn seek<'a, V: Words + Drop, M: Sparing>(
 }
 
 // The nearest room past a child, and where its branch has none there, past the child that was passed above it.
-// Within its caller, but a function: what the call is given and answers through memory is written there only where it is made.
+// Within its caller, but a function: what the call is given and answers through memory is written there only where it
+// is made.
 #[inline(always)]
 fn room_beside<'a, V: Words + Drop>(
     side: Side,
@@ -182,6 +185,7 @@ fn nearest_in<V: Words + Drop, M: Sparing>(
     requires narrow { width ≤ 7 }
     requires room { length child.now.pairs < 256 ^ width }
     ensures word { IsAbsent side child.now.pairs 0 (256 ^ width) (Some result) }
+    ensures spared { M.full meter.new ≡ M.full meter.old }
     ensures no_fewer { M.visits meter.old ≤ M.visits meter.new }
     ensures visits { M.visits meter.new ≤ M.visits meter.old + width }
 {

@@ -12,7 +12,8 @@ use judy_leaf::{BitRef, ImmOf, LeafRef, Words};
 use judy_node::ViewOf;
 
 /// The value of a key, 0 where keys have no value; none where the key is absent.
-// Inside a look-up the node at the way's end stays in registers, and its kind, where that was just told, isn't told again.
+// Inside a look-up the node at the way's end stays in registers, and its kind, where that was just told, isn't told
+// again.
 #[inline(always)]
 pub(crate) fn value_in<V: Words + Drop>(view: &ViewOf<'_, V>, key: u64) -> Option<u64>
     requires end { IsEnd view.now }

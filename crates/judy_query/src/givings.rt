@@ -56,8 +56,8 @@ macro_rules! give_list {
     }};
 }
 
-/// Writes what stands for all the pairs to the front of a slice, and answers how many these are; none, and then nothing is written,
-/// where they don't fit, or the node is a branch.
+/// Writes what stands for all the pairs to the front of a slice, and answers how many these are; none, and then nothing
+/// is written, where they don't fit, or the node is a branch.
 // Where a node was just entered its kind is known: by a call it would be written to memory and told anew.
 #[inline(always)]
 pub(crate) fn give_whole<V: Words + Drop, E: FromPair>(

@@ -1,7 +1,8 @@
 //! The values of many keys.
 //!
-//! A look-up waits for the memory of a node before it knows the next one. The ways of several keys don't wait for each other: so all are
-//! gone down first, and then all their ends are looked into, and the processor reads the nodes of several ways at a time.
+//! A look-up waits for the memory of a node before it knows the next one. The ways of several keys don't wait for each
+//! other: so all are gone down first, and then all their ends are looked into, and the processor reads the nodes of
+//! several ways at a time.
 
 ghost use Rattle.std.specs.Prelude.{◌≡◌, ◌+◌, ◌-◌, ◌*◌, ◌^◌, ◌≤◌, [], length, map};
 ghost use Rattle.std.specs.List.{All};
@@ -24,8 +25,9 @@ pub const MOST_WAYS: usize = 16;
 // Where the ways of some keys end.
 type Ends<'a, V> = ArrayVec<Option<(ViewOf<'a, V>, u64)>, 16>;
 
-/// Writes the values of keys, at most [`MOST_WAYS`] of them, to the places of these: for each what `lookup` answers, 0 where keys have no
-/// value, and `None` where the key is absent. At most 8 visits a key; the meter stands at most at `u64::MAX - 144`. No memory is asked for.
+/// Writes the values of keys, at most [`MOST_WAYS`] of them, to the places of these: for each what `lookup` answers, 0
+/// where keys have no value, and `None` where the key is absent. At most 8 visits a key; the meter stands at most at
+/// `u64::MAX - 144`. No memory is asked for.
 pub fn lookup_many<V: Words + Drop>(
     tree: &NodeOf<V>,
     keys: &[u64],

@@ -12,8 +12,8 @@ use judy_bits::Meter;
 use judy_leaf::Words;
 use judy_node::{NodeOf, ViewOf};
 
-/// The key at a place among all keys by ascending order, counted from 0, with its value, 0 where keys have no value; `None` from the number
-/// of keys on. At most 8 visits; the meter stands at most at `u64::MAX - 16`.
+/// The key at a place among all keys by ascending order, counted from 0, with its value, 0 where keys have no value;
+/// `None` from the number of keys on. At most 8 visits; the meter stands at most at `u64::MAX - 16`.
 // Where nobody asks for the value it isn't read.
 #[inline(always)]
 pub fn entry_nth<V: Words + Drop>(tree: &NodeOf<V>, place: u64, meter: &mut Meter) -> Option<Entry>
@@ -30,8 +30,10 @@ pub fn entry_nth<V: Words + Drop>(tree: &NodeOf<V>, place: u64, meter: &mut Mete
     Some(entry_below(view, place, meter))
 }
 
-/// The pair at a place in a node that was entered, whose keys have so many bytes: the ways to it enter one node less at most.
-// Inside its callers the node needn't be put together in memory. Where it isn't a branch its kind, which was just told, isn't told again.
+/// The pair at a place in a node that was entered, whose keys have so many bytes: the ways to it enter one node less at
+/// most.
+// Inside its callers the node needn't be put together in memory. Where it isn't a branch its kind, which was just told,
+// isn't told again.
 #[inline(always)]
 pub(crate) fn entry_below<V: Words + Drop>(
     top: ViewOf<'_, V>,

@@ -1,5 +1,5 @@
-//! Where a branch has room: its first and its last word that is no key, from a byte on. Children that are full are passed over by the
-//! number of their keys.
+//! Where a branch has room: its first and its last word that is no key, from a byte on. Children that are full are
+//! passed over by the number of their keys.
 
 ghost use Rattle.std.specs.Prelude.{◌≡◌, ◌+◌, ◌-◌, ◌*◌, ◌^◌, ◌<◌, ◌≤◌, ◌==◌, nat_lt, length};
 ghost use Rattle.judy_model.specs.WordBytes.{number_of};
@@ -61,7 +61,8 @@ pub fn last_word(width: u8) -> u64
     moved_up(1, usize::from(width)) - 1
 }
 
-/// The least word of the block of a byte, or the one behind the block of byte 255, where the branch's words begin at a base.
+/// The least word of the block of a byte, or the one behind the block of byte 255, where the branch's words begin at a
+/// base.
 fn start_of<V: Words + Drop>(branch: &BranchOf<V>, byte: u64, base: u64) -> u64
     requires branch { IsWholeBranch V.WORDS branch.now }
     requires within { base + (number_of branch.now.skip * 256 + byte) * 256 ^ branch.now.width
@@ -79,7 +80,8 @@ pub fn has_next(number: u64, bytes: usize) -> bool
     number < without_low(u64::MAX, 8 - bytes)
 }
 
-/// The first room of a branch from an edge on, a byte or 256, which is behind them all. So many children as the place have lesser bytes.
+/// The first room of a branch from an edge on, a byte or 256, which is behind them all. So many children as the place
+/// have lesser bytes.
 pub(crate) fn room_from<V: Words + Drop>(first: Turn<'_, V>) -> Room<'_, V>
     requires { IsEdge V.WORDS first }
     ensures width { HasWidth first.entry.branch.now.width result }

@@ -11,7 +11,8 @@ use crate::ends::entry_in;
 use judy_leaf::{BitRef, Words};
 use judy_node::ViewOf;
 
-/// From where the keys of a bitmap leaf from a place on are looked for: behind the key before that place. 0 for other nodes.
+/// From where the keys of a bitmap leaf from a place on are looked for: behind the key before that place. 0 for other
+/// nodes.
 pub(crate) fn byte_before<V: Words + Drop>(view: &ViewOf<'_, V>, at: u64) -> u64
     requires shown { IsShown V.WORDS view.now }
     requires within { at ≤ length (view_pairs view.now) }
@@ -27,7 +28,8 @@ pub(crate) fn byte_before<V: Words + Drop>(view: &ViewOf<'_, V>, at: u64) -> u64
     }
 }
 
-/// The pair at a place, counted from 0. In a bitmap leaf its key is looked for from a byte on, which then moves behind it.
+/// The pair at a place, counted from 0. In a bitmap leaf its key is looked for from a byte on, which then moves behind
+/// it.
 pub(crate) fn entry_on<V: Words + Drop>(view: &ViewOf<'_, V>, at: u64, byte: &mut u64) -> (u64, u64)
     requires end { IsEnd view.now }
     requires shown { IsShown V.WORDS view.now }

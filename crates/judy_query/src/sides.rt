@@ -11,7 +11,8 @@ use crate::turns::Turn;
 use judy_leaf::Words;
 use judy_node::BranchOf;
 
-/// To which side of a key a word is sought that is no key. Whoever asks names it, and each search for one side is compiled by itself.
+/// To which side of a key a word is sought that is no key. Whoever asks names it, and each search for one side is
+/// compiled by itself.
 #[derive(Clone, Copy)]
 pub enum Side {
     /// From the key up.
@@ -50,7 +51,8 @@ impl Side {
         }
     }
 
-    /// The room of a branch that is met first of all its words. They have so many bytes, at most 7, and begin at a base.
+    /// The room of a branch that is met first of all its words. They have so many bytes, at most 7, and begin at a
+    /// base.
     #[inline(always)]
     pub(crate) fn room_of<V: Words + Drop>(
         self,

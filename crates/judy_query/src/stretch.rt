@@ -14,8 +14,8 @@ use judy_leaf::{FromPair, Words};
 use judy_node::ViewOf;
 use std::marker::Model;
 
-/// The pairs of a node that isn't a branch, from a place on, their keys counted from a base. To its callers it is the list of
-/// those that are left.
+/// The pairs of a node that isn't a branch, from a place on, their keys counted from a base. To its callers it is the
+/// list of those that are left.
 #[derive(Drop)]
 pub(crate) struct Stretch<'a, V: Words + Drop> {
     view: ViewOf<'a, V>,
@@ -71,8 +71,8 @@ impl<'a, V: Words + Drop> Stretch<'a, V> {
         Some((self.base + key, value))
     }
 
-    /// Writes what stands for the next pairs to the front of a slice, as many as there are and it has places for, and answers how many
-    /// these are.
+    /// Writes what stands for the next pairs to the front of a slice, as many as there are and it has places for, and
+    /// answers how many these are.
     pub(crate) fn fill<E: FromPair>(&mut self, out: &mut [E]) -> usize
         ensures given { AreGiven E.made self.old self.new out.old out.new result }
         ensures most { result ≡ min (length out.old) (length self.old) }

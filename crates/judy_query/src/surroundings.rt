@@ -16,9 +16,10 @@ use judy_bits::Meter;
 use judy_leaf::{LeafRef, Words};
 use judy_node::{NodeOf, Step, ViewOf};
 
-/// The value of a key, 0 where keys have no value, `None` where it is absent; and the least key above it with the value of that one,
-/// `None` where no key is above it. At most 15 visits; the meter stands at most at `u64::MAX - 16`.
-// Most keys have the next one beside them in the node where their own way ends. It is compiled into its caller as `entry_at_or_after` is.
+/// The value of a key, 0 where keys have no value, `None` where it is absent; and the least key above it with the value
+/// of that one, `None` where no key is above it. At most 15 visits; the meter stands at most at `u64::MAX - 16`.
+// Most keys have the next one beside them in the node where their own way ends. It is compiled into its caller as
+// `entry_at_or_after` is.
 #[inline(always)]
 pub fn around<V: Words + Drop>(
     tree: &NodeOf<V>,

@@ -1,4 +1,5 @@
-//! Where the search for a neighbour turns off the way of its key: to the nearest child beside the way, on the neighbour's side.
+//! Where the search for a neighbour turns off the way of its key: to the nearest child beside the way, on the
+//! neighbour's side.
 
 ghost use Rattle.std.specs.Prelude.{◌≡◌, ◌+◌, ◌-◌, ◌*◌, ◌^◌, ◌<◌, ◌≤◌, length, drop, slice_get, Some};
 ghost use Rattle.std.specs.Option.{option_or};
@@ -19,9 +20,10 @@ use judy_bits::Meter;
 use judy_leaf::Words;
 use judy_node::{BranchOf, Step};
 
-/// A child beside the way: its branch, its place there, and where the keys of the branch begin. Its own byte is found without a count,
-/// from its edge: the byte from which on it is the first child, for what is behind the way, or below which it is the last, for what is
-/// in front. The search for a word that is no key turns off at a child of its way, whose edge is its own byte.
+/// A child beside the way: its branch, its place there, and where the keys of the branch begin. Its own byte is found
+/// without a count, from its edge: the byte from which on it is the first child, for what is behind the way, or below
+/// which it is the last, for what is in front. The search for a word that is no key turns off at a child of its way,
+/// whose edge is its own byte.
 #[derive(Drop)]
 pub(crate) struct Turn<'a, V: Words + Drop> {
     pub(crate) branch: &'a BranchOf<V>,
@@ -30,8 +32,8 @@ pub(crate) struct Turn<'a, V: Words + Drop> {
     pub(crate) edge: u64,
 }
 
-/// The turn to the nearest child beside a key, on one side, in a branch whose keys begin at `base`, by the key's step there; where there is
-/// none, the one before.
+/// The turn to the nearest child beside a key, on one side, in a branch whose keys begin at `base`, by the key's step
+/// there; where there is none, the one before.
 // The side is known where this is asked for.
 #[inline(always)]
 pub(crate) fn turn_to<'a, V: Words + Drop>(
@@ -114,8 +116,8 @@ pub(crate) fn least<V: Words + Drop>(turn: Option<Turn<'_, V>>, meter: &mut Mete
     Some(turn.entry_at(start, 0, meter))
 }
 
-/// The first pair behind a key in a branch whose keys begin at `base`, by the key's step there; where there is none, that of the turn
-/// before.
+/// The first pair behind a key in a branch whose keys begin at `base`, by the key's step there; where there is none,
+/// that of the turn before.
 // Mostly there is one, and then the turn before needn't be read.
 #[inline(always)]
 pub(crate) fn pair_behind<V: Words + Drop>(
@@ -157,7 +159,8 @@ pub(crate) fn pair_behind<V: Words + Drop>(
 }
 
 // The pair of a turn further up, which is rare.
-// Within its caller, but a function: what the call is given and answers through memory is written there only where it is made.
+// Within its caller, but a function: what the call is given and answers through memory is written there only where it
+// is made.
 #[inline(always)]
 fn pair_further_up<V: Words + Drop>(turn: Option<Turn<'_, V>>, meter: &mut Meter) -> Option<Entry>
     requires turn { IsLater V.WORDS turn }

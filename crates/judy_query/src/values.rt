@@ -16,8 +16,8 @@ use judy_bits::Meter;
 use judy_leaf::Words;
 use judy_node::{BranchOf, NodeOf, Step, ViewOf};
 
-/// The value of a key, 0 where keys have no value; `None` where it is absent. At most 8 visits; the meter stands at most at
-/// `u64::MAX - 16`.
+/// The value of a key, 0 where keys have no value; `None` where it is absent. At most 8 visits; the meter stands at
+/// most at `u64::MAX - 16`.
 pub fn lookup<V: Words + Drop>(tree: &NodeOf<V>, key: u64, meter: &mut Meter) -> Option<u64>
     requires { meter.old ≤ 2 ^ 64 - 17 }
     ensures value { result ≡ map.get (map_of tree.now.pairs) key }
@@ -41,7 +41,8 @@ pub enum Start<'a, V: Words + Drop> {
 }
 
 /// Begins a look-up: one visit, of the root. The meter stands below `u64::MAX`.
-// A small array is one leaf at the root, and its search is hardly more than a call: so this is compiled into its callers, and the rest isn't.
+// A small array is one leaf at the root, and its search is hardly more than a call: so this is compiled into its
+// callers, and the rest isn't.
 // One pair isn't asked for here, since each look-up of other arrays would ask with it.
 #[inline(always)]
 pub fn lookup_start<'a, V: Words + Drop>(
@@ -61,7 +62,8 @@ pub fn lookup_start<'a, V: Words + Drop>(
     }
 }
 
-/// The same beside the only pair, where the root is one: one visit, of the root, and the meter as for `lookup_start`. Of any other root `Other`.
+/// The same beside the only pair, where the root is one: one visit, of the root, and the meter as for `lookup_start`.
+/// Of any other root `Other`.
 #[inline(always)]
 pub fn lookup_one<'a, V: Words + Drop>(
     tree: &'a NodeOf<V>,
@@ -79,7 +81,8 @@ pub fn lookup_one<'a, V: Words + Drop>(
     }
 }
 
-/// Goes on with a look-up from a branch at the root: at most 7 visits more. The meter stands at most at `u64::MAX - 16`.
+/// Goes on with a look-up from a branch at the root: at most 7 visits more. The meter stands at most at
+/// `u64::MAX - 16`.
 #[inline(always)]
 pub fn lookup_further<V: Words + Drop>(
     branch: &BranchOf<V>,
@@ -100,8 +103,8 @@ pub fn lookup_further<V: Words + Drop>(
     value_in(&end, left)
 }
 
-/// The node without children that a key leads to, and what is left of the key there; none where its way ends beside a child. At most
-/// 8 visits, and the meter as for `lookup`.
+/// The node without children that a key leads to, and what is left of the key there; none where its way ends beside a
+/// child. At most 8 visits, and the meter as for `lookup`.
 // As `end_of_way`.
 #[inline(always)]
 pub(crate) fn way_of<'a, V: Words + Drop>(
@@ -122,7 +125,8 @@ pub(crate) fn way_of<'a, V: Words + Drop>(
     }
 }
 
-// The node without children that a key of a branch leads to, and what is left of the key there; none where the way ends beside a child.
+// The node without children that a key of a branch leads to, and what is left of the key there; none where the way ends
+// beside a child.
 // A node that was entered goes round the loop only where it is a branch, so that its kind is asked for once.
 #[inline(always)]
 fn end_of_way<'a, V: Words + Drop>(

@@ -14,11 +14,12 @@ use arrayvec::ArrayVec;
 use judy_leaf::Words;
 use judy_node::BranchOf;
 
-/// Turns, the lowest one last: each leads to the next child of its branch that the walk hasn't come to, and each branch stands below
-/// the one before. No place among them is empty.
+/// Turns, the lowest one last: each leads to the next child of its branch that the walk hasn't come to, and each branch
+/// stands below the one before. No place among them is empty.
 pub(crate) type Turns<'a, V> = ArrayVec<Option<Turn<'a, V>>, 8>;
 
-/// Keeps the children of a branch from a place on, the first from a byte on, if there are any. The branch stands below those of all turns.
+/// Keeps the children of a branch from a place on, the first from a byte on, if there are any. The branch stands below
+/// those of all turns.
 pub(crate) fn keep<'a, V: Words + Drop>(
     branch: &'a BranchOf<V>,
     place: usize,

@@ -23,9 +23,9 @@ use judy_leaf::{FromPair, Words};
 use judy_node::{NodeOf, Step, ViewOf};
 use std::marker::Model;
 
-/// The pairs of a tree that are still to come, by ascending key: each is a key with its value, 0 where keys have no values. A step
-/// inside a node enters none, and a step to another one enters the nodes between the branch that both are below and that node. To its
-/// callers it is the list of those pairs.
+/// The pairs of a tree that are still to come, by ascending key: each is a key with its value, 0 where keys have no
+/// values. A step inside a node enters none, and a step to another one enters the nodes between the branch that both
+/// are below and that node. To its callers it is the list of those pairs.
 #[derive(Drop)]
 pub struct Walk<'a, V: Words + Drop> {
     stretch: Stretch<'a, V>,
@@ -44,8 +44,8 @@ impl<'a, V: Words + Drop> Model for Walk<'a, V> {
 }
 
 impl<'a, V: Words + Drop> Walk<'a, V> {
-    /// The pairs of a tree whose keys aren't below a word. At most 8 visits; the meter stands at most at `u64::MAX - 16`. No
-    /// memory is asked for.
+    /// The pairs of a tree whose keys aren't below a word. At most 8 visits; the meter stands at most at
+    /// `u64::MAX - 16`. No memory is asked for.
     pub fn from_key(tree: &'a NodeOf<V>, key: u64, meter: &mut Meter) -> Walk<'a, V>
         requires { meter.old ≤ 2 ^ 64 - 17 }
         ensures pairs { result ≡ drop (set.rank (keys_of tree.now.pairs) key) tree.now.pairs }
@@ -57,8 +57,8 @@ impl<'a, V: Words + Drop> Walk<'a, V> {
         Walk { stretch, turns }
     }
 
-    /// Lets the walk be [`Walk::from_key`] of a tree, whatever it was: it has the room of eight branches, which is made and moved once
-    /// so for many trees. Visits and meter as there.
+    /// Lets the walk be [`Walk::from_key`] of a tree, whatever it was: it has the room of eight branches, which is made
+    /// and moved once so for many trees. Visits and meter as there.
     pub fn restart(&mut self, tree: &'a NodeOf<V>, key: u64, meter: &mut Meter)
         requires { meter.old ≤ 2 ^ 64 - 17 }
         ensures pairs { self.new ≡ drop (set.rank (keys_of tree.now.pairs) key) tree.now.pairs }
@@ -92,9 +92,9 @@ impl<'a, V: Words + Drop> Walk<'a, V> {
         self.stretch.next()
     }
 
-    /// Writes what stands for the next pairs to the front of a slice, as many as there are and it has places for, and answers how many
-    /// these are: fewer than there are places for are the last ones. The nodes below one branch are written one after another. At most
-    /// 7 visits a pair; the meter has room for those of all places.
+    /// Writes what stands for the next pairs to the front of a slice, as many as there are and it has places for, and
+    /// answers how many these are: fewer than there are places for are the last ones. The nodes below one branch are
+    /// written one after another. At most 7 visits a pair; the meter has room for those of all places.
     pub fn fill<E: FromPair>(&mut self, out: &mut [E], meter: &mut Meter) -> usize
         requires { meter.old + most_visits_below * length out.old ≤ 2 ^ 64 - 17 }
         ensures given { AreGiven E.made self.old self.new out.old out.new result }
@@ -186,8 +186,9 @@ fn enter_child<'a, V: Words + Drop>(
     (view, base + start_at(branch, byte))
 }
 
-// Writes what stands for the pairs that a turn leads to, and those behind it in its branch, to the front of a slice that has a place,
-// as many as fit: whole nodes while they fit and have no children, and then the first pairs below the next node, whose others are left.
+// Writes what stands for the pairs that a turn leads to, and those behind it in its branch, to the front of a slice
+// that has a place, as many as fit: whole nodes while they fit and have no children, and then the first pairs below the
+// next node, whose others are left.
 fn give_from<'a, V: Words + Drop, E: FromPair>(
     turn: Turn<'a, V>,
     turns: &mut Turns<'a, V>,

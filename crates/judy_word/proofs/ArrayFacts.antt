@@ -45,7 +45,8 @@ kept-there added false kept same = sym kept ∙ same
 
 -- What a key that is there becomes in the tree, it becomes in the array.
 module _ (old new : Held) (is : IsHeld 1 old) (key value : ℕ) where
-  pub put-seen : {E : Type 0} (result : Result Bool E) → IfOk result (λ added. added ≡ not (contains_key (map_in old) key)) → IfOk result (λ added. added ≡ false → new ≡ held.with_value old key value) → IfOk result (λ added. added ≡ false → seen_as new ≡ with_value (seen_as old) key value)
+  pub put-seen : {E : Type 0} (result : Result Bool E) → IfOk result (λ added. added ≡ not (contains_key (map_in old) key)) →
+      IfOk result (λ added. added ≡ false → new ≡ held.with_value old key value) → IfOk result (λ added. added ≡ false → seen_as new ≡ with_value (seen_as old) key value)
   put-seen (Ok added) answer present = λ kept. ap seen_as (present kept) ∙ array-written old is key (kept-there added (contains_key (map_in old) key) kept answer) value
   put-seen (Err refused) answer present = tt
 
@@ -70,7 +71,8 @@ pub value-there : {value : ℕ} {found : Option ℕ} → Some value ≡ found �
 value-there some = ap is_some (sym some)
 
 -- Two loans that may be none are equal where they end alike for each value that may be left.
-lent_if : {D : Type 0} (result : Option (MutBor ℕ)) (first second : ℕ → D) (none : D) → ((before : ℕ) → option_copied_mut result ≡ Some before → (left : ℕ) → first left ≡ second left) → read_of (ghost_name_of result) first none ≡ read_of (ghost_name_of result) second none
+lent_if : {D : Type 0} (result : Option (MutBor ℕ)) (first second : ℕ → D) (none : D) → ((before : ℕ) → option_copied_mut result ≡ Some before → (left : ℕ) → first left ≡ second left) →
+    read_of (ghost_name_of result) first none ≡ read_of (ghost_name_of result) second none
 lent_if None first second none same = refl
 lent_if (Some slot) first second none same = λ t. read_of (ghost_name_of (Some slot)) (λ left. same slot.now refl left t) none
 

@@ -15,7 +15,8 @@ module _ (words limit key : ℕ) (old : Tree) (loose : Bool) (node : IsNode word
   no_value none = let never : ⊥ = omega arith in absurd never
 
   -- The array keeps its bounds.
-  pub bounded-exchanged : (was : Option ℕ) → is_full (array_in (record { limit = limit; tree = old; loose = loose })) key ≡ false → IsExchanged {E = ℕ} key value old new (Ok was) → IsBounded limit new loose
+  pub bounded-exchanged : (was : Option ℕ) → is_full (array_in (record { limit = limit; tree = old; loose = loose })) key ≡ false → IsExchanged {E = ℕ} key value old new (Ok was) →
+      IsBounded limit new loose
   bounded-exchanged None free is = bounded-inserted words limit key old loose node bounded new key_fits value no_value true free is
   bounded-exchanged (Some was) free is = subst (λ tree. IsBounded limit tree loose) (sym is.1) (bounded-written limit key value old loose bounded)
 

@@ -1,5 +1,6 @@
 -- Pairs put behind all others, as what the map becomes.
-use Rattle.std.proofs.Common.{◌≡◌, ℕ, zero, suc, ◌+◌, ◌^◌, ◌<◌, ◌≤◌, ◌||◌, false, cond, [], ◌∷◌, ◌++◌, length, take, drop, get_or, filter, is_lt, refl, sym, ap, subst, ◌∙◌, arith, append_assoc, append-nil, ne_eqb}
+use Rattle.std.proofs.Common.{◌≡◌, ℕ, zero, suc, ◌+◌, ◌^◌, ◌<◌, ◌≤◌, ◌||◌, false, cond, [], ◌∷◌, ◌++◌, length, take, drop, get_or, filter, is_lt, refl, sym, ap, subst, ◌∙◌, arith}
+use Rattle.std.proofs.Common.{append_assoc, append-nil, ne_eqb}
 use Rattle.std.specs.FinMap.{FinMap}
 use Rattle.judy_model.specs.Keys.{word_order}
 use Rattle.judy_model.specs.Shapes.{AllBelow}
@@ -39,7 +40,8 @@ next_pair words low top (first ∷ old) pair more map =
 rank_last : (key : ℕ) (pairs : Pairs) → AllBelow key (keys_of pairs) → rank (keys_of pairs) key ≡ length pairs
 rank_last key [] below = refl
 rank_last key (pair ∷ pairs) below =
-    ap (λ t. length (cond t (pair.0 ∷ filter (λ member. is_lt (word_order member key)) (keys_of pairs)) (filter (λ member. is_lt (word_order member key)) (keys_of pairs)))) (is_below pair.0 key below.0)
+    ap (λ t. length (cond t (pair.0 ∷ filter (λ member. is_lt (word_order member key)) (keys_of pairs)) (filter (λ member. is_lt (word_order member key)) (keys_of pairs))))
+    (is_below pair.0 key below.0)
     ∙ ap suc (rank_last key pairs below.1)
 
 absent_last : (key : ℕ) (pairs : Pairs) → AllBelow key (keys_of pairs) → has (keys_of pairs) key ≡ false
@@ -94,7 +96,8 @@ none_below key [] none = tt
 none_below key (pair ∷ pairs) none = absurd (omega (arith, none))
 
 -- One more behind them.
-pub map_push : (words low top key value : ℕ) (pairs : Pairs) → IsMap words low top pairs → AllBelow key (keys_of pairs) → low ≤ key → key < top → (words ≡ 0 → value ≡ 0) → IsMap words low top (pairs ++ (key, value) ∷ [])
+pub map_push : (words low top key value : ℕ) (pairs : Pairs) → IsMap words low top pairs → AllBelow key (keys_of pairs) → low ≤ key → key < top → (words ≡ 0 → value ≡ 0) →
+    IsMap words low top (pairs ++ (key, value) ∷ [])
 map_push words low top key value [] map below from fits free = (from, fits, free, tt)
 map_push words low top key value (pair ∷ pairs) map below from fits free =
     let first = below.0 in

@@ -36,7 +36,8 @@ module _ (words : ℕ) (pairs : Pairs) (is : IsMap words 0 (256 ^ 8) pairs) wher
   pub next_most : next (map_of pairs) 18446744073709551615 ≡ None
   next_most =
       next-slice_get nat_cmp_total (map_of pairs) 18446744073709551615
-      ∙ past_end (keys (map_of pairs)) (count_up_to (map_of pairs) 18446744073709551615) (rw (keys_is words (256 ^ 8) pairs is, count_up_to_most, length-keys_of pairs) (let e : length pairs ≤ length pairs = omega arith in e))
+      ∙ past_end (keys (map_of pairs)) (count_up_to (map_of pairs) 18446744073709551615) (rw (keys_is words (256 ^ 8) pairs is, count_up_to_most, length-keys_of pairs)
+      (let e : length pairs ≤ length pairs = omega arith in e))
 
 -- ---- one word less
 

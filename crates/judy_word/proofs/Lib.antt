@@ -12,3 +12,4 @@ pub mod IterFacts
 pub mod TrialLemmas
 pub mod Groups
 pub mod FrontFacts
+pub mod FillingFacts

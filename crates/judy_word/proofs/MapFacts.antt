@@ -105,7 +105,8 @@ written_other key other value (pair ∷ pairs) apart = ⊎_elim
     (same_or pair.0 other)
 
 -- The map has that value at the key, which was there.
-pub map_of-written : (words top key value : ℕ) (pairs : Pairs) → words ≡ 1 → IsMap words 0 top pairs → is_some (value_in pairs key) ≡ true → map_of (written key value pairs) ≡ insert (map_of pairs) key value
+pub map_of-written : (words top key value : ℕ) (pairs : Pairs) → words ≡ 1 → IsMap words 0 top pairs → is_some (value_in pairs key) ≡ true →
+    map_of (written key value pairs) ≡ insert (map_of pairs) key value
 map_of-written words top key value pairs one is held =
     let now = written-map words 0 top key value pairs one is in
     same_map nat_cmp_total nat_cmp-IsAntisymmetric (map_of (written key value pairs)) (insert (map_of pairs) key value) (λ other. ⊎_elim
@@ -134,7 +135,8 @@ put_other key other value (suc at) [] within apart = absurd (omega (arith, withi
 put_other key other value (suc at) (pair ∷ pairs) within apart = ap (λ rest. cond (eqb pair.0 other) (Some pair.1) rest) (put_other key other value at pairs (omega (arith, within)) apart)
 
 -- The map has the key, which was absent, with its value.
-pub map_of-with_pair : (words top key value : ℕ) (pairs : Pairs) → IsMap words 0 top pairs → key < top → has (keys_of pairs) key ≡ false → (words ≡ 0 → value ≡ 0) → map_of (with_pair key value pairs) ≡ insert (map_of pairs) key value
+pub map_of-with_pair : (words top key value : ℕ) (pairs : Pairs) → IsMap words 0 top pairs → key < top → has (keys_of pairs) key ≡ false → (words ≡ 0 → value ≡ 0) →
+    map_of (with_pair key value pairs) ≡ insert (map_of pairs) key value
 map_of-with_pair words top key value pairs is below absent free =
     let now = map-with_pair words 0 top key value pairs is (omega arith) below absent free in
     let most = rank-most key pairs in

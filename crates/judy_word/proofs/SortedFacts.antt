@@ -27,7 +27,8 @@ all_more true rest all whole = (refl, omega (arith, whole))
 all_more false rest all whole = absurd (omega (arith, whole))
 
 -- Pairs whose keys are words that strictly ascend are a map.
-pub map_of_sorted : (words low : ℕ) (pairs : Pairs) → ascending_from low (keys_of pairs) ≡ length (keys_of pairs) → AllByRecursion IsWord (keys_of pairs) → (words ≡ 0 → AllByRecursion (λ value. value ≡ 0) (values_of pairs))
+pub map_of_sorted : (words low : ℕ) (pairs : Pairs) → ascending_from low (keys_of pairs) ≡ length (keys_of pairs) → AllByRecursion IsWord (keys_of pairs) →
+    (words ≡ 0 → AllByRecursion (λ value. value ≡ 0) (values_of pairs))
     → IsMap words low (256 ^ 8) pairs
 map_of_sorted words low [] whole small zeros = tt
 map_of_sorted words low (pair ∷ pairs) whole small zeros =

@@ -29,5 +29,6 @@ module _ (map : FinMap word_order ℕ) (word : ℕ) where
       same : (other : ℕ) → get (remove (insert map word value) word) other ≡ get map other
       same other = ⊎_elim
           (λ (is : word ≡ other). subst (λ (at : ℕ). get (remove (insert map word value) word) at ≡ get map at) is (get-del_same nat_cmp_total (insert map word value) word ∙ sym (put-absent added)))
-          (λ (differ : word ≢ other). get-del_other nat_cmp_total (insert map word value) word nat_cmp-IsAntisymmetric other differ ∙ get-write_other nat_cmp_total map word nat_cmp-IsAntisymmetric value other differ)
+          (λ (differ : word ≢ other). get-del_other nat_cmp_total (insert map word value) word nat_cmp-IsAntisymmetric other differ ∙
+          get-write_other nat_cmp_total map word nat_cmp-IsAntisymmetric value other differ)
           (cases_eq word other)

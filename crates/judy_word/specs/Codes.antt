@@ -38,4 +38,5 @@ node_code = code_by Parts (coded⊎ (coded⊎ bytes_code bytes_code) (coded⊎ (
 -- An array is stored as its four parts.
 abbrev pub word_array_code : Coded WordArray
 word_array_code =
-    code_by (ℕ × (FinMap word_order ℕ × (Form × Bool))) (coded× coded_ℕ (coded× (code coded_ℕ coded_ℕ) (coded× (coded_list node_code) coded_bool))) (λ array. (array.limit, (array.map, (array.form, array.loose)))) (λ list. record { limit = list.0; map = list.1.0; form = list.1.1.0; loose = list.1.1.1 }) (λ _. refl)
+    code_by (ℕ × (FinMap word_order ℕ × (Form × Bool))) (coded× coded_ℕ (coded× (code coded_ℕ coded_ℕ) (coded× (coded_list node_code) coded_bool)))
+    (λ array. (array.limit, (array.map, (array.form, array.loose)))) (λ list. record { limit = list.0; map = list.1.0; form = list.1.1.0; loose = list.1.1.1 }) (λ _. refl)

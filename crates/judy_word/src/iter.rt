@@ -44,9 +44,9 @@ impl<'a> Iterator for Keys<'a> {
 }
 
 impl<'a> Keys<'a> {
-    /// Writes the next keys to the front of a slice, as many as there are and it has places for, and answers how many these are: fewer
-    /// than there are places for are the last ones. It copies a node at a time, which is faster than as many steps. The slice has fewer
-    /// than 2^60 places.
+    /// Writes the next keys to the front of a slice, as many as there are and it has places for, and answers how many
+    /// these are: fewer than there are places for are the last ones. It copies a node at a time, which is faster than
+    /// as many steps. The slice has fewer than 2^60 places.
     pub fn fill(&mut self, out: &mut [u64]) -> usize
         requires places { length out.old < 2 ^ 60 }
         ensures count { result ≡ min (length out.old) (length self.old) }
@@ -58,7 +58,8 @@ impl<'a> Keys<'a> {
 }
 
 impl Judy1 {
-    /// The keys by ascending order, one after another. A step to the next key begins where the last one ended, not at the root.
+    /// The keys by ascending order, one after another. A step to the next key begins where the last one ended, not at
+    /// the root.
     pub fn iter(&self) -> Keys<'_>
         ensures { result ≡ map.keys self.now.map }
     {
@@ -78,8 +79,8 @@ impl Judy1 {
 }
 
 impl JudyL {
-    /// The keys with their values, by ascending key, one after another. A step to the next key begins where the last one ended, not at
-    /// the root.
+    /// The keys with their values, by ascending key, one after another. A step to the next key begins where the last
+    /// one ended, not at the root.
     pub fn iter(&self) -> Entries<'_>
         ensures { result ≡ map.entries self.now.map }
     {
@@ -93,8 +94,8 @@ impl JudyL {
         self.tree().iter_from(i)
     }
 
-    /// Lets entries be those of `iter`, whatever they were. A walk over many maps makes them once so, where each `iter` makes and moves
-    /// some 300 bytes.
+    /// Lets entries be those of `iter`, whatever they were. A walk over many maps makes them once so, where each `iter`
+    /// makes and moves some 300 bytes.
     pub fn restart<'a>(&'a self, entries: &mut Entries<'a>)
         ensures { entries.new ≡ map.entries self.now.map }
     {

@@ -1,11 +1,13 @@
-//! Laws of arrays of words. Each is the contract of a function that only asks what it speaks of; no program calls these.
+//! Laws of arrays of words. Each is the contract of a function that only asks what it speaks of; no program calls
+//! these.
 
-ghost use Rattle.std.specs.Prelude.{◌≡◌, ◌≤◌, false, IfOk};
+ghost use Rattle.std.specs.Prelude.{◌≡◌, false, IfOk};
 ghost use Rattle.std.specs.FinMap as map;
+ghost use Rattle.judy_model.specs.Shapes.{form_of};
 
 use crate::error::InsertError;
+use crate::filling::{FillingMap, FillingSet};
 use crate::word_array::{Judy1, JudyL};
-use std::alloc::Global;
 
 /// Two sets with the same keys, neither loose, have the same nodes, whatever calls led there.
 pub fn same_keys_same_nodes(one: &Judy1, other: &Judy1)
@@ -29,33 +31,23 @@ pub fn same_keys_same_nodes_of_maps(one: &JudyL, other: &JudyL)
     other.is_loose();
 }
 
-/// A set that is made and gets one key after another, as a dump is loaded, isn't loose: a new one isn't, and no insert makes it so.
-pub fn a_loaded_set_is_tight(alloc: Global, limit: u64, keys: &[u64]) -> Result<Judy1, InsertError>
-    requires some { 1 ≤ limit }
-    requires most { limit ≤ 4294967295 }
-    ensures { IfOk result (λ set. set.loose ≡ false) }
+/// A set that was filled, as a dump is loaded, isn't loose and has the nodes that the rule gives its keys, whatever
+/// calls led there.
+pub fn a_loaded_set_is_tight(filling: FillingSet) -> Result<Judy1, InsertError>
+    ensures tight { IfOk result (λ set. set.loose ≡ false) }
+    ensures rule { IfOk result (λ set. set.form ≡ form_of 0 8 (map.keys filling.map)) }
 {
-    let mut set = Judy1::new(alloc, limit);
-    'keys: for key in keys {
-        set.set(*key)?;
-    }
+    let set = filling.into_set()?;
+    set.is_loose();
     Ok(set)
 }
 
 /// The same of a map.
-pub fn a_loaded_map_is_tight(
-    alloc: Global,
-    limit: u64,
-    entries: &[(u64, u64)],
-) -> Result<JudyL, InsertError>
-    requires some { 1 ≤ limit }
-    requires most { limit ≤ 4294967295 }
-    ensures { IfOk result (λ words. words.loose ≡ false) }
+pub fn a_loaded_map_is_tight(filling: FillingMap) -> Result<JudyL, InsertError>
+    ensures tight { IfOk result (λ words. words.loose ≡ false) }
+    ensures rule { IfOk result (λ words. words.form ≡ form_of 1 8 (map.keys filling.map)) }
 {
-    let mut words = JudyL::new(alloc, limit);
-    'entries: for (key, value) in entries {
-        let slot = words.ins(*key)?;
-        *slot = *value;
-    }
+    let words = filling.into_map()?;
+    words.is_loose();
     Ok(words)
 }

@@ -86,7 +86,8 @@ fn ascending<K: Keyed>(items: &[K]) -> usize
     items.len()
 }
 
-// Whether the keys of a list strictly ascend, and are no more than a limit; else what is wrong with the first that doesn't fit.
+// Whether the keys of a list strictly ascend, and are no more than a limit; else what is wrong with the first that
+// doesn't fit.
 fn check_sorted<K: Keyed>(limit: u64, items: &[K]) -> Result<(), SortedError>
     ensures sorted { OnOk result (IsSorted limit (map K.key_of items.now)) }
     ensures refused { IfErr result (IsFault limit (map K.key_of items.now)) }
@@ -138,11 +139,12 @@ fn tree_of<V: Words + Drop, K: Keyed>(
 }
 
 impl JudyL {
-    /// The array with a limit, at least 1, that has these pairs of a key and its value, whose keys strictly ascend. Its nodes are made once
-    /// each, from the lowest up, in a fraction of the time that as many inserts take. (This project's own.)
+    /// The array with a limit, at least 1, that has these pairs of a key and its value, whose keys strictly ascend. Its
+    /// nodes are made once each, from the lowest up, in a fraction of the time that as many inserts take. (This
+    /// project's own.)
     ///
-    /// The error tells the first key that isn't above the one before it, or is one more than the limit, by its place; `NoMemory`
-    /// only where there is none. Nothing is kept then.
+    /// The error tells the first key that isn't above the one before it, or is one more than the limit, by its place;
+    /// `NoMemory` only where there is none. Nothing is kept then.
     ///
     ///     let squares = JudyL::from_sorted(alloc, 100, &[(1, 1), (2, 4), (3, 9)])?;
     pub fn from_sorted(
@@ -165,10 +167,11 @@ impl JudyL {
         Ok(JudyL::of(tree))
     }
 
-    /// The same of what has a key and a value each. While the array is made, it takes 16 bytes more for each. (This project's own.)
+    /// The same of what has a key and a value each. While the array is made, it takes 16 bytes more for each. (This
+    /// project's own.)
     ///
-    /// The errors are those of `from_sorted`: `NotAscending` and `Full` tell the first key that doesn't fit by its place, and are told before memory
-    /// is asked for; `NoMemory` only where there is none. Nothing is kept then.
+    /// The errors are those of `from_sorted`: `NotAscending` and `Full` tell the first key that doesn't fit by its
+    /// place, and are told before memory is asked for; `NoMemory` only where there is none. Nothing is kept then.
     ///
     ///     let squares = JudyL::from_items(alloc, 100, &[(1, 1), (2, 4), (3, 9)])?;
     pub fn from_items<K: Keyed>(
@@ -191,8 +194,8 @@ impl JudyL {
 }
 
 impl Judy1 {
-    /// The set with a limit, at least 1, that has these keys, which strictly ascend. As `JudyL::from_sorted`; while it is made, it takes 16
-    /// bytes more for each key. (This project's own.)
+    /// The set with a limit, at least 1, that has these keys, which strictly ascend. As `JudyL::from_sorted`; while it
+    /// is made, it takes 16 bytes more for each key. (This project's own.)
     ///
     ///     let primes = Judy1::from_sorted(alloc, 100, &[2, 3, 5, 7, 11])?;
     pub fn from_sorted(alloc: Global, limit: u64, keys: &[u64]) -> Result<Judy1, SortedError>

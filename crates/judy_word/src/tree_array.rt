@@ -27,8 +27,9 @@ mod values;
 pub use entries::TreeEntries;
 pub(crate) use fronts::set_all;
 
-/// An array of words over a tree, with `V` words of value a key, none or one: a set or a map. It holds at most as many keys as its
-/// limit. To its callers it is that limit, its tree with all nodes, and whether the tree may have a node that is larger than its keys need.
+/// An array of words over a tree, with `V` words of value a key, none or one: a set or a map. It holds at most as many
+/// keys as its limit. To its callers it is that limit, its tree with all nodes, and whether the tree may have a node
+/// that is larger than its keys need.
 pub struct TreeArray<V: Words + Drop> {
     limit: u64,
     root: NodeOf<V>,
@@ -72,7 +73,8 @@ impl<V: Words + Drop> TreeArray<V> {
         }
     }
 
-    /// The array of one key with its value, which is 0 where keys have no values. The limit is at least 1. It asks for no memory.
+    /// The array of one key with its value, which is 0 where keys have no values. The limit is at least 1. It asks for
+    /// no memory.
     pub fn of_one(alloc: Global, limit: u64, key: u64, value: u64) -> TreeArray<V>
         requires some { 1 ≤ limit }
         requires one { V.WORDS ≤ 1 }
@@ -87,8 +89,8 @@ impl<V: Words + Drop> TreeArray<V> {
         }
     }
 
-    /// A law without a body, what every array keeps: its tree is one of words, it holds no more keys than its limit, and where it
-    /// isn't loose, no node of its tree is.
+    /// A law without a body, what every array keeps: its tree is one of words, it holds no more keys than its limit,
+    /// and where it isn't loose, no node of its tree is.
     pub fn law(&self)
         ensures { IsHeld V.WORDS self.now }
     {

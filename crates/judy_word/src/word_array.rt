@@ -2,6 +2,7 @@
 
 ghost use Rattle.std.specs.Prelude.{◌≡◌, ◌≤◌, ◌↔◌, false, IsTrue};
 ghost use Rattle.std.specs.FinMap as map;
+ghost use Rattle.judy_model.specs.Arrays as array;
 ghost use Rattle.judy_model.specs.Counts as counts;
 ghost use Rattle.judy_model.specs.Neighbours as neighbours;
 ghost use Rattle.judy_model.specs.Empties as empties;
@@ -23,8 +24,8 @@ pub use judyl::JudyL;
 use std::alloc::Global;
 use std::marker::Model;
 
-/// An array over words with `V` words of value a key: none is a [`Judy1`], and one a [`JudyL`]. Each word from 0 to 2^64 - 1 is a key or
-/// none. It holds at most as many keys as its limit (limit: this project's own).
+/// An array over words with `V` words of value a key: none is a [`Judy1`], and one a [`JudyL`]. Each word from 0 to
+/// 2^64 - 1 is a key or none. It holds at most as many keys as its limit (limit: this project's own).
 ///
 /// Contracts see its map with its nodes, and whether one of these may be larger than its keys need.
 #[derive(Drop)]
@@ -155,7 +156,8 @@ impl<V: Words + Drop> WordArray<V> {
         self.tree.prev_empty(i)
     }
 
-    /// How many keys the array holds: at most its limit. (Manual: J1C and JLC, Judy1Count and JudyLCount, over all keys.)
+    /// How many keys the array holds: at most its limit. (Manual: J1C and JLC, Judy1Count and JudyLCount, over all
+    /// keys.)
     pub fn len(&self) -> u64
         ensures count { result ≡ map.len self.now.map }
         ensures within { result ≤ self.now.limit }
@@ -181,12 +183,24 @@ impl<V: Words + Drop> WordArray<V> {
     }
 
     /// Takes every key out, gives their memory back, and answers how many they were. The array keeps its
-    /// limit and may be used again. (Manual: J1FA and JLFA, Judy1FreeArray and JudyLFreeArray, which answers the bytes freed.)
+    /// limit and may be used again. (Manual: J1FA and JLFA, Judy1FreeArray and JudyLFreeArray, which answers the bytes
+    /// freed.)
     pub fn free_array(&mut self) -> u64
         ensures freed { result ≡ map.len self.old.map }
         ensures emptied { self.new ≡ no_keys self.old.limit }
     {
         self.tree.free_array()
+    }
+
+    /// Takes the key `i` out, where it is there: what [`Judy1::unset`] and [`JudyL::del`] do, for code over both. It
+    /// can't fail: where memory for a smaller node is refused, the larger one stays.
+    pub fn delete(&mut self, i: u64)
+        requires { V.WORDS ≤ 1 }
+        ensures { array_of self.new
+            ≡ array.with_map (array_of self.old) (array.del self.old.map i) }
+    {
+        self.tree.law();
+        self.tree.remove(i);
     }
 
     // The array that is made of it.
@@ -211,8 +225,8 @@ impl<V: Words + Drop> WordArray<V> {
         self.tree.root()
     }
 
-    /// Whether a node may be larger than its keys need, since memory for a smaller one was refused to a delete. Where it is false no node
-    /// is, and the nodes are those that the rule gives the keys.
+    /// Whether a node may be larger than its keys need, since memory for a smaller one was refused to a delete. Where
+    /// it is false no node is, and the nodes are those that the rule gives the keys.
     pub fn is_loose(&self) -> bool
         ensures told { result ≡ self.now.loose }
         ensures tight { result ≡ false → loose_in self.now.form ≡ 0 }
@@ -222,7 +236,8 @@ impl<V: Words + Drop> WordArray<V> {
         self.tree.is_loose()
     }
 
-    /// How many nodes of each kind there are, counted in the tree of `root`: where the array isn't loose, as many as the rule gives its keys.
+    /// How many nodes of each kind there are, counted in the tree of `root`: where the array isn't loose, as many as
+    /// the rule gives its keys.
     pub fn shape(&self) -> Shape
         ensures nodes { shape_as result ≡ shape_in self.now.form }
         ensures rule { self.now.loose ≡ false

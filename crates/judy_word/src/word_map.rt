@@ -18,8 +18,9 @@ use std::alloc::{AllocError, Global};
 use std::iter::IntoIterator;
 use std::marker::Model;
 
-/// A map from words to words, which is a [`JudyL`] without a limit: for arrays that are made of many. Contracts see it as the limit and
-/// the map alone, so that two of them are equal where these are, whatever nodes they have. Each call is the one of `JudyL` of that name.
+/// A map from words to words, which is a [`JudyL`] without a limit: for arrays that are made of many. Contracts see it
+/// as the limit and the map alone, so that two of them are equal where these are, whatever nodes they have. Each call
+/// is the one of `JudyL` of that name.
 #[derive(Drop)]
 pub struct WordMap {
     array: JudyL,

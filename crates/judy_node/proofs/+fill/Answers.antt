@@ -125,12 +125,14 @@ fill::fill_branch-loop-place-preserved g t c =
     let start = c.moved_up-start.ensures ∙ (λ j. (c.number-front.ensures j * 256 + c.from.ensures j) * 256 ^ c.from-in-loop-place.ensures j) in
     let filled : c.fill.new.out ≡ shift c.args.base (shift ((number_of branch.skip * 256 + c.in-Some.byte) * 256 ^ branch.width) c.child-item.result.pairs) =
     c.fill.ensures ∙ ap (λ n. shift (c.args.base + n) c.child-item.result.pairs) start
-    ∙ sym (shift-shift c.args.base ((number_of branch.skip * 256 + c.in-Some.byte) * 256 ^ branch.width) (c.args.base + (number_of branch.skip * 256 + c.in-Some.byte) * 256 ^ branch.width) c.child-item.result.pairs refl) in
+    ∙ sym (shift-shift c.args.base ((number_of branch.skip * 256 + c.in-Some.byte) * 256 ^ branch.width)
+    (c.args.base + (number_of branch.skip * 256 + c.in-Some.byte) * 256 ^ branch.width) c.child-item.result.pairs refl) in
     let many = ap length c.fill.ensures ∙ length-shift (c.args.base + c.moved_up-start.result) c.child-item.result.pairs in (
       omega arith,
       take-put_mid at (at + c.pop.result - at) c.loop-place.out c.fill.new.out (at + c.pop.result) (omega arith) (omega arith)
           ∙ (λ j. so_far.1 j ++ filled j)
-          ∙ sym (shift-append c.args.base (join (256 ^ branch.width) (number_of branch.skip * 256) (take place branch.bytes) (take place kids)) (shift ((number_of branch.skip * 256 + c.in-Some.byte) * 256 ^ branch.width) c.child-item.result.pairs))
+          ∙ sym (shift-append c.args.base (join (256 ^ branch.width) (number_of branch.skip * 256) (take place branch.bytes) (take place kids))
+          (shift ((number_of branch.skip * 256 + c.in-Some.byte) * 256 ^ branch.width) c.child-item.result.pairs))
           ∙ ap (shift c.args.base) (next_pairs here (place + 1) refl),
     )
 
@@ -150,4 +152,5 @@ fill::fill_branch-returns g t c =
     let whole = take_all place kids (omega arith) in
     let everything = so_far.0 ∙ ap population whole in
     sym (take_all c.loop-place.at c.loop-place.out (omega arith)) ∙ so_far.1
-    ∙ (λ j. shift c.args.base (join (256 ^ branch.width) (number_of branch.skip * 256) (take_all place branch.bytes (let e : length branch.bytes ≤ place = omega arith in e) j) ((whole ∙ c.deref-child-items.ensures.value) j)))
+    ∙ (λ j. shift c.args.base (join (256 ^ branch.width) (number_of branch.skip * 256) (take_all place branch.bytes (let e : length branch.bytes ≤ place = omega arith in e) j)
+    ((whole ∙ c.deref-child-items.ensures.value) j)))

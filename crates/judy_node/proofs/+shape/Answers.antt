@@ -13,8 +13,17 @@ shape::count_branch-count_into-requires g t c κs within =
     let parts = forms-within kids c.loop-child.child-index c.child-item.result c.loop-child-test.true c.child-item.is in
     let started = ap nodes_in c.add_branch.ensures ∙ nodes-branch (length c.args.branch.now.bytes) (shape_as c.args.shape.now) in
     let room = c.requires in
-    let falls = c.decreases in
-    (omega arith, (within, (omega arith, shape-room (shape_as c.add_branch.new.self) (shape_as c.loop-child.shape) kids c.loop-child.child-index c.child-item.result (2 ^ 128) c.loop-child-test.true c.child-item.is c.loop-child.invariant (omega arith))))
+    let falls = c.decreases in (
+      omega arith,
+      (
+        within,
+        (
+          omega arith,
+          shape-room (shape_as c.add_branch.new.self) (shape_as c.loop-child.shape) kids c.loop-child.child-index c.child-item.result
+              (2 ^ 128) c.loop-child-test.true c.child-item.is c.loop-child.invariant (omega arith),
+        ),
+      ),
+    )
 
 pub shape::count_branch-loop-child-preserved : goal.shape::count_branch-loop-child-preserved
 shape::count_branch-loop-child-preserved g t c =
@@ -25,6 +34,7 @@ pub shape::count_branch-returns : goal.shape::count_branch-returns
 shape::count_branch-returns g t c =
     let branch = c.args.branch.now in
     c.loop-child.invariant
-    ∙ ap (λ k. plus (shape_as c.add_branch.new.self) (shape_in (forms_in k))) (take_all c.loop-child.child-index c.deref-child-items.result.now c.loop-child-test.false ∙ c.deref-child-items.ensures.value)
+    ∙ ap (λ k. plus (shape_as c.add_branch.new.self) (shape_in (forms_in k))) (take_all c.loop-child.child-index c.deref-child-items.result.now c.loop-child-test.false ∙
+    c.deref-child-items.ensures.value)
     ∙ ap (λ s. plus s (shape_in (forms_in branch.children.items))) c.add_branch.ensures
     ∙ branch-first (length branch.bytes) (shape_as c.args.shape.now) (shape_in (forms_in branch.children.items))

@@ -15,7 +15,8 @@ use judy_node::NodeOf;
 use judy_unmetered::UNMETERED;
 use std::alloc::AllocError;
 
-// Gives a key a value by a change of the tree, which answers what is answered, and refuses a key that is absent from a full array.
+// Gives a key a value by a change of the tree, which answers what is answered, and refuses a key that is absent from a
+// full array.
 macro_rules! put_by {
     ($array:ident, $answer:ident, $change:ident, $key:ident, $value:expr) => {{
         $array.root.law();
@@ -41,11 +42,11 @@ impl<V: Words + Drop> TreeArray<V> {
         self.len() == self.limit && !self.has(key)
     }
 
-    /// Puts a key in, with the value 0 where keys have values, and answers whether it was absent; a key that is there stays as it
-    /// is, and is never refused. An array never becomes loose by it.
+    /// Puts a key in, with the value 0 where keys have values, and answers whether it was absent; a key that is there
+    /// stays as it is, and is never refused. An array never becomes loose by it.
     ///
-    /// `Full` where the key is absent and there are as many keys as the limit. `NoMemory` only where it is absent and the array
-    /// isn't full, and never where it is empty. Either leaves the array as it was, its nodes too.
+    /// `Full` where the key is absent and there are as many keys as the limit. `NoMemory` only where it is absent and
+    /// the array isn't full, and never where it is empty. Either leaves the array as it was, its nodes too.
     pub fn set(&mut self, key: u64) -> Result<bool, InsertError>
         requires one { V.WORDS ≤ 1 }
         ensures answer { IfOk result
@@ -63,7 +64,8 @@ impl<V: Words + Drop> TreeArray<V> {
         self.set_with(key, 0)
     }
 
-    /// The same with the value that an absent key is to have, 0 where keys have no values; a key that is there keeps its own.
+    /// The same with the value that an absent key is to have, 0 where keys have no values; a key that is there keeps
+    /// its own.
     #[inline(always)]
     pub fn set_with(&mut self, key: u64, value: u64) -> Result<bool, InsertError>
         requires one { V.WORDS ≤ 1 }
@@ -83,8 +85,8 @@ impl<V: Words + Drop> TreeArray<V> {
         put_by!(self, added, insert_with, key, value)
     }
 
-    /// Gives a key a value, in an array whose keys have values, and answers whether it was absent. Refused as `set` is, and then the
-    /// array is as it was; never where the key is there: then its value alone changes, and the nodes stay.
+    /// Gives a key a value, in an array whose keys have values, and answers whether it was absent. Refused as `set` is,
+    /// and then the array is as it was; never where the key is there: then its value alone changes, and the nodes stay.
     #[inline(always)]
     pub fn put(&mut self, key: u64, value: u64) -> Result<bool, InsertError>
         requires words { V.WORDS ≡ 1 }
@@ -104,8 +106,8 @@ impl<V: Words + Drop> TreeArray<V> {
         Ok(self.insert(key, value)?.is_none())
     }
 
-    /// Takes a key out, and answers whether it was there. It can't fail. The array becomes loose only where memory for a smaller
-    /// node was refused, and so only where a node on the key's way held 33 keys.
+    /// Takes a key out, and answers whether it was there. It can't fail. The array becomes loose only where memory for
+    /// a smaller node was refused, and so only where a node on the key's way held 33 keys.
     pub fn remove(&mut self, key: u64) -> bool
         requires one { V.WORDS ≤ 1 }
         ensures answer { result ≡ map.contains_key (map_in self.old) key }
@@ -119,8 +121,8 @@ impl<V: Words + Drop> TreeArray<V> {
         self.take(key).is_some()
     }
 
-    /// Makes each node as small as its keys allow: from there on the array isn't loose. The error is want of memory; the array is the
-    /// old one then. Where it isn't loose it asks for no memory.
+    /// Makes each node as small as its keys allow: from there on the array isn't loose. The error is want of memory;
+    /// the array is the old one then. Where it isn't loose it asks for no memory.
     pub fn tidy(&mut self) -> Result<(), AllocError>
         requires one { V.WORDS ≤ 1 }
         ensures pairs { self.new.tree.pairs ≡ self.old.tree.pairs }
@@ -140,7 +142,8 @@ impl<V: Words + Drop> TreeArray<V> {
         Ok(())
     }
 
-    /// An array of its own with the same limit, keys and values, each node as small as its keys allow. The error is want of memory.
+    /// An array of its own with the same limit, keys and values, each node as small as its keys allow. The error is
+    /// want of memory.
     pub fn try_clone(&self) -> Result<TreeArray<V>, AllocError>
         requires one { V.WORDS ≤ 1 }
         ensures same { IfOk result (λ copy. array_in copy ≡ array_in self.now) }

@@ -32,8 +32,8 @@ impl<V: Words + Drop> TreeArray<V> {
         }
     }
 
-    // The same, where the root is no leaf and no branch. Since it is told to be rare, a leaf and a branch are asked for first. It does no more
-    // than compare the only pair: for anything else it would save registers first.
+    // The same, where the root is no leaf and no branch. Since it is told to be rare, a leaf and a branch are asked for
+    // first. It does no more than compare the only pair: for anything else it would save registers first.
     #[cold]
     #[inline(never)]
     fn get_other(&self, key: u64) -> Option<u64>
@@ -53,8 +53,8 @@ impl<V: Words + Drop> TreeArray<V> {
         lookup(&self.root, key, &mut Meter::new(UNMETERED))
     }
 
-    /// The values of keys, each written to the place of its key: what `get` answers of it. The ways of up to 16 keys go down the tree side by
-    /// side.
+    /// The values of keys, each written to the place of its key: what `get` answers of it. The ways of up to 16 keys go
+    /// down the tree side by side.
     #[tactic(auto, using(crate::proofs::Groups::group_more))]
     pub fn get_many(&self, keys: &[u64], values: &mut [Option<u64>])
         requires { length values.old ≡ length keys.now }
@@ -82,8 +82,8 @@ impl<V: Words + Drop> TreeArray<V> {
         self.get(key).is_some()
     }
 
-    /// Whether keys are there, each told at the place of its key: what `has` answers of it. The ways of up to 16 keys go down the tree side by
-    /// side.
+    /// Whether keys are there, each told at the place of its key: what `has` answers of it. The ways of up to 16 keys
+    /// go down the tree side by side.
     #[tactic(auto, using(crate::proofs::Groups::group_more))]
     pub fn has_many(&self, keys: &[u64], there: &mut [bool])
         requires { length there.old ≡ length keys.now }

@@ -15,8 +15,8 @@ use judy_unmetered::UNMETERED;
 use std::iter::Iterator;
 use std::marker::Model;
 
-/// The keys of an array that are still to come, by ascending key, each with its value, 0 where keys have no value: to its callers it is
-/// their list. A step to the next key begins where the last one ended, not at the root.
+/// The keys of an array that are still to come, by ascending key, each with its value, 0 where keys have no value: to
+/// its callers it is their list. A step to the next key begins where the last one ended, not at the root.
 #[derive(Drop)]
 pub struct TreeEntries<'a, V: Words + Drop> {
     walk: Walk<'a, V>,
@@ -45,9 +45,9 @@ impl<'a, V: Words + Drop> Iterator for TreeEntries<'a, V> {
 }
 
 impl<'a, V: Words + Drop> TreeEntries<'a, V> {
-    /// Writes what stands for the next keys with their values to the front of a slice, as many as there are and it has places for, and
-    /// answers how many these are: fewer than there are places for are the last ones. It copies a node at a time, which is faster than as
-    /// many steps. The slice has fewer than 2^60 places.
+    /// Writes what stands for the next keys with their values to the front of a slice, as many as there are and it has
+    /// places for, and answers how many these are: fewer than there are places for are the last ones. It copies a node
+    /// at a time, which is faster than as many steps. The slice has fewer than 2^60 places.
     pub fn fill<E: FromPair>(&mut self, out: &mut [E]) -> usize
         requires places { length out.old < 2 ^ 60 }
         ensures count { result ≡ min (length out.old) (length self.old) }
@@ -59,8 +59,8 @@ impl<'a, V: Words + Drop> TreeEntries<'a, V> {
         self.walk.fill(out, &mut Meter::new(UNMETERED))
     }
 
-    /// Lets the entries be those of `iter` of an array, whatever they were: they are some 300 bytes, which are made and moved once so for
-    /// many arrays.
+    /// Lets the entries be those of `iter` of an array, whatever they were: they are some 300 bytes, which are made and
+    /// moved once so for many arrays.
     pub fn restart(&mut self, array: &'a TreeArray<V>)
         ensures { self.new ≡ map.entries (map_in array.now) }
     {
@@ -136,8 +136,8 @@ impl<V: Words + Drop> TreeArray<V> {
         }
     }
 
-    /// The value of a word, 0 where keys have no value, `None` where it is no key; and the least key above it with its value, or `None`: in one
-    /// way down.
+    /// The value of a word, 0 where keys have no value, `None` where it is no key; and the least key above it with its
+    /// value, or `None`: in one way down.
     // As `first_entry`.
     #[inline(always)]
     pub fn around(&self, key: u64) -> (Option<u64>, Option<(u64, u64)>)

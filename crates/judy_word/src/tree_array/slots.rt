@@ -13,8 +13,9 @@ impl<V: Words + Drop> TreeArray<V> {
     ghost use Rattle.judy_word.specs.Held.{with_value};
     ghost use Rattle.judy_word.specs.contracts.tree_array.TreeArray.{the_row};
 
-    /// Lends the value of a key, of an array whose keys have values; `None` where the key is absent. The array becomes the one with
-    /// the value that is left in the slot, and nothing else changes, its nodes neither. It tells what the array keeps, as `told`.
+    /// Lends the value of a key, of an array whose keys have values; `None` where the key is absent. The array becomes
+    /// the one with the value that is left in the slot, and nothing else changes, its nodes neither. It tells what the
+    /// array keeps, as `told`.
     // The way down is one call, whatever stands in front of it: a look at the root is compiled into its callers.
     #[inline(always)]
     pub fn slot(&mut self, key: u64) -> Option<&mut u64>

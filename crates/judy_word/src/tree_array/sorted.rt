@@ -11,8 +11,8 @@ use judy_node::NodeOf;
 use std::alloc::{AllocError, Global};
 
 impl<V: Words + Drop> TreeArray<V> {
-    /// The array with a limit that has these pairs, whose keys strictly ascend and are no more than the limit; their values are 0 where
-    /// keys have none. The error is want of memory; nothing is kept then.
+    /// The array with a limit that has these pairs, whose keys strictly ascend and are no more than the limit; their
+    /// values are 0 where keys have none. The error is want of memory; nothing is kept then.
     pub fn from_sorted(
         alloc: Global,
         limit: u64,

@@ -14,9 +14,9 @@ use judy_change::{exchange, remove};
 use judy_leaf::Words;
 
 impl<V: Words + Drop> TreeArray<V> {
-    /// Gives a key a value, in an array whose keys have values, and answers the value that was there; `None` where the key was absent,
-    /// and was put in. Where it was there, the nodes stay. Refused as `set` is, and then the array is as it was; never where the key is
-    /// there.
+    /// Gives a key a value, in an array whose keys have values, and answers the value that was there; `None` where the
+    /// key was absent, and was put in. Where it was there, the nodes stay. Refused as `set` is, and then the array is
+    /// as it was; never where the key is there.
     // Compiled into its callers: the answer doesn't go through memory then.
     #[inline(always)]
     pub fn insert(&mut self, key: u64, value: u64) -> Result<Option<u64>, InsertError>
@@ -36,8 +36,9 @@ impl<V: Words + Drop> TreeArray<V> {
         put_by!(self, was, exchange, key, value)
     }
 
-    /// Takes a key out, and answers its value, 0 where keys have no values; `None` where it was absent. It can't fail. The array becomes
-    /// loose only where memory for a smaller node was refused, and so only where a node on the key's way held 33 keys.
+    /// Takes a key out, and answers its value, 0 where keys have no values; `None` where it was absent. It can't fail.
+    /// The array becomes loose only where memory for a smaller node was refused, and so only where a node on the key's
+    /// way held 33 keys.
     pub fn take(&mut self, key: u64) -> Option<u64>
         requires one { V.WORDS ≤ 1 }
         ensures answer { result ≡ map.get (map_in self.old) key }

@@ -16,13 +16,13 @@ use std::alloc::{AllocError, Global};
 /// A set of words: each from 0 to 2^64 - 1 is a key or none. It holds at most as many keys as its limit
 /// (limit: this project's own).
 ///
-/// Contracts see it as the array whose every value is 0 (`test` and `len` say so), with its nodes and whether one may be larger than its
-/// keys need.
+/// Contracts see it as the array whose every value is 0 (`test` and `len` say so), with its nodes and whether one may
+/// be larger than its keys need.
 pub type Judy1 = WordArray<ValueWords<0>>;
 
 impl Judy1 {
-    /// The set of one key, with the limit 2^64 - 1, which memory ends before. It asks for no memory. (This project's own: the first key of
-    /// a set that is made, without a search.)
+    /// The set of one key, with the limit 2^64 - 1, which memory ends before. It asks for no memory. (This project's
+    /// own: the first key of a set that is made, without a search.)
     pub fn of_one(alloc: Global, i: u64) -> Judy1
         ensures set { array_of result
             ≡ array.with_map (array_of (no_keys u64.MAX)) (array.ins map.empty i) }
@@ -37,7 +37,8 @@ impl Judy1 {
     /// refused. (Manual: J1S, Judy1Set.)
     ///
     /// `Full` where the key is absent and the set holds as many keys as its limit (limit: this project's
-    /// own). `NoMemory` only where it is absent and the set isn't full, and never where it is empty. Either leaves the set as it was.
+    /// own). `NoMemory` only where it is absent and the set isn't full, and never where it is empty. Either leaves the
+    /// set as it was.
     pub fn set(&mut self, i: u64) -> Result<bool, InsertError>
         ensures answer { IfOk result (λ added. added ≡ not (map.contains_key self.old.map i)) }
         ensures set { OnOk result
@@ -52,8 +53,8 @@ impl Judy1 {
         self.tree.set(i)
     }
 
-    /// Takes the key `i` out, and answers whether it was there. It can't fail: where memory for a smaller node is refused, the larger
-    /// one stays. (Manual: J1U, Judy1Unset.)
+    /// Takes the key `i` out, and answers whether it was there. It can't fail: where memory for a smaller node is
+    /// refused, the larger one stays. (Manual: J1U, Judy1Unset.)
     pub fn unset(&mut self, i: u64) -> bool
         ensures answer { result ≡ map.contains_key self.old.map i }
         ensures unset { array_of self.new
@@ -77,8 +78,8 @@ impl Judy1 {
         self.tree.get(i).is_some()
     }
 
-    /// Whether keys are there, each told at the place of its key: what `test` answers of it. The ways of up to 16 keys go down side by side, and
-    /// wait for memory together. (This project's own.)
+    /// Whether keys are there, each told at the place of its key: what `test` answers of it. The ways of up to 16 keys
+    /// go down side by side, and wait for memory together. (This project's own.)
     pub fn test_many(&self, keys: &[u64], there: &mut [bool])
         requires { length there.old ≡ length keys.now }
         ensures { there.new ≡ mapped (λ i. map.contains_key self.now.map i) keys.now }
@@ -95,8 +96,8 @@ impl Judy1 {
         self.tree.array_law();
     }
 
-    /// Makes each node as small as its keys allow, so that the set isn't loose from there on; keys and limit stay. The error is want of
-    /// memory, which comes only where it is loose; it is as it was then, its nodes too.
+    /// Makes each node as small as its keys allow, so that the set isn't loose from there on; keys and limit stay. The
+    /// error is want of memory, which comes only where it is loose; it is as it was then, its nodes too.
     pub fn tidy(&mut self) -> Result<(), AllocError>
         ensures kept { array_of self.new ≡ array_of self.old }
         ensures tight { OnOk result (self.new.loose ≡ false) }

@@ -27,8 +27,8 @@ use std::alloc::{AllocError, Global};
 pub type JudyL = WordArray<ValueWords<1>>;
 
 impl JudyL {
-    /// The map of one key with its value, with the limit 2^64 - 1, which memory ends before. It asks for no memory. (This project's own: the
-    /// first key of a map that is made, without a search.)
+    /// The map of one key with its value, with the limit 2^64 - 1, which memory ends before. It asks for no memory.
+    /// (This project's own: the first key of a map that is made, without a search.)
     pub fn of_one(alloc: Global, i: u64, value: u64) -> JudyL
         ensures put { array_of result
             ≡ array.with_map (array_of (no_keys u64.MAX)) (array.write map.empty i value) }
@@ -40,11 +40,12 @@ impl JudyL {
     }
 
     /// The slot of the key `i`, which is put in with the value 0 where it is absent; a key that is there
-    /// keeps its value, and is never refused. What the caller leaves in the slot is then the key's value; of a key that was there
-    /// nothing else changes, the nodes neither. (Manual: JLI, JudyLIns.)
+    /// keeps its value, and is never refused. What the caller leaves in the slot is then the key's value; of a key that
+    /// was there nothing else changes, the nodes neither. (Manual: JLI, JudyLIns.)
     ///
     /// `Full` where the key is absent and the array holds as many keys as its limit (limit: this project's
-    /// own). `NoMemory` only where it is absent and the array isn't full, and never where it is empty. Either leaves the array as it was.
+    /// own). `NoMemory` only where it is absent and the array isn't full, and never where it is empty. Either leaves
+    /// the array as it was.
     pub fn ins(&mut self, i: u64) -> Result<&mut u64, InsertError>
         ensures* writes_back { sem 𝓛 (LendsIns self.entry i result) }
         ensures value { IfOk result (λ slot. Some slot.now ≡ map.get (array.ins self.old.map i) i) }
@@ -57,8 +58,9 @@ impl JudyL {
         Ok(self.tree.slot_of(i))
     }
 
-    /// Gives the key `i` a value, and answers the value that was there; `None` where the key was absent, and was put in. It takes one way
-    /// down the tree, and where the key was there no node changes. (This project's own: a map's insert that tells the old value.)
+    /// Gives the key `i` a value, and answers the value that was there; `None` where the key was absent, and was put
+    /// in. It takes one way down the tree, and where the key was there no node changes. (This project's own: a map's
+    /// insert that tells the old value.)
     ///
     /// `Full` and `NoMemory` as `ins`. Either leaves the array as it was.
     pub fn insert(&mut self, i: u64, value: u64) -> Result<Option<u64>, InsertError>
@@ -78,11 +80,13 @@ impl JudyL {
         self.tree.insert(i, value)
     }
 
-    /// Gives the key `i` a value, and answers whether it was absent: `insert` without the value that was there. It takes one way down
-    /// the tree, where `ins` takes a second one for the slot. At a key that is there the value alone changes, and the nodes stay.
+    /// Gives the key `i` a value, and answers whether it was absent: `insert` without the value that was there. It
+    /// takes one way down the tree, where `ins` takes a second one for the slot. At a key that is there the value alone
+    /// changes, and the nodes stay.
     ///
     /// `Full` and `NoMemory` as `ins`. Either leaves the array as it was.
-    // Compiled into its callers, as what it calls is: two of them would share one function else, which a small array pays a call for.
+    // Compiled into its callers, as what it calls is: two of them would share one function else, which a small array
+    // pays a call for.
     #[inline(always)]
     pub fn put(&mut self, i: u64, value: u64) -> Result<bool, InsertError>
         ensures answer { IfOk result (λ added. added ≡ not (map.contains_key self.old.map i)) }
@@ -101,8 +105,9 @@ impl JudyL {
         self.tree.put(i, value)
     }
 
-    /// Puts the key `i` in with a value where it is absent, and answers whether it was; a key that is there keeps its own value, and is
-    /// never refused. One way down the tree serves both. (This project's own: a map's insert by its entry.)
+    /// Puts the key `i` in with a value where it is absent, and answers whether it was; a key that is there keeps its
+    /// own value, and is never refused. One way down the tree serves both. (This project's own: a map's insert by its
+    /// entry.)
     ///
     /// `Full` and `NoMemory` as `ins`. Either leaves the array as it was.
     pub fn put_if_absent(&mut self, i: u64, value: u64) -> Result<bool, InsertError>
@@ -128,8 +133,8 @@ impl JudyL {
         self.tree.get(i)
     }
 
-    /// The values of keys, each written to the place of its key: what `get` answers of it, so `None` where it is absent. The ways of up to 16
-    /// keys go down side by side, and wait for memory together. (This project's own.)
+    /// The values of keys, each written to the place of its key: what `get` answers of it, so `None` where it is
+    /// absent. The ways of up to 16 keys go down side by side, and wait for memory together. (This project's own.)
     pub fn get_many(&self, keys: &[u64], values: &mut [Option<u64>])
         requires { length values.old ≡ length keys.now }
         ensures { values.new ≡ mapped (λ i. map.get self.now.map i) keys.now }
@@ -157,9 +162,9 @@ impl JudyL {
         self.tree.slot_of(i)
     }
 
-    /// Takes the key `i` out, and answers the value that it had; `None` where it was absent, and then nothing changes. It takes one way
-    /// down the tree. It can't fail: where memory for a smaller node is refused, the larger one stays. (This project's own: a map's
-    /// removal that tells the old value.)
+    /// Takes the key `i` out, and answers the value that it had; `None` where it was absent, and then nothing changes.
+    /// It takes one way down the tree. It can't fail: where memory for a smaller node is refused, the larger one stays.
+    /// (This project's own: a map's removal that tells the old value.)
     pub fn remove(&mut self, i: u64) -> Option<u64>
         ensures answer { result ≡ map.get self.old.map i }
         ensures removed { array_of self.new
@@ -173,8 +178,8 @@ impl JudyL {
         self.tree.take(i)
     }
 
-    /// Takes the key `i` out, and answers whether it was there: `remove` without the value. It can't fail: where memory for a smaller
-    /// node is refused, the larger one stays. (Manual: JLD, JudyLDel.)
+    /// Takes the key `i` out, and answers whether it was there: `remove` without the value. It can't fail: where memory
+    /// for a smaller node is refused, the larger one stays. (Manual: JLD, JudyLDel.)
     pub fn del(&mut self, i: u64) -> bool
         ensures answer { result ≡ map.contains_key self.old.map i }
         ensures deleted { array_of self.new
@@ -196,8 +201,8 @@ impl JudyL {
         self.tree.array_law();
     }
 
-    /// The least key from `i` on with its value, in one way down the tree. `None` where no key is left. (Manual: JLF, JudyLFirst, which
-    /// gives both.)
+    /// The least key from `i` on with its value, in one way down the tree. `None` where no key is left. (Manual: JLF,
+    /// JudyLFirst, which gives both.)
     // As `first`.
     #[inline(always)]
     pub fn first_entry(&self, i: u64) -> Option<(u64, u64)>
@@ -207,7 +212,8 @@ impl JudyL {
         self.tree.first_entry(i)
     }
 
-    /// The least key above `i` with its value; `None` where no key is above it. (Manual: JLN, JudyLNext, which gives both.)
+    /// The least key above `i` with its value; `None` where no key is above it. (Manual: JLN, JudyLNext, which gives
+    /// both.)
     // As `first`.
     #[inline(always)]
     pub fn next_entry(&self, i: u64) -> Option<(u64, u64)>
@@ -217,7 +223,8 @@ impl JudyL {
         self.tree.next_entry(i)
     }
 
-    /// The greatest key up to `i` with its value; `None` where each key is above it. (Manual: JLL, JudyLLast, which gives both.)
+    /// The greatest key up to `i` with its value; `None` where each key is above it. (Manual: JLL, JudyLLast, which
+    /// gives both.)
     pub fn last_entry(&self, i: u64) -> Option<(u64, u64)>
         ensures key { option_map (λ entry. entry.0) result ≡ neighbours.last self.now.map i }
         ensures value { IfSome result (λ entry. map.get self.now.map entry.0 ≡ Some entry.1) }
@@ -225,7 +232,8 @@ impl JudyL {
         self.tree.last_entry(i)
     }
 
-    /// The greatest key below `i` with its value; `None` where no key is below it. (Manual: JLP, JudyLPrev, which gives both.)
+    /// The greatest key below `i` with its value; `None` where no key is below it. (Manual: JLP, JudyLPrev, which gives
+    /// both.)
     pub fn prev_entry(&self, i: u64) -> Option<(u64, u64)>
         ensures key { option_map (λ entry. entry.0) result ≡ neighbours.prev self.now.map i }
         ensures value { IfSome result (λ entry. map.get self.now.map entry.0 ≡ Some entry.1) }
@@ -233,7 +241,8 @@ impl JudyL {
         self.tree.prev_entry(i)
     }
 
-    /// The value of `i`, as `get`, and the least key above it with its value, as `next_entry`, in one way down the tree. (This project's own.)
+    /// The value of `i`, as `get`, and the least key above it with its value, as `next_entry`, in one way down the
+    /// tree. (This project's own.)
     // As `first`.
     #[inline(always)]
     pub fn around(&self, i: u64) -> (Option<u64>, Option<(u64, u64)>)
@@ -244,8 +253,8 @@ impl JudyL {
         self.tree.around(i)
     }
 
-    /// The `n`-th key in ascending order, counted from 1, with its value; `None` for 0, and for an `n` above the number of keys (both
-    /// corners are this project's own). (Manual: JLBC, JudyLByCount, which gives both.)
+    /// The `n`-th key in ascending order, counted from 1, with its value; `None` for 0, and for an `n` above the number
+    /// of keys (both corners are this project's own). (Manual: JLBC, JudyLByCount, which gives both.)
     pub fn by_count_entry(&self, n: u64) -> Option<(u64, u64)>
         ensures key { option_map (λ entry. entry.0) result ≡ counts.by_count self.now.map n }
         ensures value { IfSome result (λ entry. map.get self.now.map entry.0 ≡ Some entry.1) }
@@ -253,8 +262,8 @@ impl JudyL {
         self.tree.by_count_entry(n)
     }
 
-    /// Makes each node as small as its keys allow, so that the array isn't loose from there on; keys, values and limit stay. The error is want of
-    /// memory, which comes only where it is loose; it is as it was then, its nodes too.
+    /// Makes each node as small as its keys allow, so that the array isn't loose from there on; keys, values and limit
+    /// stay. The error is want of memory, which comes only where it is loose; it is as it was then, its nodes too.
     pub fn tidy(&mut self) -> Result<(), AllocError>
         ensures kept { array_of self.new ≡ array_of self.old }
         ensures tight { OnOk result (self.new.loose ≡ false) }
@@ -265,7 +274,8 @@ impl JudyL {
         self.tree.tidy()
     }
 
-    /// An array of its own with the same limit and keys with their values, each node as small as these allow. The error is want of memory.
+    /// An array of its own with the same limit and keys with their values, each node as small as these allow. The error
+    /// is want of memory.
     pub fn try_clone(&self) -> Result<JudyL, AllocError>
         ensures same { IfOk result (λ copy. array_of copy ≡ array_of self.now) }
         ensures tight { IfOk result (λ copy. copy.loose ≡ false) }

@@ -86,7 +86,8 @@ append_to_kind-append_to_child-requires g t c κs within =
     let wide = branch_wide words c.args.width branch child in
     let wide_now = ap width_of c.deref_mut.ensures.value ∙ wide in
     let step = subst (λ b. IsStep (256 ^ b.width) (number_of b.skip * 256) b.bytes c.args.key (Child c.in-Child.byte c.in-Child.place c.in-Child.rest)) c.deref.ensures c.in-Child.ensures in
-    let parts = key_parts branch.width (length branch.skip + 1) c.args.key (number_of branch.skip * 256) c.in-Child.byte c.in-Child.rest (first_key pairs) step.0 (c.requires.key ∙ ap (λ w. first_key pairs % 256 ^ w) (sym wide)) in
+    let parts = key_parts branch.width (length branch.skip + 1) c.args.key (number_of branch.skip * 256) c.in-Child.byte c.in-Child.rest (first_key pairs) step.0
+    (c.requires.key ∙ ap (λ w. first_key pairs % 256 ^ w) (sym wide)) in
     let room = subst (λ kind. length (tree_of words kind).pairs + length pairs < 18446744073709551616) c.in-Branch.is c.requires.room in
     let falls = c.decreases in (
       omega arith,
@@ -108,7 +109,8 @@ append_to_kind-append_to_child-requires g t c κs within =
                       subst (λ b. c.in-Child.rest ≡ first_key pairs % 256 ^ b.width) (sym c.deref_mut.ensures.value) parts.1,
                       (
                         c.requires.map,
-                        subst (λ b. b.population + length pairs < 18446744073709551616) (sym c.deref_mut.ensures.value) (subst (λ n. n + length pairs < 18446744073709551616) (sym level.0.parts.counted) room),
+                        subst (λ b. b.population + length pairs < 18446744073709551616) (sym c.deref_mut.ensures.value)
+                            (subst (λ n. n + length pairs < 18446744073709551616) (sym level.0.parts.counted) room),
                       ),
                     ),
                   ),
@@ -127,8 +129,10 @@ append_to_kind-append_child-requires-clause-head g t c =
     let pairs = c.args.more.pairs.now in
     let child = subst (λ kind. IsChild words c.args.width (tree_of words kind)) c.in-Branch.is c.requires.child in
     let wide = branch_wide words c.args.width branch child in
-    let step = subst (λ b. IsStep (256 ^ b.width) (number_of b.skip * 256) b.bytes c.args.key (Missing c.in-Missing.byte c.in-Missing.place c.in-Missing.field-2)) c.deref.ensures c.in-Missing.ensures in
-    let parts = key_parts branch.width (length branch.skip + 1) c.args.key (number_of branch.skip * 256) c.in-Missing.byte c.in-Missing.field-2 (first_key pairs) step.0 (c.requires.key ∙ ap (λ w. first_key pairs % 256 ^ w) (sym wide)) in
+    let step = subst (λ b. IsStep (256 ^ b.width) (number_of b.skip * 256) b.bytes c.args.key (Missing c.in-Missing.byte c.in-Missing.place c.in-Missing.field-2))
+    c.deref.ensures c.in-Missing.ensures in
+    let parts = key_parts branch.width (length branch.skip + 1) c.args.key (number_of branch.skip * 256) c.in-Missing.byte c.in-Missing.field-2 (first_key pairs) step.0
+    (c.requires.key ∙ ap (λ w. first_key pairs % 256 ^ w) (sym wide)) in
     subst (λ b. first_key pairs / 256 ^ b.width % 256 ^ (length b.skip + 1) ≡ number_of b.skip * 256 + c.in-Missing.byte) (sym c.deref_mut-in-Missing.ensures.value) parts.0
 
 pub append_to_kind-returns-in-Child-clause-child : goal.append_to_kind-returns-in-Child-clause-child
@@ -138,5 +142,6 @@ append_to_kind-returns-in-Child-clause-child g t c =
 
 pub append_to_kind-returns-in-Missing-clause-child : goal.append_to_kind-returns-in-Missing-clause-child
 append_to_kind-returns-in-Missing-clause-child g t c =
-    still_child g.V.Words.WORDS c.args.width c.args.kind.now c.in-Branch.branch c.deref_mut-in-Missing.result.now c.append_child.new.branch c.in-Branch.is c.requires.child c.deref_mut-in-Missing.ensures.value
+    still_child g.V.Words.WORDS c.args.width c.args.kind.now c.in-Branch.branch c.deref_mut-in-Missing.result.now c.append_child.new.branch c.in-Branch.is
+    c.requires.child c.deref_mut-in-Missing.ensures.value
     c.append_child.ensures.skip c.append_child.ensures.width c.append_child.ensures.level

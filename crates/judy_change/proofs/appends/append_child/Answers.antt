@@ -29,7 +29,11 @@ child_of_sorted-requires g c =
         c.requires.one,
         (
           (c.requires.level.parts.some_width, omega arith),
-          (omega arith, begin_map g.V.Words.WORDS (256 ^ 8) (256 ^ b.width) (first_key c.args.more.pairs.now / 256 ^ b.width) c.group_end-end.result c.args.more.pairs.now c.requires.map c.group_end-end.ensures.alike (unit_pos b.width)),
+          (
+            omega arith,
+            begin_map g.V.Words.WORDS (256 ^ 8) (256 ^ b.width) (first_key c.args.more.pairs.now / 256 ^ b.width) c.group_end-end.result c.args.more.pairs.now
+                c.requires.map c.group_end-end.ensures.alike (unit_pos b.width),
+          ),
         ),
       ),
     )
@@ -56,12 +60,21 @@ sums_of_children-requires g c =
     let told = c.len.ensures in
     let beyond = c.if-place-len.false in
     let last : length b.children.items ≤ rank b.bytes c.args.byte = omega arith in
-    let below = all_below words b.width b.skip b.bytes b.children.items b.population c.requires.level c.args.byte c.args.more.pairs.now c.requires.head end c.group_end-end.ensures.within c.group_end-end.ensures.alike small c.requires.absent last c.in-Ok.child c.in-Ok.ensures in
+    let below = all_below words b.width b.skip b.bytes b.children.items b.population c.requires.level c.args.byte c.args.more.pairs.now c.requires.head end
+    c.group_end-end.ensures.within c.group_end-end.ensures.alike small c.requires.absent last c.in-Ok.child c.in-Ok.ensures in
     let bytes = made.bytes ∙ with_byte-push c.args.byte b.bytes below in
-    let kids = made.children ∙ ap (λ ks. insert ks (rank b.bytes c.args.byte) c.in-Ok.child) c.make_room.ensures.items ∙ insert_last b.children.items (rank b.bytes c.args.byte) c.in-Ok.child (omega arith) in
-    let done = push_level words b.width b.skip b.bytes b.children.items b.population c.requires.level c.args.byte c.args.more.pairs.now c.requires.head end c.group_end-end.ensures.within c.group_end-end.ensures.alike small c.requires.absent last c.in-Ok.child c.in-Ok.ensures in
+    let kids = made.children ∙ ap (λ ks. insert ks (rank b.bytes c.args.byte) c.in-Ok.child) c.make_room.ensures.items ∙
+    insert_last b.children.items (rank b.bytes c.args.byte) c.in-Ok.child (omega arith) in
+    let done = push_level words b.width b.skip b.bytes b.children.items b.population c.requires.level c.args.byte c.args.more.pairs.now c.requires.head end
+    c.group_end-end.ensures.within c.group_end-end.ensures.alike small c.requires.absent last c.in-Ok.child c.in-Ok.ensures in
     let same : record { width = b.width; skip = b.skip; bytes = b.bytes ++ c.args.byte ∷ []; kids = b.children.items ++ c.in-Ok.child ∷ []; count = b.population + end }
-    ≡ record { width = c.add_child.new.branch.width; skip = c.add_child.new.branch.skip; bytes = c.add_child.new.branch.bytes; kids = c.add_child.new.branch.children.items; count = c.add_child.new.branch.population + end } =
+    ≡ record {
+      width = c.add_child.new.branch.width;
+      skip = c.add_child.new.branch.skip;
+      bytes = c.add_child.new.branch.bytes;
+      kids = c.add_child.new.branch.children.items;
+      count = c.add_child.new.branch.population + end;
+    } =
     λ t. record { width = sym made.width t; skip = sym made.skip t; bytes = sym bytes t; kids = sym kids t; count = sym made.population t + end } in
     subst (λ (p : BranchParts). AreOf words p) same done
 
@@ -78,12 +91,21 @@ returns-clause-level g c =
     let told = c.len.ensures in
     let beyond = c.if-place-len.false in
     let last : length b.children.items ≤ rank b.bytes c.args.byte = omega arith in
-    let below = all_below words b.width b.skip b.bytes b.children.items b.population c.requires.level c.args.byte c.args.more.pairs.now c.requires.head end c.group_end-end.ensures.within c.group_end-end.ensures.alike small c.requires.absent last c.in-Ok.child c.in-Ok.ensures in
+    let below = all_below words b.width b.skip b.bytes b.children.items b.population c.requires.level c.args.byte c.args.more.pairs.now c.requires.head end
+    c.group_end-end.ensures.within c.group_end-end.ensures.alike small c.requires.absent last c.in-Ok.child c.in-Ok.ensures in
     let bytes = made.bytes ∙ with_byte-push c.args.byte b.bytes below in
-    let kids = made.children ∙ ap (λ ks. insert ks (rank b.bytes c.args.byte) c.in-Ok.child) c.make_room.ensures.items ∙ insert_last b.children.items (rank b.bytes c.args.byte) c.in-Ok.child (omega arith) in
-    let done = push_level words b.width b.skip b.bytes b.children.items b.population c.requires.level c.args.byte c.args.more.pairs.now c.requires.head end c.group_end-end.ensures.within c.group_end-end.ensures.alike small c.requires.absent last c.in-Ok.child c.in-Ok.ensures in
+    let kids = made.children ∙ ap (λ ks. insert ks (rank b.bytes c.args.byte) c.in-Ok.child) c.make_room.ensures.items ∙
+    insert_last b.children.items (rank b.bytes c.args.byte) c.in-Ok.child (omega arith) in
+    let done = push_level words b.width b.skip b.bytes b.children.items b.population c.requires.level c.args.byte c.args.more.pairs.now c.requires.head end
+    c.group_end-end.ensures.within c.group_end-end.ensures.alike small c.requires.absent last c.in-Ok.child c.in-Ok.ensures in
     let same : record { width = b.width; skip = b.skip; bytes = b.bytes ++ c.args.byte ∷ []; kids = b.children.items ++ c.in-Ok.child ∷ []; count = b.population + end }
-    ≡ record { width = c.add_child.new.branch.width; skip = c.add_child.new.branch.skip; bytes = c.add_child.new.branch.bytes; kids = c.add_child.new.branch.children.items; count = c.add_child.new.branch.population + end } =
+    ≡ record {
+      width = c.add_child.new.branch.width;
+      skip = c.add_child.new.branch.skip;
+      bytes = c.add_child.new.branch.bytes;
+      kids = c.add_child.new.branch.children.items;
+      count = c.add_child.new.branch.population + end;
+    } =
     λ t. record { width = sym made.width t; skip = sym made.skip t; bytes = sym bytes t; kids = sym kids t; count = sym made.population t + end } in
     subst (λ (p : BranchParts). AreOf words p) same done
 
@@ -100,9 +122,12 @@ returns-clause-longer g c =
     let told = c.len.ensures in
     let beyond = c.if-place-len.false in
     let last : length b.children.items ≤ rank b.bytes c.args.byte = omega arith in
-    let below = all_below words b.width b.skip b.bytes b.children.items b.population c.requires.level c.args.byte c.args.more.pairs.now c.requires.head end c.group_end-end.ensures.within c.group_end-end.ensures.alike small c.requires.absent last c.in-Ok.child c.in-Ok.ensures in
+    let below = all_below words b.width b.skip b.bytes b.children.items b.population c.requires.level c.args.byte c.args.more.pairs.now c.requires.head end
+    c.group_end-end.ensures.within c.group_end-end.ensures.alike small c.requires.absent last c.in-Ok.child c.in-Ok.ensures in
     let bytes = made.bytes ∙ with_byte-push c.args.byte b.bytes below in
-    let kids = made.children ∙ ap (λ ks. insert ks (rank b.bytes c.args.byte) c.in-Ok.child) c.make_room.ensures.items ∙ insert_last b.children.items (rank b.bytes c.args.byte) c.in-Ok.child (omega arith) in
-    let done = push_longer words b.width b.skip b.bytes b.children.items b.population c.requires.level c.args.byte c.args.more.pairs.now c.requires.head end c.group_end-end.ensures.within c.group_end-end.ensures.alike small c.requires.absent last c.in-Ok.child c.in-Ok.ensures c.if-end-eq0.false in
+    let kids = made.children ∙ ap (λ ks. insert ks (rank b.bytes c.args.byte) c.in-Ok.child) c.make_room.ensures.items ∙
+    insert_last b.children.items (rank b.bytes c.args.byte) c.in-Ok.child (omega arith) in
+    let done = push_longer words b.width b.skip b.bytes b.children.items b.population c.requires.level c.args.byte c.args.more.pairs.now c.requires.head end
+    c.group_end-end.ensures.within c.group_end-end.ensures.alike small c.requires.absent last c.in-Ok.child c.in-Ok.ensures c.if-end-eq0.false in
     subst (IsLonger (length b.skip + 1 + b.width) end c.args.more.pairs.now (branch_tree b.width b.skip b.bytes b.children.items b.population))
     (λ t. branch_tree (sym made.width t) (sym made.skip t) (sym bytes t) (sym kids t) (sym made.population t + end)) done

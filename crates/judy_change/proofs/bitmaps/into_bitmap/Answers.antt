@@ -43,12 +43,17 @@ returns-in-Ok-put_in_bit_leaf g c =
     let absent : has (keys_of list.pairs) byte ≡ false = ap (λ (l : KeyList). has (keys_of l.pairs) byte) (sym c.new.ensures) ∙ c.in-Err.ensures.0 in
     let one = length-with_pair byte c.args.pair.value list.pairs in
     let long = ap (λ l. length l.pairs) made.added in
-    let level : IsBit words c.args.head.now c.put_in_bit_leaf.new.block = record { parts = made.parts; some = omega arith; skips = subst (λ w. c.args.head.now < 256 ^ (w - 1)) (sym (ap (λ l. l.width) made.added)) c.requires.level.skips } in
+    let level : IsBit words c.args.head.now c.put_in_bit_leaf.new.block = record {
+      parts = made.parts;
+      some = omega arith;
+      skips = subst (λ w. c.args.head.now < 256 ^ (w - 1)) (sym (ap (λ l. l.width) made.added)) c.requires.level.skips;
+    } in
     let held = has-bitmap c.args.head.now byte c.args.pair.key is list ∙ absent in
     let pairs = ap (λ l. (one_bitmap c.args.head.now l).pairs) made.added ∙ pairs-bitmap c.args.head.now byte c.args.pair.key is list c.args.pair.value in
     record {
       level = level;
-      child = child-with {V = ℕ} words c.args.width c.args.pair.key c.args.pair.value (bit_tree words c.args.head.now c.args.block.now) (Bit c.args.head.now c.put_in_bit_leaf.new.block) c.requires.child
+      child =
+          child-with {V = ℕ} words c.args.width c.args.pair.key c.args.pair.value (bit_tree words c.args.head.now c.args.block.now) (Bit c.args.head.now c.put_in_bit_leaf.new.block) c.requires.child
           level (ap (λ l. l.width) made.added) pairs held c.requires.fits c.requires.no_value;
       inserted = record {
         absent = held;

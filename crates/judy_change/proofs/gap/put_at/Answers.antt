@@ -7,7 +7,8 @@ use Rattle.judy_change.proofs.gap.put_at.Goals as goal
 -- Where what is left behind a place is the same, so is what stands there.
 left_is : (xs ys : List (ℕ × ℕ)) (at : ℕ) (d : ℕ × ℕ) → drop at xs ≡ drop at ys → get_or xs at d ≡ get_or ys at d
 left_is xs ys at d same =
-    ap (λ n. get_or xs n d) (let e : at ≡ at + 0 = omega arith in e) ∙ sym (get_or-drop at xs 0 d) ∙ ap (λ rest. get_or rest 0 d) same ∙ get_or-drop at ys 0 d ∙ ap (λ n. get_or ys n d) (let e : at + 0 ≡ at = omega arith in e)
+    ap (λ n. get_or xs n d) (let e : at ≡ at + 0 = omega arith in e) ∙ sym (get_or-drop at xs 0 d) ∙ ap (λ rest. get_or rest 0 d) same ∙ get_or-drop at ys 0 d ∙
+    ap (λ n. get_or ys n d) (let e : at + 0 ≡ at = omega arith in e)
 
 pub loop-place-preserved : goal.loop-place-preserved
 loop-place-preserved c =

@@ -13,7 +13,8 @@ returns-in-Ok-clause-inserted g c =
     let old = imm_tree words c.args.head c.args.word in
     let seen = ap (λ l. l.pairs) c.imm_of-imm.ensures in
     let absent = absent-find (keys_of old.pairs) c.args.pair.key c.find.result (c.find.ensures ∙ ap (λ ps. place (keys_of ps) c.args.pair.key) seen) (sym c.is_some.ensures ∙ c.if-is_some.false) in
-    more-added words c.args.width c.args.pair.key c.args.pair.value old c.requires.child absent c.requires.fits c.requires.no_value (with_pair c.args.pair.key c.args.pair.value c.imm_of-imm.result.pairs)
+    more-added words c.args.width c.args.pair.key c.args.pair.value old c.requires.child absent c.requires.fits c.requires.no_value
+    (with_pair c.args.pair.key c.args.pair.value c.imm_of-imm.result.pairs)
     (ap (with_pair c.args.pair.key c.args.pair.value) seen) (tree_of words c.in-Ok.leaf) c.in-Ok.ensures.built
 
 pub insert_pair-requires-clause-room : goal.insert_pair-requires-clause-room
@@ -21,7 +22,8 @@ insert_pair-requires-clause-room g c =
     let words = g.V.Words.WORDS in
     let seen = c.imm_of-imm.ensures in
     let room = not_full words c.args.width c.args.head c.args.word c.requires.one c.requires.immediate c.requires.child
-    (subst (λ (l : KeyList). length l.pairs ≢ imm_room words l.width) seen (eqb-false (length c.imm_of-imm.result.pairs) (imm_room words c.imm_of-imm.result.width) (sym c.is_full.ensures ∙ c.if-is_full.false))) in
+    (subst (λ (l : KeyList). length l.pairs ≢ imm_room words l.width) seen (eqb-false (length c.imm_of-imm.result.pairs) (imm_room words c.imm_of-imm.result.width)
+    (sym c.is_full.ensures ∙ c.if-is_full.false))) in
     subst (λ (l : KeyList). length l.pairs < imm_room words l.width) (sym seen) room.1
 
 pub returns-clause-child : goal.returns-clause-child

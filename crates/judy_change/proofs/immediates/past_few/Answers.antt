@@ -14,9 +14,11 @@ fill-requires-clause-fits g c =
 pub kind_of_sorted-requires-clause-map : goal.kind_of_sorted-requires-clause-map
 kind_of_sorted-requires-clause-map g c =
     more-low g.V.Words.WORDS c.args.width c.args.pair.key c.args.pair.value c.args.full.now.pairs c.requires.map c.requires.absent c.requires.fits c.requires.no_value _
-    (filled_nine c.fill.new.out c.args.full.now.pairs c.put_at.new.pairs c.args.pair.key c.args.pair.value c.rank.result c.len-count.result c.fill.ensures c.len-count.ensures.count (omega (arith, c.len-count.ensures.within)) c.rank.ensures.value c.put_at.ensures)
+    (filled_nine c.fill.new.out c.args.full.now.pairs c.put_at.new.pairs c.args.pair.key c.args.pair.value c.rank.result c.len-count.result c.fill.ensures c.len-count.ensures.count
+    (omega (arith, c.len-count.ensures.within)) c.rank.ensures.value c.put_at.ensures)
 
 pub returns-clause-built : goal.returns-clause-built
 returns-clause-built g c =
     subst (λ (ps : Pairs). IfOk c.kind_of_sorted.result (λ kind. IsBuilt g.V.Words.WORDS c.args.width ps (tree_of g.V.Words.WORDS kind)))
-    (filled_nine c.fill.new.out c.args.full.now.pairs c.put_at.new.pairs c.args.pair.key c.args.pair.value c.rank.result c.len-count.result c.fill.ensures c.len-count.ensures.count (omega (arith, c.len-count.ensures.within)) c.rank.ensures.value c.put_at.ensures) c.kind_of_sorted.ensures.built
+    (filled_nine c.fill.new.out c.args.full.now.pairs c.put_at.new.pairs c.args.pair.key c.args.pair.value c.rank.result c.len-count.result c.fill.ensures c.len-count.ensures.count
+    (omega (arith, c.len-count.ensures.within)) c.rank.ensures.value c.put_at.ensures) c.kind_of_sorted.ensures.built

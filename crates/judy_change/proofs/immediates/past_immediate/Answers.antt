@@ -15,7 +15,8 @@ only_pair (pair ∷ []) key value one first held = λ t. (sym first t, sym held 
 only_pair (pair ∷ more ∷ pairs) key value one first held = absurd (omega arith)
 
 -- Two pairs are those of the list and one more.
-both_are : (list both : Pairs) (key value only held : ℕ) → length list ≡ 1 → only ≡ get_or (keys_of list) 0 0 → held ≡ get_or (values_of list) 0 0 → both ≡ with_pair key value ((only, held) ∷ []) → both ≡ with_pair key value list
+both_are : (list both : Pairs) (key value only held : ℕ) → length list ≡ 1 → only ≡ get_or (keys_of list) 0 0 → held ≡ get_or (values_of list) 0 0 →
+    both ≡ with_pair key value ((only, held) ∷ []) → both ≡ with_pair key value list
 both_are list both key value only held one first there put = put ∙ ap (with_pair key value) (sym (only_pair list only held one first there))
 
 -- A key that isn't the only one is another.

@@ -30,14 +30,16 @@ pub returns-then-len-eq256-clause-inserted : goal.returns-then-len-eq256-clause-
 returns-then-len-eq256-clause-inserted g c =
     let b = c.args.branch.now in
     let n = c.put_key.new.branch in
-    subst (λ ks. IsAdded ((number_of b.skip * 256 + c.args.byte) * 256 ^ b.width + c.args.pair.key) c.args.pair.value (branch_tree b.width b.skip b.bytes ks b.population) (branch_tree n.width n.skip n.bytes n.children.items n.population))
+    subst (λ ks. IsAdded ((number_of b.skip * 256 + c.args.byte) * 256 ^ b.width + c.args.pair.key) c.args.pair.value (branch_tree b.width b.skip b.bytes ks b.population)
+    (branch_tree n.width n.skip n.bytes n.children.items n.population))
     c.make_room.ensures.items c.put_key.ensures.added
 
 pub returns-else-len-eq256-clause-inserted : goal.returns-else-len-eq256-clause-inserted
 returns-else-len-eq256-clause-inserted g c =
     let b = c.args.branch.now in
     let n = c.put_key.new.branch in
-    subst (λ ks. IsAdded ((number_of b.skip * 256 + c.args.byte) * 256 ^ b.width + c.args.pair.key) c.args.pair.value (branch_tree b.width b.skip b.bytes ks b.population) (branch_tree n.width n.skip n.bytes n.children.items n.population))
+    subst (λ ks. IsAdded ((number_of b.skip * 256 + c.args.byte) * 256 ^ b.width + c.args.pair.key) c.args.pair.value (branch_tree b.width b.skip b.bytes ks b.population)
+    (branch_tree n.width n.skip n.bytes n.children.items n.population))
     c.make_room.ensures.items c.put_key.ensures.added
 
 -- Fewer than all 256 children have no sums, so there are none of any others.

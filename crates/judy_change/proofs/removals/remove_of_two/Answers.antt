@@ -20,7 +20,9 @@ returns-then-second-key g c =
     let two = two_filled out c.args.child.pairs c.fill.ensures c.requires.two in
     record {
       root = first_root g.V.Words.WORDS c.args.key c.args.child (get_or out 0 (0, 0)) (get_or out 1 (0, 0)) two c.requires.child.map;
-      removed = second_gone g.V.Words.WORDS c.args.key c.args.child (get_or out 0 (0, 0)) (get_or out 1 (0, 0)) two c.requires.child.map c.gone-then-second-key.result c.if-first-key.false c.if-second-key.true c.gone-then-second-key.ensures;
+      removed =
+          second_gone g.V.Words.WORDS c.args.key c.args.child (get_or out 0 (0, 0)) (get_or out 1 (0, 0)) two c.requires.child.map c.gone-then-second-key.result
+          c.if-first-key.false c.if-second-key.true c.gone-then-second-key.ensures;
     }
 
 pub returns-clause-root : goal.returns-clause-root

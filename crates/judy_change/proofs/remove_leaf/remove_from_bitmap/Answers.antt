@@ -13,7 +13,8 @@ pub value_at-value-requires : goal.value_at-value-requires
 value_at-value-requires g c =
     let along = c.in-Some.ensures.0 ∙ c.number.ensures.value in
     let place = ap (λ (l : KeyList). set.place (keys_of l.pairs) (c.args.key % 256)) (sym c.new.ensures) ∙ c.in-Some.ensures.1 in
-    subst (λ (l : KeyList). c.in-Some.at < length l.pairs) (sym c.new-in-Some.ensures) (bit_within g.V.Words.WORDS c.args.width c.args.key c.in-Some.at c.args.head.now c.args.block.now c.requires.level c.requires.child along place)
+    subst (λ (l : KeyList). c.in-Some.at < length l.pairs) (sym c.new-in-Some.ensures) (bit_within g.V.Words.WORDS c.args.width c.args.key c.in-Some.at c.args.head.now
+    c.args.block.now c.requires.level c.requires.child along place)
 
 pub take_from_bit_leaf-requires-clause-there : goal.take_from_bit_leaf-requires-clause-there
 take_from_bit_leaf-requires-clause-there g c =
@@ -30,9 +31,11 @@ returns-in-Some-clause-taken g c =
     let along = c.in-Some.ensures.0 ∙ c.number.ensures.value in
     let place = ap (λ (l : KeyList). set.place (keys_of l.pairs) (c.args.key % 256)) (sym c.new.ensures) ∙ c.in-Some.ensures.1 in
     let value = c.value_at-value.ensures ∙ ap (λ (l : KeyList). get_or (values_of l.pairs) c.in-Some.at 0) c.new-in-Some.ensures in
-    let level = bit_stays words c.args.width c.args.key c.in-Some.at head block c.requires.level c.requires.child along place after c.take_from_bit_leaf.ensures.parts c.take_from_bit_leaf.ensures.taken c.requires.many in
+    let level = bit_stays words c.args.width c.args.key c.in-Some.at head block c.requires.level c.requires.child along place after c.take_from_bit_leaf.ensures.parts
+    c.take_from_bit_leaf.ensures.taken c.requires.many in
     let left = ap (one_bitmap head) c.take_from_bit_leaf.ensures.taken in
-    bit_gone {V = ℕ} words c.args.width c.args.key c.in-Some.at head block c.requires.level c.requires.child along place (Bit head after) (bit_tree words head after) level left refl c.value_at-value.result (bit_tree words head after) _ value
+    bit_gone {V = ℕ} words c.args.width c.args.key c.in-Some.at head block c.requires.level c.requires.child along place (Bit head after)
+    (bit_tree words head after) level left refl c.value_at-value.result (bit_tree words head after) _ value
     (bit_kept {V = ℕ} words c.args.width c.args.key c.in-Some.at head block c.requires.level c.requires.child along place (Bit head after) (bit_tree words head after) level left refl c.requires.many)
 
 pub returns-in-None-clause-taken : goal.returns-in-None-clause-taken

@@ -9,7 +9,8 @@ use Rattle.judy_change.proofs.remove_leaf.remove_from_leaf.Goals as goal
 pub value_at-value-requires : goal.value_at-value-requires
 value_at-value-requires g c =
     let place = ap (λ l. set.place (keys_of l.pairs) c.args.key) (sym c.new.ensures) ∙ sym c.find.ensures ∙ c.in-Some.is in
-    subst (λ l. c.in-Some.at < length l.pairs) (sym c.new-in-Some.ensures) (leaf_within g.V.Words.WORDS c.args.width c.args.key c.in-Some.at c.args.count.now c.args.block.now c.requires.level c.requires.child place)
+    subst (λ l. c.in-Some.at < length l.pairs) (sym c.new-in-Some.ensures) (leaf_within g.V.Words.WORDS c.args.width c.args.key c.in-Some.at c.args.count.now
+    c.args.block.now c.requires.level c.requires.child place)
 
 pub take_from_leaf-requires-clause-inside : goal.take_from_leaf-requires-clause-inside
 take_from_leaf-requires-clause-inside g c =
@@ -20,14 +21,16 @@ pub returns-in-Some-clause-level : goal.returns-in-Some-clause-level
 returns-in-Some-clause-level g c =
     let n = c.take_from_leaf.new in
     let place = ap (λ l. set.place (keys_of l.pairs) c.args.key) (sym c.new.ensures) ∙ sym c.find.ensures ∙ c.in-Some.is in
-    leaf_stays g.V.Words.WORDS c.args.width c.args.key c.in-Some.at c.args.count.now c.args.block.now c.requires.level c.requires.child place n.count n.block c.take_from_leaf.ensures.parts c.take_from_leaf.ensures.taken c.requires.many
+    leaf_stays g.V.Words.WORDS c.args.width c.args.key c.in-Some.at c.args.count.now c.args.block.now c.requires.level c.requires.child place n.count n.block
+    c.take_from_leaf.ensures.parts c.take_from_leaf.ensures.taken c.requires.many
 
 pub returns-in-Some-clause-taken : goal.returns-in-Some-clause-taken
 returns-in-Some-clause-taken g c =
     let n = c.take_from_leaf.new in
     let place = ap (λ l. set.place (keys_of l.pairs) c.args.key) (sym c.new.ensures) ∙ sym c.find.ensures ∙ c.in-Some.is in
     let value = c.value_at-value.ensures ∙ ap (λ l. get_or (values_of l.pairs) c.in-Some.at 0) c.new-in-Some.ensures in
-    leaf_gone-here g.V.Words.WORDS c.args.width c.args.key c.in-Some.at c.args.count.now c.args.block.now c.requires.level c.requires.child place n.count c.value_at-value.result n.block (returns-in-Some-clause-level g c) c.take_from_leaf.ensures.taken value
+    leaf_gone-here g.V.Words.WORDS c.args.width c.args.key c.in-Some.at c.args.count.now c.args.block.now c.requires.level c.requires.child place n.count c.value_at-value.result n.block
+    (returns-in-Some-clause-level g c) c.take_from_leaf.ensures.taken value
 
 pub returns-in-None-clause-taken : goal.returns-in-None-clause-taken
 returns-in-None-clause-taken g c =

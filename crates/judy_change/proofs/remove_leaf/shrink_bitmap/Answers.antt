@@ -15,7 +15,8 @@ value_at-value-requires g c =
     let list = bit_list words c.args.block in
     let along = c.in-Some.ensures.0 ∙ c.number.ensures.value in
     let place = ap (λ (l : KeyList). set.place (keys_of l.pairs) (c.args.key % 256)) (sym (c.reading.ensures ∙ c.of_parts-bits.ensures)) ∙ c.in-Some.ensures.1 in
-    subst (λ (l : KeyList). c.in-Some.at < length l.pairs) (sym (c.reading-in-Some.ensures ∙ c.of_parts-bits.ensures)) (bit_within words c.args.width c.args.key c.in-Some.at c.args.head c.args.block c.requires.level c.requires.child along place)
+    subst (λ (l : KeyList). c.in-Some.at < length l.pairs) (sym (c.reading-in-Some.ensures ∙ c.of_parts-bits.ensures))
+    (bit_within words c.args.width c.args.key c.in-Some.at c.args.head c.args.block c.requires.level c.requires.child along place)
 
 pub bitmap_kind-requires-clause-some : goal.bitmap_kind-requires-clause-some
 bitmap_kind-requires-clause-some g c =
@@ -41,8 +42,11 @@ returns-then-len-eq1 g c =
     let place = ap (λ (l : KeyList). set.place (keys_of l.pairs) (c.args.key % 256)) (sym (c.reading.ensures ∙ c.of_parts-bits.ensures)) ∙ c.in-Some.ensures.1 in
     let value = c.value_at-value.ensures ∙ ap (λ (l : KeyList). get_or (values_of l.pairs) c.in-Some.at 0) (c.reading-in-Some.ensures ∙ c.of_parts-bits.ensures) in
     let count = c.len.ensures.count ∙ ap (λ (l : KeyList). length l.pairs) (c.reading-in-Some-2.ensures ∙ c.of_parts-bits.ensures) in
-    let one = length-shift (c.args.head * 256) list.pairs ∙ sym count ∙ c.if-len-eq1.true in
-    (one_pair (bit_tree words c.args.head c.args.block).pairs c.args.key c.value_at-value.result one (bit_found words c.args.width c.args.key c.in-Some.at c.args.head c.args.block c.requires.level c.requires.child along place ∙ ap Some (sym value)), c.close.ensures ∙ c.bitmap_kind.ensures.tree ∙ ap (one_bitmap c.args.head) c.of_parts-bits.ensures)
+    let one = length-shift (c.args.head * 256) list.pairs ∙ sym count ∙ c.if-len-eq1.true in (
+      one_pair (bit_tree words c.args.head c.args.block).pairs c.args.key c.value_at-value.result one
+          (bit_found words c.args.width c.args.key c.in-Some.at c.args.head c.args.block c.requires.level c.requires.child along place ∙ ap Some (sym value)),
+      c.close.ensures ∙ c.bitmap_kind.ensures.tree ∙ ap (one_bitmap c.args.head) c.of_parts-bits.ensures,
+    )
 
 pub remove-requires : goal.remove-requires
 remove-requires g c =
@@ -50,7 +54,8 @@ remove-requires g c =
     let list = bit_list words c.args.block in
     let along = c.in-Some.ensures.0 ∙ c.number.ensures.value in
     let place = ap (λ (l : KeyList). set.place (keys_of l.pairs) (c.args.key % 256)) (sym (c.reading.ensures ∙ c.of_parts-bits.ensures)) ∙ c.in-Some.ensures.1 in
-    subst (λ (l : KeyList). c.in-Some.at < length l.pairs) (sym c.of_parts-bits.ensures) (bit_within words c.args.width c.args.key c.in-Some.at c.args.head c.args.block c.requires.level c.requires.child along place)
+    subst (λ (l : KeyList). c.in-Some.at < length l.pairs) (sym c.of_parts-bits.ensures) (bit_within words c.args.width c.args.key c.in-Some.at c.args.head
+    c.args.block c.requires.level c.requires.child along place)
 
 pub bitmap_kind-requires-in-Some-clause-some : goal.bitmap_kind-requires-in-Some-clause-some
 bitmap_kind-requires-in-Some-clause-some g c =
@@ -78,9 +83,11 @@ lessen-child-requires g c =
     let along = c.in-Some.ensures.0 ∙ c.number.ensures.value in
     let place = ap (λ (l : KeyList). set.place (keys_of l.pairs) (c.args.key % 256)) (sym (c.reading.ensures ∙ c.of_parts-bits.ensures)) ∙ c.in-Some.ensures.1 in
     let left = c.remove.ensures ∙ ap (λ l. left_list l c.in-Some.at) c.of_parts-bits.ensures in
-    let child = bit_child words c.args.width c.args.key c.in-Some.at c.args.head c.args.block c.requires.level c.requires.child along place c.bitmap_kind-in-Some.result c.close-child.result c.bitmap_kind-in-Some.ensures.level (c.bitmap_kind-in-Some.ensures.tree ∙ ap (one_bitmap c.args.head) left) c.close-child.ensures in
+    let child = bit_child words c.args.width c.args.key c.in-Some.at c.args.head c.args.block c.requires.level c.requires.child along place c.bitmap_kind-in-Some.result
+    c.close-child.result c.bitmap_kind-in-Some.ensures.level (c.bitmap_kind-in-Some.ensures.tree ∙ ap (one_bitmap c.args.head) left) c.close-child.ensures in
     let few = c.requires.few in
-    let long = bit_long words c.args.width c.args.key c.in-Some.at c.args.head c.args.block c.requires.level c.requires.child along place c.bitmap_kind-in-Some.result c.close-child.result c.bitmap_kind-in-Some.ensures.level (c.bitmap_kind-in-Some.ensures.tree ∙ ap (one_bitmap c.args.head) left) c.close-child.ensures in
+    let long = bit_long words c.args.width c.args.key c.in-Some.at c.args.head c.args.block c.requires.level c.requires.child along place c.bitmap_kind-in-Some.result
+    c.close-child.result c.bitmap_kind-in-Some.ensures.level (c.bitmap_kind-in-Some.ensures.tree ∙ ap (one_bitmap c.args.head) left) c.close-child.ensures in
     let moved = length-shift (c.args.head * 256) list.pairs in
     let two : c.args.width ≡ 8 → 2 ≤ length c.close-child.result.pairs = λ wide. let three = c.requires.three wide in omega arith in
     (omega arith, (c.requires.one, (child, (omega arith, two))))
@@ -93,7 +100,9 @@ returns-else-len-eq1 g c =
     let place = ap (λ (l : KeyList). set.place (keys_of l.pairs) (c.args.key % 256)) (sym (c.reading.ensures ∙ c.of_parts-bits.ensures)) ∙ c.in-Some.ensures.1 in
     let value = c.value_at-value.ensures ∙ ap (λ (l : KeyList). get_or (values_of l.pairs) c.in-Some.at 0) (c.reading-in-Some.ensures ∙ c.of_parts-bits.ensures) in
     let left = c.remove.ensures ∙ ap (λ l. left_list l c.in-Some.at) c.of_parts-bits.ensures in
-    bit_gone words c.args.width c.args.key c.in-Some.at c.args.head c.args.block c.requires.level c.requires.child along place c.bitmap_kind-in-Some.result c.close-child.result c.bitmap_kind-in-Some.ensures.level (c.bitmap_kind-in-Some.ensures.tree ∙ ap (one_bitmap c.args.head) left) c.close-child.ensures c.value_at-value.result c.lessen-child.result.0 c.lessen-child.result.1 value (c.lessen-child.ensures 0)
+    bit_gone words c.args.width c.args.key c.in-Some.at c.args.head c.args.block c.requires.level c.requires.child along place c.bitmap_kind-in-Some.result
+    c.close-child.result c.bitmap_kind-in-Some.ensures.level (c.bitmap_kind-in-Some.ensures.tree ∙ ap (one_bitmap c.args.head) left) c.close-child.ensures
+    c.value_at-value.result c.lessen-child.result.0 c.lessen-child.result.1 value (c.lessen-child.ensures 0)
 
 pub returns-in-None : goal.returns-in-None
 returns-in-None g c =

@@ -13,7 +13,8 @@ pub value_at-value-requires : goal.value_at-value-requires
 value_at-value-requires g c =
     let words = g.V.Words.WORDS in
     let place = ap (λ l. set.place (keys_of l.pairs) c.args.key) (sym (c.reading.ensures ∙ c.of_parts-leaf.ensures)) ∙ sym c.find.ensures ∙ c.in-Some.is in
-    subst (λ l. c.in-Some.at < length l.pairs) (sym (c.reading-in-Some.ensures ∙ c.of_parts-leaf.ensures)) (leaf_within words c.args.width c.args.key c.in-Some.at c.args.count c.args.block c.requires.level c.requires.child place)
+    subst (λ l. c.in-Some.at < length l.pairs) (sym (c.reading-in-Some.ensures ∙ c.of_parts-leaf.ensures))
+    (leaf_within words c.args.width c.args.key c.in-Some.at c.args.count c.args.block c.requires.level c.requires.child place)
 
 pub remove-requires : goal.remove-requires
 remove-requires g c =
@@ -25,7 +26,8 @@ pub immediate_left-requires : goal.immediate_left-requires
 immediate_left-requires g c =
     let words = g.V.Words.WORDS in
     let place = ap (λ l. set.place (keys_of l.pairs) c.args.key) (sym (c.reading.ensures ∙ c.of_parts-leaf.ensures)) ∙ sym c.find.ensures ∙ c.in-Some.is in
-    let left = leaf_left words c.args.width c.args.key c.in-Some.at c.args.count c.args.block c.requires.level c.requires.child place c.remove.new.self (c.remove.ensures ∙ ap (λ l. left_list l c.in-Some.at) c.of_parts-leaf.ensures) in
+    let left = leaf_left words c.args.width c.args.key c.in-Some.at c.args.count c.args.block c.requires.level c.requires.child place c.remove.new.self
+    (c.remove.ensures ∙ ap (λ l. left_list l c.in-Some.at) c.of_parts-leaf.ensures) in
     let fewer = left.fewer in
     let long = leaf_long words c.args.count c.args.block c.requires.level.parts in
     let few = c.requires.few in

@@ -27,4 +27,5 @@ small_node-requires g c =
 
 pub returns : goal.returns
 returns g c =
-    subst (λ pairs. IfOk c.small_node.result (λ small. IsTightOf g.V.Words.WORDS c.args.width pairs small)) (filled c.pop-count.result c.fill.new.out _ c.args.child.now.pairs (sym c.pop-count.ensures) c.fill.ensures) c.small_node.ensures
+    subst (λ pairs. IfOk c.small_node.result (λ small. IsTightOf g.V.Words.WORDS c.args.width pairs small))
+    (filled c.pop-count.result c.fill.new.out _ c.args.child.now.pairs (sym c.pop-count.ensures) c.fill.ensures) c.small_node.ensures

@@ -24,15 +24,18 @@ lessen-requires g c =
 
 pub returns-then-deref : goal.returns-then-deref
 returns-then-deref g c =
-    subst (λ pairs. IsSettled g.V.Words.WORDS c.args.width pairs (loose_below c.args.branch.value) c.lessen.result.0 c.lessen.result.1) (ap (λ tree. tree.pairs) c.close.ensures) (c.lessen.ensures (loose_below c.args.branch.value))
+    subst (λ pairs. IsSettled g.V.Words.WORDS c.args.width pairs (loose_below c.args.branch.value) c.lessen.result.0 c.lessen.result.1) (ap (λ tree. tree.pairs) c.close.ensures)
+    (c.lessen.ensures (loose_below c.args.branch.value))
 
 pub merged-requires : goal.merged-requires
 merged-requires g c =
     let branch = c.args.branch.value in
     let long = children-length g.V.Words.WORDS branch.width 0 branch.bytes branch.children.items c.requires.branch.parts.children in
     let many : 32 < branch.population = subst (λ b. 32 < b.population) c.deref.ensures c.if-deref.false in
-    let same = c.deref_mut.ensures.value in
-    (omega arith, (subst (IsWholeBranch g.V.Words.WORDS) (sym same) c.requires.branch, (subst (λ b. 32 < b.population) (sym same) many, ap (λ b. length b.bytes) same ∙ sym long ∙ c.requires.loose many)))
+    let same = c.deref_mut.ensures.value in (
+      omega arith,
+      (subst (IsWholeBranch g.V.Words.WORDS) (sym same) c.requires.branch, (subst (λ b. 32 < b.population) (sym same) many, ap (λ b. length b.bytes) same ∙ sym long ∙ c.requires.loose many)),
+    )
 
 pub returns : goal.returns
 returns g c =

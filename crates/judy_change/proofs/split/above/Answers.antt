@@ -36,13 +36,21 @@ returns-clause-above g c =
     let none = ap (λ b. b.bytes) c.deref_mut-2.ensures.value ∙ ap (λ b. b.bytes) c.deref_mut.ensures.value ∙ ap (λ b. b.bytes) c.in-Ok-new.ensures.ok ∙ c.new.ensures in
     let byte = c.low_part-byte.ensures ∙ ap (λ n. n % 256) (c.without_low-2.ensures ∙ ap (λ n. number / 256 ^ n) c.from-2.ensures) in
     let bytes = made.bytes ∙ ap (λ bs. with_byte bs c.low_part-byte.result) none ∙ ap (λ b. b ∷ []) byte in
-    let items = ap (λ b. b.children.items) c.deref_mut-2.ensures.value ∙ ap (λ b. b.children.items) c.deref_mut.ensures.value ∙ ap (λ b. b.children.items) c.in-Ok-new.ensures.ok ∙ c.in-Ok.ensures.items in
+    let items = ap (λ b. b.children.items) c.deref_mut-2.ensures.value ∙ ap (λ b. b.children.items) c.deref_mut.ensures.value ∙ ap (λ b. b.children.items) c.in-Ok-new.ensures.ok ∙
+    c.in-Ok.ensures.items in
     let kids = made.children ∙ (λ t. insert (items t) (rank (none t) c.low_part-byte.result) new) in
     let size = made.population ∙ ap (λ b. b.population) c.deref_mut-2.ensures.value ∙ c.pop.ensures in
     let child = subst (IsChild words (left + tail)) (sym c.close-child.ensures) c.shortened.ensures.child in
     let shorter = subst (IsShorter number left tail old) (sym c.close-child.ensures) c.shortened.ensures.shorter in
-    let done = above_is words number count tail left old new c.requires.child (number_small words number count tail c.args.kind c.requires.level c.requires.skips) c.requires.left (tail_some number count tail c.args.kind c.requires.skips) child shorter in
+    let done = above_is words number count tail left old new c.requires.child (number_small words number count tail c.args.kind c.requires.level c.requires.skips) c.requires.left
+    (tail_some number count tail c.args.kind c.requires.skips) child shorter in
     let same : record { width = left + tail; skip = low_bytes (count - left - 1) (number / 256 ^ (left + 1)); bytes = (number / 256 ^ left % 256) ∷ []; kids = new ∷ []; count = length new.pairs }
-    ≡ record { width = c.add_child.new.branch.width; skip = c.add_child.new.branch.skip; bytes = c.add_child.new.branch.bytes; kids = c.add_child.new.branch.children.items; count = c.add_child.new.branch.population } =
+    ≡ record {
+      width = c.add_child.new.branch.width;
+      skip = c.add_child.new.branch.skip;
+      bytes = c.add_child.new.branch.bytes;
+      kids = c.add_child.new.branch.children.items;
+      count = c.add_child.new.branch.population;
+    } =
     λ t. record { width = sym width t; skip = sym skip t; bytes = sym bytes t; kids = sym kids t; count = sym size t } in
     subst (λ (p : BranchParts). IsAbove words number count tail left old p.width p.skip p.bytes p.kids p.count) same done

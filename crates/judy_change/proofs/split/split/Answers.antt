@@ -47,8 +47,11 @@ module _ (g : Over) (c : After-low_part g) where
   rest_is : c.low_part.result ≡ c.args.pair.key % 256 ^ (left + tail)
   rest_is = c.low_part.ensures ∙ ap (λ n. c.args.pair.key % 256 ^ n) width_is
 
-  above_is : IsAbove g.V.Words.WORDS number count tail left (tree_of g.V.Words.WORDS c.args.kind) c.deref_mut.result.now.width c.deref_mut.result.now.skip c.deref_mut.result.now.bytes c.deref_mut.result.now.children.items c.deref_mut.result.now.population
-  above_is = subst (λ b. IsAbove g.V.Words.WORDS number count tail left (tree_of g.V.Words.WORDS c.args.kind) b.width b.skip b.bytes b.children.items b.population) (sym c.deref_mut.ensures.value) c.in-Ok.ensures.above
+  above_is : IsAbove g.V.Words.WORDS number count tail left (tree_of g.V.Words.WORDS c.args.kind) c.deref_mut.result.now.width c.deref_mut.result.now.skip
+      c.deref_mut.result.now.bytes c.deref_mut.result.now.children.items c.deref_mut.result.now.population
+  above_is =
+      subst (λ b. IsAbove g.V.Words.WORDS number count tail left (tree_of g.V.Words.WORDS c.args.kind) b.width b.skip b.bytes b.children.items b.population)
+      (sym c.deref_mut.ensures.value) c.in-Ok.ensures.above
 
 pub put_key-requires-clause-absent : goal.put_key-requires-clause-absent
 put_key-requires-clause-absent g c =
@@ -83,7 +86,9 @@ returns-in-Ok g c =
     ∙ split_key number count tail left c.args.pair.key c.without_low-other.result c.requires.fits (other_is g at) found.within found.apart found.same in
     record {
       level = (c.put_key.ensures.level, subst (λ s. AreSums s n.children.items) (sym (c.put_key.ensures.sums ∙ ap (λ b. b.sums) c.deref_mut.ensures.value)) (c.in-Ok.ensures.sums n.children.items));
-      child = subst (λ w. IsChild words w (branch_tree n.width n.skip n.bytes n.children.items n.population)) e (branch-child words n.width n.skip n.bytes n.children.items n.population c.put_key.ensures.level);
+      child =
+          subst (λ w. IsChild words w (branch_tree n.width n.skip n.bytes n.children.items n.population)) e
+          (branch-child words n.width n.skip n.bytes n.children.items n.population c.put_key.ensures.level);
       inserted = split_added words number count tail left (tree_of words c.args.kind) now.width now.skip now.bytes now.children.items now.population above
           ((number_of now.skip * 256 + c.low_part-byte.result) * 256 ^ now.width + c.low_part.result) c.args.pair.key c.args.pair.value key_is
           n.width n.skip n.bytes n.children.items n.population c.put_key.ensures.added c.put_key.ensures.population c.put_key.ensures.wider c.put_key.ensures.loose;

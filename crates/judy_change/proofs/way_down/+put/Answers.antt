@@ -112,7 +112,8 @@ put_in_kind-returns-in-Child-clause-child g t c =
 
 pub put_in_kind-returns-in-Ok-clause-child : goal.put_in_kind-returns-in-Ok-clause-child
 put_in_kind-returns-in-Ok-clause-child g t c =
-    still_child g.V.Words.WORDS c.args.width c.args.kind.now c.in-Branch.branch c.deref_mut-in-Missing.result.now c.put_child.new.branch c.in-Branch.is c.requires.child c.deref_mut-in-Missing.ensures.value
+    still_child g.V.Words.WORDS c.args.width c.args.kind.now c.in-Branch.branch c.deref_mut-in-Missing.result.now c.put_child.new.branch c.in-Branch.is c.requires.child
+    c.deref_mut-in-Missing.ensures.value
     c.put_child.ensures.skip c.put_child.ensures.width c.put_child.ensures.level
 
 pub put_in_kind-returns-in-Ok-clause-put : goal.put_in_kind-returns-in-Ok-clause-put
@@ -120,18 +121,23 @@ put_in_kind-returns-in-Ok-clause-put g t c =
     let words = g.V.Words.WORDS in
     let branch = c.in-Branch.branch.value in
     let level = (subst (IsLevel words) c.in-Branch.is c.requires.level).0 in
-    let step = subst (λ b. IsStep (256 ^ b.width) (number_of b.skip * 256) b.bytes c.args.pair.key (Missing c.in-Missing.byte c.in-Missing.place c.in-Missing.rest)) c.deref.ensures c.in-Missing.ensures in
+    let step = subst (λ b. IsStep (256 ^ b.width) (number_of b.skip * 256) b.bytes c.args.pair.key (Missing c.in-Missing.byte c.in-Missing.place c.in-Missing.rest))
+    c.deref.ensures c.in-Missing.ensures in
     let absent = missing_absent words c.args.pair.key branch level c.in-Missing.byte c.in-Missing.place c.in-Missing.rest step in
     let n = c.put_child.new.branch in
-    let here = subst (λ b. IsInserted {E = AllocError} ((number_of b.skip * 256 + c.in-Missing.byte) * 256 ^ b.width + c.in-Missing.rest) c.args.pair.value (tree_below b) (tree_below n) (Ok c.in-Ok.field-0)) c.deref_mut-in-Missing.ensures.value c.in-Ok.ensures.inserted in
+    let here = subst (λ b. IsInserted {E = AllocError} ((number_of b.skip * 256 + c.in-Missing.byte) * 256 ^ b.width + c.in-Missing.rest) c.args.pair.value
+    (tree_below b) (tree_below n) (Ok c.in-Ok.field-0)) c.deref_mut-in-Missing.ensures.value c.in-Ok.ensures.inserted in
     let whole = subst (λ k. IsInserted {E = AllocError} k c.args.pair.value (tree_below branch) (tree_below n) (Ok c.in-Ok.field-0)) (sym step.0.key_is) here in
-    subst (λ k. IsAdded c.args.pair.key c.args.pair.value (tree_of words k) (tree_below n)) (sym c.in-Branch.is) (added_absent AllocError c.args.pair.key c.args.pair.value (tree_below branch) (tree_below n) c.in-Ok.field-0 absent whole)
+    subst (λ k. IsAdded c.args.pair.key c.args.pair.value (tree_of words k) (tree_below n)) (sym c.in-Branch.is)
+    (added_absent AllocError c.args.pair.key c.args.pair.value (tree_below branch) (tree_below n) c.in-Ok.field-0 absent whole)
 
 pub put_in_kind-returns-in-Ok-replaced-clause-put : goal.put_in_kind-returns-in-Ok-replaced-clause-put
 put_in_kind-returns-in-Ok-replaced-clause-put g t c =
     let words = g.V.Words.WORDS in
     let branch = c.in-Branch.branch.value in
     let level = (subst (IsLevel words) c.in-Branch.is c.requires.level).0 in
-    let past = past_apart words c.args.pair.key branch level c.step.result (subst (λ b. IsStep (256 ^ b.width) (number_of b.skip * 256) b.bytes c.args.pair.key c.step.result) c.deref.ensures c.step.ensures) c.in-Below.is in
+    let past = past_apart words c.args.pair.key branch level c.step.result (subst (λ b. IsStep (256 ^ b.width) (number_of b.skip * 256) b.bytes c.args.pair.key c.step.result)
+    c.deref.ensures c.step.ensures) c.in-Below.is in
     subst (λ k. IsAdded c.args.pair.key c.args.pair.value (tree_of words k) (tree_of words c.replaced.new.kind)) (sym c.in-Branch.is)
-    (added_absent AllocError c.args.pair.key c.args.pair.value (tree_below branch) (tree_of words c.replaced.new.kind) c.in-Ok-replaced.field-0 (apart_absent words c.args.pair.key branch level past) c.in-Ok-replaced.ensures.inserted)
+    (added_absent AllocError c.args.pair.key c.args.pair.value (tree_below branch) (tree_of words c.replaced.new.kind) c.in-Ok-replaced.field-0
+    (apart_absent words c.args.pair.key branch level past) c.in-Ok-replaced.ensures.inserted)

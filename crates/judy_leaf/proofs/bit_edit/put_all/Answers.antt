@@ -16,14 +16,16 @@ overflow_add-tag g c =
     omega arith
 
 pub append-requires-clause-front : goal.append-requires-clause-front
-append-requires-clause-front g c = bits_front g.V.Words.WORDS c.args.pairs.now c.args.block.now c.set_bits.new.block c.set_tag.new.self c.requires.parts c.requires.empty c.set_bits.ensures (ap (λ b. b.words) c.set_tag.ensures)
+append-requires-clause-front g c =
+    bits_front g.V.Words.WORDS c.args.pairs.now c.args.block.now c.set_bits.new.block c.set_tag.new.self c.requires.parts c.requires.empty c.set_bits.ensures (ap (λ b. b.words) c.set_tag.ensures)
 
 pub append-requires-clause-few : goal.append-requires-clause-few
 append-requires-clause-few g c = few_bytes c.args.pairs.now c.requires.list
 
 pub returns-then-WORDS-eq1 : goal.returns-then-WORDS-eq1
 returns-then-WORDS-eq1 g c =
-    let done = bits_and_values g.V.Words.WORDS c.args.pairs.now c.args.block.now c.set_bits.new.block c.append.new.block c.requires.parts c.requires.empty (few_bytes c.args.pairs.now c.requires.list) c.set_bits.ensures
+    let done = bits_and_values g.V.Words.WORDS c.args.pairs.now c.args.block.now c.set_bits.new.block c.append.new.block c.requires.parts c.requires.empty
+    (few_bytes c.args.pairs.now c.requires.list) c.set_bits.ensures
     (ap (λ b. b.tag) c.append.ensures ∙ ap (λ b. b.tag) c.set_tag.ensures ∙ ap (λ n. n + length c.args.pairs.now) c.tag.ensures.tag) (sym c.WORDS.ensures ∙ c.if-WORDS-eq1.true)
     (ap (λ b. b.words) c.append.ensures ∙ ap (λ b. b.words ++ values_of c.args.pairs.now) c.set_tag.ensures) in
     record { parts = done.0; list = done.1 }
@@ -31,6 +33,7 @@ returns-then-WORDS-eq1 g c =
 pub returns-else-WORDS-eq1 : goal.returns-else-WORDS-eq1
 returns-else-WORDS-eq1 g c =
     let none = no_word c.WORDS.ensures c.requires.parts.one c.if-WORDS-eq1.false in
-    let done = bits_alone g.V.Words.WORDS c.args.pairs.now c.args.block.now c.set_bits.new.block c.set_tag.new.self c.requires.parts c.requires.empty (few_bytes c.args.pairs.now c.requires.list) c.set_bits.ensures
+    let done = bits_alone g.V.Words.WORDS c.args.pairs.now c.args.block.now c.set_bits.new.block c.set_tag.new.self c.requires.parts c.requires.empty
+    (few_bytes c.args.pairs.now c.requires.list) c.set_bits.ensures
     (ap (λ b. b.tag) c.set_tag.ensures ∙ ap (λ n. n + length c.args.pairs.now) c.tag.ensures.tag) none (c.requires.no_values none) (ap (λ b. b.words) c.set_tag.ensures) in
     record { parts = done.0; list = done.1 }

@@ -9,5 +9,9 @@ returns c =
     let before = c.args.block.now in
     let small = c.ranges.byte.fits in
     subst (IsBitChange (λ keys. sets.with_byte keys c.args.byte) before)
-    (sym (c.put.ensures ∙ (λ t. record before { words = set before.words (c.from-word.ensures t) (bit_or ((c.get.ensures ∙ (λ j. get_or before.words (c.from-word.ensures j) 0)) t) (1 * 2 ^ (c.args.byte % 64) % 2 ^ 64)) })))
-    (bits_changed (λ keys. sets.with_byte keys c.args.byte) before (c.args.byte / 64) (bit_or (get_or before.words (c.args.byte / 64) 0) (1 * 2 ^ (c.args.byte % 64) % 2 ^ 64)) (omega arith) (bit_on before.words c.args.byte c.requires small))
+    (sym (c.put.ensures ∙ (λ t. record before {
+      words = set before.words (c.from-word.ensures t) (bit_or ((c.get.ensures ∙ (λ j. get_or before.words (c.from-word.ensures j) 0)) t)
+          (1 * 2 ^ (c.args.byte % 64) % 2 ^ 64));
+    })))
+    (bits_changed (λ keys. sets.with_byte keys c.args.byte) before (c.args.byte / 64) (bit_or (get_or before.words (c.args.byte / 64) 0) (1 * 2 ^ (c.args.byte % 64) % 2 ^ 64))
+    (omega arith) (bit_on before.words c.args.byte c.requires small))

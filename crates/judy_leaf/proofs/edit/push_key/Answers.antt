@@ -26,5 +26,6 @@ returns g c =
     let here : c.get.result ≡ slice_index before.words word = c.get.ensures ∙ not_yet g.row.W c.requires.width (word + 1) word _ before c.push_words.new.block c.push_words.ensures (omega arith) in
     push_from g.row.W c.requires.width c.args.start c.args.at c.args.key before c.put.new.self c.requires.inside c.requires.tight
     (subst (IsEdit g.row.W word (pushed (c.args.at % (8 / g.row.W)) c.args.key) before) (sym c.put.ensures)
-    (push_one g.row.W c.requires.width word c.args.key before c.push_words.new.block (c.args.at % (8 / g.row.W)) c.with_key-here.result c.requires.inside (mod_below c.args.at (8 / g.row.W) (per_pos g.row.W c.requires.width))
+    (push_one g.row.W c.requires.width word c.args.key before c.push_words.new.block (c.args.at % (8 / g.row.W)) c.with_key-here.result c.requires.inside
+    (mod_below c.args.at (8 / g.row.W) (per_pos g.row.W c.requires.width))
     c.push_words.ensures c.with_key-here.ensures.tight (c.with_key-here.ensures.places ∙ ap (λ w. pushed (c.args.at % (8 / g.row.W)) c.args.key (places g.row.W w)) here)))

@@ -15,7 +15,8 @@ returns-then-key_of-absent g c =
     let top = c.top-top.ensures in
     let at = c.loop-at.at in
     let there = there_in g.row.W c.args.count c.args.words.now c.requires.packed at c.key_of.result c.loop-at-test.true c.key_of.ensures in
-    first_absent (256 ^ g.row.W) keys c.args.number c.loop-at.absent inv.0 (omega arith) (absent_at keys c.requires.ascending c.loop-at.absent at inv.2 (λ _ same. c.if-key_of-absent.true (there.there ∙ same))) inv.3
+    first_absent (256 ^ g.row.W) keys c.args.number c.loop-at.absent inv.0 (omega arith) (absent_at keys c.requires.ascending c.loop-at.absent at inv.2
+    (λ _ same. c.if-key_of-absent.true (there.there ∙ same))) inv.3
 
 pub returns-then-absent-top : goal.returns-then-absent-top
 returns-then-absent-top g c =
@@ -46,4 +47,5 @@ returns g c =
     let top = c.top-top.ensures in
     let past = c.loop-at-test.false in
     let long = length-keys g.row.W c.args.count c.args.words.now c.requires.packed in
-    first_absent (256 ^ g.row.W) keys c.args.number c.loop-at.absent inv.0 (omega arith) (absent_at keys c.requires.ascending c.loop-at.absent c.loop-at.at inv.2 (λ inside _. let never : ⊥ = omega arith in absurd never)) inv.3
+    first_absent (256 ^ g.row.W) keys c.args.number c.loop-at.absent inv.0 (omega arith) (absent_at keys c.requires.ascending c.loop-at.absent c.loop-at.at inv.2
+    (λ inside _. let never : ⊥ = omega arith in absurd never)) inv.3

@@ -25,7 +25,8 @@ returns-then-key_of-absent g c =
     let long = length-keys g.row.W c.args.count c.args.words.now c.requires.packed in
     let most = count_within keys c.loop-at.absent in
     let there = there_in g.row.W c.args.count c.args.words.now c.requires.packed (c.loop-at.at - 1) c.key_of.result (omega arith) c.key_of.ensures in
-    last_absent (256 ^ g.row.W) keys c.args.number c.loop-at.absent inv.0 inv.1 (absent_below keys c.requires.ascending c.loop-at.absent (c.loop-at.at - 1) (back ∙ inv.2) (λ same. c.if-key_of-absent.true (there.there ∙ same))) inv.3
+    last_absent (256 ^ g.row.W) keys c.args.number c.loop-at.absent inv.0 inv.1 (absent_below keys c.requires.ascending c.loop-at.absent (c.loop-at.at - 1)
+    (back ∙ inv.2) (λ same. c.if-key_of-absent.true (there.there ∙ same))) inv.3
 
 pub returns-then-absent-eq0 : goal.returns-then-absent-eq0
 returns-then-absent-eq0 g c =

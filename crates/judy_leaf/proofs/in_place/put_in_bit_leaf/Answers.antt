@@ -17,14 +17,16 @@ pub put-requires-clause-absent : goal.put-requires-clause-absent
 put-requires-clause-absent g c =
     let words = g.V.Words.WORDS in
     let block = c.args.block.now in
-    ap (λ keys. set.has keys c.args.byte) (room_keys words block c.requires.parts (bit_list words block) refl (4 + c.WORDS.result * (c.bit_count.result + 1)) c.give_room.new.block c.in_ok-give_room.ensures.room) ∙ c.requires.absent
+    ap (λ keys. set.has keys c.args.byte) (room_keys words block c.requires.parts (bit_list words block) refl
+    (4 + c.WORDS.result * (c.bit_count.result + 1)) c.give_room.new.block c.in_ok-give_room.ensures.room) ∙ c.requires.absent
 
 pub put-requires-clause-place : goal.put-requires-clause-place
 put-requires-clause-place g c =
     let words = g.V.Words.WORDS in
     let block = c.args.block.now in
     c.requires.place
-    ∙ ap (λ keys. set.rank keys c.args.byte) (sym (room_keys words block c.requires.parts (bit_list words block) refl (4 + c.WORDS.result * (c.bit_count.result + 1)) c.give_room.new.block c.in_ok-give_room.ensures.room))
+    ∙ ap (λ keys. set.rank keys c.args.byte) (sym (room_keys words block c.requires.parts (bit_list words block) refl
+    (4 + c.WORDS.result * (c.bit_count.result + 1)) c.give_room.new.block c.in_ok-give_room.ensures.room))
 
 pub put-requires-clause-room : goal.put-requires-clause-room
 put-requires-clause-room g c =

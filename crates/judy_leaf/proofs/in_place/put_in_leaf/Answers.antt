@@ -15,11 +15,15 @@ put-requires-clause-place g c =
 pub returns-clause-parts : goal.returns-clause-parts
 returns-clause-parts g c =
     let words = g.V.Words.WORDS in
-    (leaf_put words c.args.count.now (c.WORDS.result * (c.from-before.result + 1) + c.words_of.result) c.args.at c.args.key c.args.value c.args.block.now c.give_roomy.new.block c.put.new.block (leaf_list words c.args.count.now c.args.block.now) c.requires.parts refl
-    (c.in_ok-give_roomy.ensures.room) (subst (λ n. IsPairPut words n c.args.at c.args.key c.args.value c.give_roomy.new.block c.put.new.block) c.from-before.ensures c.put.ensures) c.requires.place c.requires.absent).0
+    (leaf_put words c.args.count.now (c.WORDS.result * (c.from-before.result + 1) + c.words_of.result) c.args.at c.args.key c.args.value c.args.block.now
+    c.give_roomy.new.block c.put.new.block (leaf_list words c.args.count.now c.args.block.now) c.requires.parts refl
+    (c.in_ok-give_roomy.ensures.room) (subst (λ n. IsPairPut words n c.args.at c.args.key c.args.value c.give_roomy.new.block c.put.new.block) c.from-before.ensures c.put.ensures)
+    c.requires.place c.requires.absent).0
 
 pub returns-clause-added : goal.returns-clause-added
 returns-clause-added g c =
     let words = g.V.Words.WORDS in
-    (leaf_put words c.args.count.now (c.WORDS.result * (c.from-before.result + 1) + c.words_of.result) c.args.at c.args.key c.args.value c.args.block.now c.give_roomy.new.block c.put.new.block (leaf_list words c.args.count.now c.args.block.now) c.requires.parts refl
-    (c.in_ok-give_roomy.ensures.room) (subst (λ n. IsPairPut words n c.args.at c.args.key c.args.value c.give_roomy.new.block c.put.new.block) c.from-before.ensures c.put.ensures) c.requires.place c.requires.absent).1
+    (leaf_put words c.args.count.now (c.WORDS.result * (c.from-before.result + 1) + c.words_of.result) c.args.at c.args.key c.args.value c.args.block.now
+    c.give_roomy.new.block c.put.new.block (leaf_list words c.args.count.now c.args.block.now) c.requires.parts refl
+    (c.in_ok-give_roomy.ensures.room) (subst (λ n. IsPairPut words n c.args.at c.args.key c.args.value c.give_roomy.new.block c.put.new.block) c.from-before.ensures c.put.ensures)
+    c.requires.place c.requires.absent).1

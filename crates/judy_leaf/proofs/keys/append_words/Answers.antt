@@ -41,7 +41,8 @@ loop-at-preserved g c =
       ap (λ b. b.tag) c.put.ensures ∙ so_far.1,
       ap (λ b. length b.words) c.put.ensures ∙ length-set c.loop-at.block.words place c.low_part.result ∙ so_far.2,
       ap (λ b. take (c.args.start + (at + 1)) b.words) c.put.ensures
-          ∙ key_written c.loop-at.block.words (take c.args.start c.open_gap.new.self.words) (keys_of (low_pairs unit c.args.pairs.now)) c.args.start place at c.low_part.result refl (omega arith) (omega arith)
+          ∙ key_written c.loop-at.block.words (take c.args.start c.open_gap.new.self.words) (keys_of (low_pairs unit c.args.pairs.now)) c.args.start place at c.low_part.result refl
+          (omega arith) (omega arith)
           (c.low_part.ensures ∙ key_low unit c.args.pairs.now at inside) so_far.3,
     )
 
@@ -51,5 +52,7 @@ returns g c =
     let so_far = c.loop-at.invariant in
     let past = c.loop-at-test.false in
     let end = c.loop-at.auto.at-end in
-    keys_written g.row.W c.requires.width c.requires.one c.args.start (length c.args.pairs.now) c.loop-at.at (keys_of (low_pairs unit c.args.pairs.now)) c.args.block.now c.open_gap.new.self c.loop-at.block c.open_gap.ensures
-    (sym c.requires.behind) so_far.0 so_far.1 so_far.2 (omega arith) (length-keys_low unit c.args.pairs.now) c.requires.few so_far.3 (keys_below unit (base_pos g.row.W c.requires.width) c.args.pairs.now)
+    keys_written g.row.W c.requires.width c.requires.one c.args.start (length c.args.pairs.now) c.loop-at.at
+    (keys_of (low_pairs unit c.args.pairs.now)) c.args.block.now c.open_gap.new.self c.loop-at.block c.open_gap.ensures
+    (sym c.requires.behind) so_far.0 so_far.1 so_far.2 (omega arith) (length-keys_low unit c.args.pairs.now) c.requires.few so_far.3
+    (keys_below unit (base_pos g.row.W c.requires.width) c.args.pairs.now)

@@ -18,7 +18,8 @@ returns-then-words_for g c =
     let second = c.words_for-2.ensures.value in
     let exact = c.requires.keys.exact in
     subst (IsKeyChange g.row.W c.args.start fewer fewer (λ keys. keys) before) (sym c.close_gap.ensures)
-    (word_dropped g.row.W c.requires.width c.args.start fewer before (without_gap (c.args.start + c.words_for-then-words_for.result) 1 before.words) (omega arith) c.requires.keys.packed (omega arith) (omega arith)
+    (word_dropped g.row.W c.requires.width c.args.start fewer before (without_gap (c.args.start + c.words_for-then-words_for.result) 1 before.words)
+    (omega arith) c.requires.keys.packed (omega arith) (omega arith)
     (ap (λ n. without_gap (c.args.start + n) 1 before.words) c.words_for-then-words_for.ensures.value))
 
 pub returns-else-words_for : goal.returns-else-words_for

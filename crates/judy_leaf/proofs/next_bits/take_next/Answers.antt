@@ -42,8 +42,10 @@ returns-clause-next c = λ byte all.
     let word = c.loop-left.word in
     let left = c.loop-left.left in
     let is = c.loop-left.invariant byte all in
-    let some : 0 < left = let apart = c.loop-left-test.false in omega arith in
-    (next_told words word left byte is some ∙ ap (λ n. Some (64 * word + n)) (sym c.from-bit.ensures), subst (λ n. AreLeft words word (bit_and left (left - 1)) (64 * word + n + 1)) (sym c.from-bit.ensures) (left_behind words word left byte is some))
+    let some : 0 < left = let apart = c.loop-left-test.false in omega arith in (
+      next_told words word left byte is some ∙ ap (λ n. Some (64 * word + n)) (sym c.from-bit.ensures),
+      subst (λ n. AreLeft words word (bit_and left (left - 1)) (64 * word + n + 1)) (sym c.from-bit.ensures) (left_behind words word left byte is some),
+    )
 
 pub returns-clause-below : goal.returns-clause-below
 returns-clause-below c =

@@ -21,6 +21,7 @@ returns-else-at-count g c =
     let long = length-take c.args.count (places_of g.row.W c.args.words.now) in
     place-none (keys_in g.row.W c.args.count c.args.words.now) c.requires.ascending c.args.key c.rank_in-at.result c.rank_in-at.ensures (λ inside same.
     elim c.else-at-count.branch [
-      | else-at-count-via-then-at-count+else-key_of-key w ↦ w.if-key_of-key.false (w.key_of.ensures ∙ sym (get_or-take c.args.count (places_of g.row.W c.args.words.now) c.rank_in-at.result 0 w.if-at-count.true) ∙ same)
+      | else-at-count-via-then-at-count+else-key_of-key w ↦ w.if-key_of-key.false (w.key_of.ensures ∙
+          sym (get_or-take c.args.count (places_of g.row.W c.args.words.now) c.rank_in-at.result 0 w.if-at-count.true) ∙ same)
       | else-at-count-via-else-at-count w ↦ (let past = w.if-at-count.false in omega arith)
     ])

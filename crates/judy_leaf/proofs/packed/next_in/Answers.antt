@@ -5,7 +5,10 @@ use Rattle.judy_leaf.proofs.KeysIn.{length-keys, there_in}
 use Rattle.judy_leaf.proofs.packed.next_in.Goals as goal
 
 pub returns-then-at-count : goal.returns-then-at-count
-returns-then-at-count g c = record { place = c.rank_in-at.ensures; key = there_in g.row.W c.args.count c.args.words.now c.requires.packed c.rank_in-at.result c.key_of.result c.if-at-count.true c.key_of.ensures }
+returns-then-at-count g c = record {
+  place = c.rank_in-at.ensures;
+  key = there_in g.row.W c.args.count c.args.words.now c.requires.packed c.rank_in-at.result c.key_of.result c.if-at-count.true c.key_of.ensures;
+}
 
 pub returns-else-at-count : goal.returns-else-at-count
 returns-else-at-count g c =

@@ -8,10 +8,12 @@ use Rattle.judy_leaf.proofs.WholeWords.{keys_are}
 use Rattle.judy_leaf.proofs.packed.rank_in.Goals as goal
 
 pub rank_of-requires-clause-ascending : goal.rank_of-requires-clause-ascending
-rank_of-requires-clause-ascending g c = subst (IsStrictlySortedBy word_order) (keys_are g.row.W c.requires.packed.is_width (ap (λ w. 8 / w) c.if-this-eq8.true) c.args.count c.args.words.now c.requires.packed) c.requires.ascending
+rank_of-requires-clause-ascending g c =
+    subst (IsStrictlySortedBy word_order) (keys_are g.row.W c.requires.packed.is_width (ap (λ w. 8 / w) c.if-this-eq8.true) c.args.count c.args.words.now c.requires.packed) c.requires.ascending
 
 pub returns-then-this-eq8 : goal.returns-then-this-eq8
-returns-then-this-eq8 g c = c.rank_of.ensures ∙ sym (ap (λ keys. set.rank keys c.args.key) (keys_are g.row.W c.requires.packed.is_width (ap (λ w. 8 / w) c.if-this-eq8.true) c.args.count c.args.words.now c.requires.packed))
+returns-then-this-eq8 g c =
+    c.rank_of.ensures ∙ sym (ap (λ keys. set.rank keys c.args.key) (keys_are g.row.W c.requires.packed.is_width (ap (λ w. 8 / w) c.if-this-eq8.true) c.args.count c.args.words.now c.requires.packed))
 
 pub returns : goal.returns
 returns g c =

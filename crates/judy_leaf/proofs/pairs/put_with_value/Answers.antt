@@ -15,5 +15,7 @@ pub returns-else-width-gt4 : goal.returns-else-width-gt4
 returns-else-width-gt4 c =
     let before = c.args.block.now in
     put_with_value 1 c.args.count c.args.at c.args.key c.args.value before c.insert.new.block c.insert-else-width-gt4.new.block refl c.requires.place
-    (subst (λ n. AreKeysFrom before.tag c.args.count n before) (sym (once c.args.count)) (subst (λ w. AreKeysFrom w c.args.count c.args.count before) (sym c.requires.tag) c.requires.keys)) c.insert.ensures
-    (subst (λ w. IsKeyChange w (c.args.count + 1) c.args.count (c.args.count + 1) (λ keys. insert keys c.args.at c.args.key) c.insert.new.block c.insert-else-width-gt4.new.block) (sym c.requires.tag) c.insert-else-width-gt4.ensures)
+    (subst (λ n. AreKeysFrom before.tag c.args.count n before) (sym (once c.args.count)) (subst (λ w. AreKeysFrom w c.args.count c.args.count before) (sym c.requires.tag) c.requires.keys))
+    c.insert.ensures
+    (subst (λ w. IsKeyChange w (c.args.count + 1) c.args.count (c.args.count + 1) (λ keys. insert keys c.args.at c.args.key) c.insert.new.block c.insert-else-width-gt4.new.block)
+    (sym c.requires.tag) c.insert-else-width-gt4.ensures)

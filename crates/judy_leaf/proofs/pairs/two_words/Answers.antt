@@ -10,7 +10,8 @@ with_values : (g : Over) (c : goal.In_ok-block g)
     → AreKeysFrom c.args.width 2 (g.V.Words.WORDS * 2) c.in_ok-block.block × ((leaf_list g.V.Words.WORDS 2 c.in_ok-block.block).pairs ≡ low_pairs (256 ^ c.args.width) (c.args.low ∷ c.args.high ∷ []))
 with_values g c =
     let is = c.in_ok-block.ensures in
-    let made = made_with_values g.V.Words.WORDS c.args.width (c.args.low ∷ c.args.high ∷ []) c.in_ok-block.block c.requires.wide.0 c.requires.wide.1 (ap (λ b. b.tag) is ∙ c.from-tag.ensures) (omega arith)
+    let made = made_with_values g.V.Words.WORDS c.args.width (c.args.low ∷ c.args.high ∷ []) c.in_ok-block.block c.requires.wide.0 c.requires.wide.1
+    (ap (λ b. b.tag) is ∙ c.from-tag.ensures) (omega arith)
     (c.requires.below_low, (c.requires.below_high, tt)) (sym c.WORDS.ensures ∙ c.if-WORDS-eq1.true) (ap (λ b. b.words) is) in
     (made.1, made.2)
 
@@ -22,7 +23,8 @@ returns-then-WORDS-eq1-clause-pairs g c = (with_values g c).1
 
 -- And of the one without.
 alone : (g : Over) (c : goal.In_ok-block-2 g)
-    → AreKeysFrom c.args.width 2 (g.V.Words.WORDS * 2) c.in_ok-block-2.block × ((leaf_list g.V.Words.WORDS 2 c.in_ok-block-2.block).pairs ≡ low_pairs (256 ^ c.args.width) (c.args.low ∷ c.args.high ∷ []))
+    → AreKeysFrom c.args.width 2 (g.V.Words.WORDS * 2) c.in_ok-block-2.block × ((leaf_list g.V.Words.WORDS 2 c.in_ok-block-2.block).pairs ≡
+    low_pairs (256 ^ c.args.width) (c.args.low ∷ c.args.high ∷ []))
 alone g c =
     let number = c.WORDS.ensures in
     let most = c.requires.one in

@@ -45,4 +45,5 @@ returns c =
     let so_far = c.loop-at.invariant in
     let past = c.loop-at-test.false in
     let end = c.loop-at.auto.at-end in
-    appended c.args.block.now c.open_gap.new.self c.loop-at.block c.args.pairs.now c.len-start.result c.loop-at.at c.open_gap.ensures c.len-start.ensures.count so_far.0 so_far.1 so_far.2 (omega arith) so_far.3
+    appended c.args.block.now c.open_gap.new.self c.loop-at.block c.args.pairs.now c.len-start.result c.loop-at.at c.open_gap.ensures c.len-start.ensures.count so_far.0 so_far.1 so_far.2
+    (omega arith) so_far.3

@@ -35,7 +35,8 @@ add_group-add_child-requires g t c κs within =
               c.requires.width,
               (
                 omega arith,
-                group_map g.V.Words.WORDS c.args.below c.args.pairs.now c.args.rest.now c.args.bytes.now c.args.children.now.items made.0 c.byte_above-byte.result c.group_end-end.result made.1 c.group_end-end.ensures,
+                group_map g.V.Words.WORDS c.args.below c.args.pairs.now c.args.rest.now c.args.bytes.now c.args.children.now.items made.0 c.byte_above-byte.result
+                    c.group_end-end.result made.1 c.group_end-end.ensures,
               ),
             ),
           ),
@@ -142,7 +143,8 @@ many-many-requires g t c κs within =
             (omega arith, omega arith),
             (
               c.requires.more,
-              one_byte_map g.V.Words.WORDS (c.args.width - 1) c.args.pairs.now c.byte_above-byte.result (sharing (256 ^ (c.args.width - 1)) 256 c.byte_above-byte.result c.args.pairs.now) refl (c.all_have.ensures.all c.if-not-all_have.false)
+              one_byte_map g.V.Words.WORDS (c.args.width - 1) c.args.pairs.now c.byte_above-byte.result
+                  (sharing (256 ^ (c.args.width - 1)) 256 c.byte_above-byte.result c.args.pairs.now) refl (c.all_have.ensures.all c.if-not-all_have.false)
                   (subst (λ w. IsMap g.V.Words.WORDS 0 (256 ^ w) (low_pairs (256 ^ w) c.args.pairs.now)) width c.requires.map),
             ),
           ),
@@ -158,7 +160,8 @@ many-returns-clause-built g t c =
     let apart = c.if-width-eq1.false in
     let width : c.args.width ≡ c.args.width - 1 + 1 = omega arith in
     subst (λ w. IsBuilt words w c.args.pairs.now (tree_of words c.behind.result)) (sym width)
-    (behind_built words (c.args.width - 1) c.byte_above-byte.result (sharing (256 ^ (c.args.width - 1)) 256 c.byte_above-byte.result c.args.pairs.now) c.args.pairs.now c.in_ok-kind.kind c.behind.result c.in_ok-kind.ensures.level.0 c.in_ok-kind.ensures.level.1 c.in_ok-kind.ensures.built
+    (behind_built words (c.args.width - 1) c.byte_above-byte.result (sharing (256 ^ (c.args.width - 1)) 256 c.byte_above-byte.result c.args.pairs.now) c.args.pairs.now
+    c.in_ok-kind.kind c.behind.result c.in_ok-kind.ensures.level.0 c.in_ok-kind.ensures.level.1 c.in_ok-kind.ensures.built
     c.behind.ensures.level c.behind.ensures.tree refl (c.all_have.ensures.all c.if-not-all_have.false) (omega arith) (omega arith)
     (subst (λ w. IsMap words 0 (256 ^ w) (low_pairs (256 ^ w) c.args.pairs.now)) width c.requires.map))
 

@@ -16,8 +16,11 @@ pub returns-clause-level : goal.returns-clause-level
 returns-clause-level g c =
     let words = g.V.Words.WORDS in
     let many = c.requires.more in
-    let made = c.into_parts-block.ensures in
-    (subst (λ n. IsBit words n c.into_parts-block.result) (sym c.new.ensures) (bits_made words c.into_parts-block.result c.args.pairs.now made.parts (made.list ∙ c.in_ok-from_sorted.ensures) (omega arith)), tt)
+    let made = c.into_parts-block.ensures in (
+      subst (λ n. IsBit words n c.into_parts-block.result) (sym c.new.ensures) (bits_made words c.into_parts-block.result c.args.pairs.now made.parts
+          (made.list ∙ c.in_ok-from_sorted.ensures) (omega arith)),
+      tt,
+    )
 
 pub returns-clause-built : goal.returns-clause-built
 returns-clause-built g c =

@@ -41,5 +41,6 @@ pub returns-else-WORDS-eq0-clause-built : goal.returns-else-WORDS-eq0-clause-bui
 returns-else-WORDS-eq0-clause-built g c =
     let high = c.requires.width.1 in
     let pairs : Pairs = (c.args.key, c.args.value) ∷ [] in
-    one_done g.V.Words.WORDS c.args.width c.new.result c.args.value pairs c.requires.one (λ none. c.if-WORDS-eq0.false (c.WORDS.ensures ∙ none)) (omega arith) (one_within g.V.Words.WORDS c.args.width c.requires.width.0 (omega arith))
+    one_done g.V.Words.WORDS c.args.width c.new.result c.args.value pairs c.requires.one (λ none. c.if-WORDS-eq0.false (c.WORDS.ensures ∙ none)) (omega arith)
+    (one_within g.V.Words.WORDS c.args.width c.requires.width.0 (omega arith))
     (c.new.ensures ∙ sym (mod-eq_of_lt c.requires.fits)) refl c.requires.width.0 (omega arith) (omega arith, mod_below c.args.key (256 ^ c.args.width) (unit_pos c.args.width), c.requires.no_value, tt)

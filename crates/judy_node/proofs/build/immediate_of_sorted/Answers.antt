@@ -49,5 +49,6 @@ pub returns-else-WORDS-eq0-clause-built : goal.returns-else-WORDS-eq0-clause-bui
 returns-else-WORDS-eq0-clause-built g c =
     let high = c.requires.width.1 in
     let low = c.low_part.ensures ∙ ap (λ w. (get_or c.args.pairs.now 0 (0, 0)).0 % 256 ^ w) c.from.ensures in
-    one_done g.V.Words.WORDS c.args.width c.new.result (get_or c.args.pairs.now 0 (0, 0)).1 c.args.pairs.now c.requires.one (λ none. c.if-WORDS-eq0.false (c.WORDS.ensures ∙ none)) c.requires.some c.requires.within
+    one_done g.V.Words.WORDS c.args.width c.new.result (get_or c.args.pairs.now 0 (0, 0)).1 c.args.pairs.now c.requires.one
+    (λ none. c.if-WORDS-eq0.false (c.WORDS.ensures ∙ none)) c.requires.some c.requires.within
     (c.new.ensures ∙ low) refl c.requires.width.0 (omega arith) c.requires.map

@@ -35,21 +35,24 @@ population_of-requires-else-border-place g c =
 
 pub overflow_sub-result : goal.overflow_sub-result
 overflow_sub-result g c =
-    let parts = before_group c.args.groups.now c.args.children.now c.requires.groups ((c.args.place + 8) / 16) c.args.place (omega (arith, c.requires.groups.all, c.requires.place)) (omega (arith, c.if-border-place.false)) in
+    let parts = before_group c.args.groups.now c.args.children.now c.requires.groups ((c.args.place + 8) / 16) c.args.place (omega (arith, c.requires.groups.all, c.requires.place))
+    (omega (arith, c.if-border-place.false)) in
     let before = c.keys_before_group-before.ensures in
     let own = c.population_of-else-border-place.ensures in
     omega arith
 
 pub returns-then-border-place : goal.returns-then-border-place
 returns-then-border-place g c =
-    let parts = behind_group c.args.groups.now c.args.children.now c.requires.groups ((c.args.place + 8) / 16) c.args.place (omega (arith, c.requires.groups.all, c.requires.place)) (omega (arith, c.if-border-place.true)) in
+    let parts = behind_group c.args.groups.now c.args.children.now c.requires.groups ((c.args.place + 8) / 16) c.args.place (omega (arith, c.requires.groups.all, c.requires.place))
+    (omega (arith, c.if-border-place.true)) in
     let before = c.keys_before_group-before.ensures in
     let own = c.population_of.ensures in
     omega arith
 
 pub returns-else-border-place : goal.returns-else-border-place
 returns-else-border-place g c =
-    let parts = before_group c.args.groups.now c.args.children.now c.requires.groups ((c.args.place + 8) / 16) c.args.place (omega (arith, c.requires.groups.all, c.requires.place)) (omega (arith, c.if-border-place.false)) in
+    let parts = before_group c.args.groups.now c.args.children.now c.requires.groups ((c.args.place + 8) / 16) c.args.place (omega (arith, c.requires.groups.all, c.requires.place))
+    (omega (arith, c.if-border-place.false)) in
     let before = c.keys_before_group-before.ensures in
     let own = c.population_of-else-border-place.ensures in
     omega arith

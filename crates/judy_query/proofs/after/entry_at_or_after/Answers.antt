@@ -156,7 +156,8 @@ overflow_add-result g c =
     let next = down_child c.down.invariant.0 c.in-Child.field-0 c.in-Child.place c.in-Child.rest c.in-Child.ensures c.index.ensures c.enter-in-down.ensures.view in
     let down = next.down in
     let fits = down.part.fits in
-    let below = found_below g.V.Words.WORDS 0 (256 ^ width_of view) (λ pair. is_ge (word_order pair.0 c.in-Child.rest)) (view_pairs view) c.in-Some-from_in.found.0 c.in-Some-from_in.found.1 down.shown.map (sym c.from_in.ensures ∙ c.in-Some-from_in.is) in
+    let below = found_below g.V.Words.WORDS 0 (256 ^ width_of view) (λ pair. is_ge (word_order pair.0 c.in-Child.rest))
+    (view_pairs view) c.in-Some-from_in.found.0 c.in-Some-from_in.found.1 down.shown.map (sym c.from_in.ensures ∙ c.in-Some-from_in.is) in
     omega arith
 
 pub returns-in_default-enter : goal.returns-in_default-enter

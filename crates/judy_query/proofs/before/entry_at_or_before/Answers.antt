@@ -96,7 +96,9 @@ returns-in_default-up_to_in g c =
     let some = next.down.shown.some in
     let visits = c.enter-in-down.ensures.visits in
     record {
-      entry = c.greatest-in_default-up_to_in.ensures.entry ∙ c.turn_to-earlier.ensures.pair ∙ (λ t. option_or (last_pair (front (place t))) (sym way.1 t)) ∙ sym (last_pair-append way.0.front (front c.in-Child.place)) ∙ sym (ap (λ ps. last_pair ps) next.front_is)
+      entry =
+          c.greatest-in_default-up_to_in.ensures.entry ∙ c.turn_to-earlier.ensures.pair ∙ (λ t. option_or (last_pair (front (place t))) (sym way.1 t)) ∙
+          sym (last_pair-append way.0.front (front c.in-Child.place)) ∙ sym (ap (λ ps. last_pair ps) next.front_is)
           ∙ down_up_to words pairs view c.args.key c.in-Child.rest next.down None (sym c.in_default-up_to_in.is ∙ c.up_to_in-in_default-enter.ensures);
       no_fewer = omega (arith, way.4, c.greatest-in_default-up_to_in.ensures.no_fewer, visits);
       visits = omega (arith, way.3, c.greatest-in_default-up_to_in.ensures.visits, next.width_is);
@@ -108,7 +110,8 @@ overflow_add-result g c =
     let next = down_child c.down.invariant.0 c.in-Child.field-0 c.in-Child.place c.in-Child.rest c.in-Child.ensures c.index.ensures c.enter-in-down.ensures.view in
     let down = next.down in
     let fits = down.part.fits in
-    let below = up_to_below g.V.Words.WORDS 0 (256 ^ width_of view) c.in-Child.rest (view_pairs view) c.in-Some.found.0 c.in-Some.found.1 down.shown.map (sym c.up_to_in-in_default-enter.ensures ∙ c.in-Some.is) in
+    let below = up_to_below g.V.Words.WORDS 0 (256 ^ width_of view) c.in-Child.rest (view_pairs view) c.in-Some.found.0 c.in-Some.found.1 down.shown.map
+    (sym c.up_to_in-in_default-enter.ensures ∙ c.in-Some.is) in
     omega arith
 
 pub returns-in_default-enter : goal.returns-in_default-enter

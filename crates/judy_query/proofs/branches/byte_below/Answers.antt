@@ -11,7 +11,8 @@ pub unreachable-requires : goal.unreachable-requires
 unreachable-requires g c =
     let b = c.args.branch.now in
     let some = byte_some b.bytes c.args.below (c.args.place + 1) (sym c.requires.below) (omega arith) in
-    none-some _ (sym c.in-None.is ∙ c.prev_from.ensures ∙ there_before g.V.Words.WORDS b.width b.skip b.bytes b.children.items b.population c.requires.branch c.args.place c.args.below c.requires.place c.requires.below (omega arith))
+    none-some _ (sym c.in-None.is ∙ c.prev_from.ensures ∙ there_before g.V.Words.WORDS b.width b.skip b.bytes b.children.items b.population c.requires.branch
+    c.args.place c.args.below c.requires.place c.requires.below (omega arith))
 
 pub returns : goal.returns
 returns g c =

@@ -13,7 +13,8 @@ overflow_cast-from g c =
 pub unreachable-requires : goal.unreachable-requires
 unreachable-requires g c =
     let b = c.args.branch.now in
-    none-some _ (sym c.in-None.is ∙ c.next_from.ensures ∙ next_there g.V.Words.WORDS b.width b.skip b.bytes b.children.items b.population c.requires.branch c.args.place c.args.from c.requires.place c.requires.from)
+    none-some _ (sym c.in-None.is ∙ c.next_from.ensures ∙ next_there g.V.Words.WORDS b.width b.skip b.bytes b.children.items b.population c.requires.branch
+    c.args.place c.args.from c.requires.place c.requires.from)
 
 pub returns : goal.returns
 returns g c =

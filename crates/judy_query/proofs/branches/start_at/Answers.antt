@@ -5,12 +5,21 @@ use Rattle.judy_query.proofs.branches.start_at.Goals as goal
 pub overflow_mul-number : goal.overflow_mul-number
 overflow_mul-number g c =
     let b = c.args.branch.now in
-    omega (arith, (start_fits g.V.Words.WORDS b.width b.skip b.bytes b.children.items b.population c.requires.branch 0 c.args.byte c.requires.byte.0 c.requires.byte.1 c.requires.byte.2).1, c.number.ensures)
+    omega (
+      arith,
+      (start_fits g.V.Words.WORDS b.width b.skip b.bytes b.children.items b.population c.requires.branch 0 c.args.byte c.requires.byte.0 c.requires.byte.1 c.requires.byte.2).1,
+      c.number.ensures,
+    )
 
 pub overflow_add-number : goal.overflow_add-number
 overflow_add-number g c =
     let b = c.args.branch.now in
-    omega (arith, (start_fits g.V.Words.WORDS b.width b.skip b.bytes b.children.items b.population c.requires.branch 0 c.args.byte c.requires.byte.0 c.requires.byte.1 c.requires.byte.2).1, c.number.ensures, c.from.ensures)
+    omega (
+      arith,
+      (start_fits g.V.Words.WORDS b.width b.skip b.bytes b.children.items b.population c.requires.branch 0 c.args.byte c.requires.byte.0 c.requires.byte.1 c.requires.byte.2).1,
+      c.number.ensures,
+      c.from.ensures,
+    )
 
 pub moved_up-requires-clause-within : goal.moved_up-requires-clause-within
 moved_up-requires-clause-within g c =

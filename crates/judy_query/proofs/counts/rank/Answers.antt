@@ -92,7 +92,8 @@ overflow_add-result g c =
     let above = down.above in
     let below = c.down.invariant.1 in
     let last = c.rank_in.ensures in
-    let ranked = part-rank words (256 ^ 8) pairs (c.args.key - c.down.left) (256 ^ width_of c.down.view) c.down.left c.args.key _ down.front down.back down.part (omega arith) (let inside = down.inside in omega arith) in
+    let ranked = part-rank words (256 ^ 8) pairs (c.args.key - c.down.left) (256 ^ width_of c.down.view) c.down.left c.args.key _ down.front down.back down.part
+    (omega arith) (let inside = down.inside in omega arith) in
     let few = rank-le words 0 (256 ^ 8) pairs c.args.key (omega arith) c.law.ensures.map in
     omega (arith, c.ranges.key)
 
@@ -103,7 +104,8 @@ returns g c =
     let down = c.down.invariant.0 in
     let above = down.above in
     let below = c.down.invariant.1 in
-    let ranked = part-rank words (256 ^ 8) pairs (c.args.key - c.down.left) (256 ^ width_of c.down.view) c.down.left c.args.key _ down.front down.back down.part (omega arith) (let inside = down.inside in omega arith) in
+    let ranked = part-rank words (256 ^ 8) pairs (c.args.key - c.down.left) (256 ^ width_of c.down.view) c.down.left c.args.key _ down.front down.back down.part
+    (omega arith) (let inside = down.inside in omega arith) in
     let some = down.shown.some in
     record {
       value = (λ t. below t + c.rank_in.ensures t) ∙ sym (rank_is words (256 ^ 8) pairs c.law.ensures.map c.args.key ∙ ranked);

@@ -15,8 +15,14 @@ down-init g c =
     let side = c.args.side in
     let whole = whole_room words width child c.requires.child c.requires.narrow c.requires.room in
     let view = c.enter-view.result in
-    let wide = kid_width side words child.pairs (256 ^ width) child width 0 view whole c.enter-view.ensures.view in
-    (narrowed_kid side words child.pairs (256 ^ width) child width 0 view whole c.enter-view.ensures.view (whole_run side child.pairs (256 ^ width)) (omega arith), sym wide, omega (arith, wide, c.enter-view.ensures.visits), omega (arith, wide), omega (arith, c.enter-view.ensures.visits))
+    let wide = kid_width side words child.pairs (256 ^ width) child width 0 view whole c.enter-view.ensures.view in (
+      narrowed_kid side words child.pairs (256 ^ width) child width 0 view whole c.enter-view.ensures.view (whole_run side child.pairs (256 ^ width)) (omega arith),
+      sym wide,
+      omega (arith, wide, c.enter-view.ensures.visits),
+      omega (arith, wide),
+      omega (arith, c.enter-view.ensures.visits),
+      c.enter-view.ensures.spared,
+    )
 
 pub room_of-requires : goal.room_of-requires
 room_of-requires g c =
@@ -44,7 +50,8 @@ enter-view-requires-in-In g c =
     let all = c.args.child.now.pairs in
     let top = 256 ^ c.args.width in
     let side = c.args.side in
-    let kid = branch_in words all top c.down.view c.down.start c.in-Branch.branch c.in-Branch.is c.room_of.result side c.in-In.inner c.in-In.width c.in-In.from c.in-In.is c.down.invariant.0 c.room_of.ensures.room in
+    let kid = branch_in words all top c.down.view c.down.start c.in-Branch.branch c.in-Branch.is c.room_of.result side c.in-In.inner c.in-In.width c.in-In.from
+    c.in-In.is c.down.invariant.0 c.room_of.ensures.room in
     let some = c.down.invariant.0.shown.some in
     record {
       below = omega (arith, c.down.invariant.2, c.requires.below, c.requires.narrow);
@@ -59,7 +66,8 @@ down-smaller g c =
     let all = c.args.child.now.pairs in
     let top = 256 ^ c.args.width in
     let side = c.args.side in
-    let kid = branch_in words all top c.down.view c.down.start c.in-Branch.branch c.in-Branch.is c.room_of.result side c.in-In.inner c.in-In.width c.in-In.from c.in-In.is c.down.invariant.0 c.room_of.ensures.room in
+    let kid = branch_in words all top c.down.view c.down.start c.in-Branch.branch c.in-Branch.is c.room_of.result side c.in-In.inner c.in-In.width c.in-In.from
+    c.in-In.is c.down.invariant.0 c.room_of.ensures.room in
     let wide = kid_width side words all top c.in-In.inner.now c.in-In.width c.in-In.from c.enter-view-in-In.result kid.0 c.enter-view-in-In.ensures.view in
     let narrower = subst (HasWidth c.in-Branch.branch.now.width) c.in-In.is c.room_of.ensures.width in
     omega (arith, ap width_of c.in-Branch.is)
@@ -70,7 +78,8 @@ down-preserved g c =
     let all = c.args.child.now.pairs in
     let top = 256 ^ c.args.width in
     let side = c.args.side in
-    let kid = branch_in words all top c.down.view c.down.start c.in-Branch.branch c.in-Branch.is c.room_of.result side c.in-In.inner c.in-In.width c.in-In.from c.in-In.is c.down.invariant.0 c.room_of.ensures.room in
+    let kid = branch_in words all top c.down.view c.down.start c.in-Branch.branch c.in-Branch.is c.room_of.result side c.in-In.inner c.in-In.width c.in-In.from
+    c.in-In.is c.down.invariant.0 c.room_of.ensures.room in
     let wide = kid_width side words all top c.in-In.inner.now c.in-In.width c.in-In.from c.enter-view-in-In.result kid.0 c.enter-view-in-In.ensures.view in
     let narrower = subst (HasWidth c.in-Branch.branch.now.width) c.in-In.is c.room_of.ensures.width in
     let less = ap width_of c.in-Branch.is in
@@ -82,6 +91,7 @@ down-preserved g c =
       omega arith,
       omega arith,
       omega (arith, visits, c.down.invariant.4),
+      c.enter-view-in-In.ensures.spared ∙ c.down.invariant.5,
     )
 
 pub unreachable-requires : goal.unreachable-requires
@@ -118,7 +128,8 @@ unreachable-requires-in-None g c =
     let side = c.args.side in
     let pairs = view_pairs c.down.view in
     let told = from_end side pairs c.end.result (256 ^ c.down.wide) c.absent.result (unit_pos c.down.wide) c.end.ensures c.absent.ensures in
-    absurd (some_absent side g.V.Words.WORDS pairs (256 ^ width_of c.down.view) c.down.invariant.0.shown.map c.down.invariant.0.room (subst (λ w. IsAbsent side pairs 0 (256 ^ w) None) c.down.invariant.1 (subst (IsAbsent side pairs 0 (256 ^ c.down.wide)) c.in-None.is told)))
+    absurd (some_absent side g.V.Words.WORDS pairs (256 ^ width_of c.down.view) c.down.invariant.0.shown.map c.down.invariant.0.room
+    (subst (λ w. IsAbsent side pairs 0 (256 ^ w) None) c.down.invariant.1 (subst (IsAbsent side pairs 0 (256 ^ c.down.wide)) c.in-None.is told)))
 
 pub returns : goal.returns
 returns g c =
@@ -131,5 +142,6 @@ returns g c =
     record {
       word = narrowed_at g.V.Words.WORDS c.args.child.now.pairs pairs (256 ^ c.args.width) c.down.start (256 ^ width_of c.down.view) here.window here.fits side c.in-Some.word here.run found;
       no_fewer = omega (arith, c.down.invariant.4, c.enter-view.ensures.visits);
+      spared = c.down.invariant.5;
       visits = omega (arith, c.down.invariant.2, c.enter-view.ensures.visits);
     }

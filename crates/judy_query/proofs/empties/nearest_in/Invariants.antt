@@ -10,6 +10,7 @@ invariant-down g l =
     × (g.M.Sparing.visits l.meter + width_of l.view ≤ g.M.Sparing.visits l.initial.meter + l.width)
     × (width_of l.view ≤ l.width)
     × (g.M.Sparing.visits l.initial.meter ≤ g.M.Sparing.visits l.meter)
+    × (g.M.Sparing.full l.meter ≡ g.M.Sparing.full l.fn.meter)
 
 abbrev pub decreases-down : goal.decreases-down
 decreases-down g l = width_of l.view

@@ -1,4 +1,4 @@
-use Rattle.std.proofs.Common.{◌+◌, ◌-◌, ◌^◌, ◌≤◌, MatchOption}
+use Rattle.std.proofs.Common.{◌≡◌, ◌+◌, ◌-◌, ◌^◌, ◌≤◌, MatchOption}
 use Rattle.judy_node.specs.declared.view.ViewOf.TheVariants.{Branch}
 use Rattle.judy_query.specs.Parts.{IsDown, width_of}
 use Rattle.judy_query.specs.Rooms.{IsNearestRoom, IsPassed, IsRoomPast}
@@ -11,6 +11,7 @@ invariant-down g l =
     × MatchOption l.above Unit (IsPassed g.V.Words.WORDS)
     × (g.M.Sparing.visits l.meter + width_of (Branch l.at.0) ≤ g.M.Sparing.visits l.fn.meter + 9)
     × (g.M.Sparing.visits l.fn.meter ≤ g.M.Sparing.visits l.meter)
+    × (g.M.Sparing.full l.meter ≡ g.M.Sparing.full l.fn.meter)
 
 abbrev pub decreases-down : goal.decreases-down
 decreases-down g l = width_of (Branch l.at.0)

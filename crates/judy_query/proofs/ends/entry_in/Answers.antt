@@ -28,10 +28,12 @@ returns-in-Imm g c =
 pub returns-in-Leaf : goal.returns-in-Leaf
 returns-in-Leaf g c =
     let inside = subst (λ v. c.args.at < length (view_pairs v)) c.in-Leaf.is c.requires.inside in
-    ap (λ v. slice_get (view_pairs v) c.args.at) c.in-Leaf.is ∙ pair_at c.in-Leaf.list.pairs c.args.at c.key_at-in-Leaf.result c.value_at-in-Leaf.result inside c.key_at-in-Leaf.ensures c.value_at-in-Leaf.ensures
+    ap (λ v. slice_get (view_pairs v) c.args.at) c.in-Leaf.is ∙ pair_at c.in-Leaf.list.pairs c.args.at c.key_at-in-Leaf.result c.value_at-in-Leaf.result inside
+    c.key_at-in-Leaf.ensures c.value_at-in-Leaf.ensures
 
 pub returns-in-BitLeaf : goal.returns-in-BitLeaf
 returns-in-BitLeaf g c =
     let words = g.V.Words.WORDS in
     bits_at words c.args.view.now c.in-BitLeaf.skipped c.in-BitLeaf.list c.in-BitLeaf.is c.requires.shown c.args.at c.key_at-in-BitLeaf.result c.value_at-in-BitLeaf.result
-    (bits_inside words c.args.view.now c.in-BitLeaf.skipped c.in-BitLeaf.list c.in-BitLeaf.is c.requires.shown c.args.at c.requires.inside) c.key_at-in-BitLeaf.ensures.key c.value_at-in-BitLeaf.ensures
+    (bits_inside words c.args.view.now c.in-BitLeaf.skipped c.in-BitLeaf.list c.in-BitLeaf.is c.requires.shown c.args.at c.requires.inside) c.key_at-in-BitLeaf.ensures.key
+    c.value_at-in-BitLeaf.ensures

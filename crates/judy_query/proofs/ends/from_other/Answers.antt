@@ -17,7 +17,8 @@ returns-in_err-byte-in-BitLeaf g c =
 
 pub overflow_add-result : goal.overflow_add-result
 overflow_add-result g c =
-    let fits = from_fits g.V.Words.WORDS c.args.view.now c.in-BitLeaf.skipped c.in-BitLeaf.list c.in-BitLeaf.is c.requires.shown c.saturating_sub.result c.in_ok-byte-in-BitLeaf.byte c.in_ok-byte-in-BitLeaf.value
+    let fits = from_fits g.V.Words.WORDS c.args.view.now c.in-BitLeaf.skipped c.in-BitLeaf.list c.in-BitLeaf.is c.requires.shown c.saturating_sub.result
+    c.in_ok-byte-in-BitLeaf.byte c.in_ok-byte-in-BitLeaf.value
     (sym c.at_or_after-in-BitLeaf.ensures ∙ c.in_ok-byte-in-BitLeaf.was) in
     omega arith
 

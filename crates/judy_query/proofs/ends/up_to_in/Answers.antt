@@ -17,7 +17,8 @@ returns-in_err-byte-in-BitLeaf g c =
 
 pub overflow_add-result : goal.overflow_add-result
 overflow_add-result g c =
-    let fits = up_to_fits g.V.Words.WORDS c.args.view.now c.in-BitLeaf.skipped c.in-BitLeaf.list c.in-BitLeaf.is c.requires.shown (c.args.key - c.in-BitLeaf.skipped * 256) c.in_ok-byte-in-BitLeaf.byte c.in_ok-byte-in-BitLeaf.value
+    let fits = up_to_fits g.V.Words.WORDS c.args.view.now c.in-BitLeaf.skipped c.in-BitLeaf.list c.in-BitLeaf.is c.requires.shown
+    (c.args.key - c.in-BitLeaf.skipped * 256) c.in_ok-byte-in-BitLeaf.byte c.in_ok-byte-in-BitLeaf.value
     (sym c.at_or_before-in-BitLeaf.ensures ∙ c.in_ok-byte-in-BitLeaf.was) in
     omega arith
 

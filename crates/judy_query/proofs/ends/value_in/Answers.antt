@@ -9,4 +9,5 @@ pub returns-then-key-start : goal.returns-then-key-start
 returns-then-key-start g c = bits_below g.V.Words.WORDS c.args.view.now c.in-BitLeaf.skipped c.in-BitLeaf.list c.in-BitLeaf.is c.requires.shown c.args.key c.if-key-start.true
 
 pub returns-else-key-start : goal.returns-else-key-start
-returns-else-key-start g c = c.value_in_bits.ensures ∙ bits_value g.V.Words.WORDS c.args.view.now c.in-BitLeaf.skipped c.in-BitLeaf.list c.in-BitLeaf.is c.requires.shown c.args.key c.if-key-start.false
+returns-else-key-start g c =
+    c.value_in_bits.ensures ∙ bits_value g.V.Words.WORDS c.args.view.now c.in-BitLeaf.skipped c.in-BitLeaf.list c.in-BitLeaf.is c.requires.shown c.args.key c.if-key-start.false

@@ -44,7 +44,8 @@ down-smaller g c =
     let top = view_pairs c.args.top in
     let down = down_branch c.down.invariant.0 c.in-Branch.is in
     let inside = slice_get_within c.in-Branch.branch.now.children.items c.holding-at.result.0 c.holding-at.ensures.0 c.holding-at.ensures.1.there in
-    let next = start_down words top c.in-Branch.branch c.down.base down c.holding-at.result.0 c.start_of-base.result inside c.start_of-base.ensures c.index.result.now c.index.ensures c.enter-view.result c.enter-view.ensures.view in
+    let next = start_down words top c.in-Branch.branch c.down.base down c.holding-at.result.0 c.start_of-base.result inside c.start_of-base.ensures c.index.result.now
+    c.index.ensures c.enter-view.result c.enter-view.ensures.view in
     let here = ap width_of c.in-Branch.is in
     let less = next.2 in
     omega arith
@@ -58,7 +59,8 @@ down-preserved g c =
     let holds = c.holding-at.ensures.1 in
     let way = subst (λ v. (down : IsDown words top v c.down.base 0) × (c.args.place ≡ length down.front + c.down.left)) c.in-Branch.is (c.down.invariant.0, c.down.invariant.1) in
     let inside = slice_get_within kids at c.holding-at.ensures.0 holds.there in
-    let next = start_down words top c.in-Branch.branch c.down.base way.0 at c.start_of-base.result inside c.start_of-base.ensures c.index.result.now c.index.ensures c.enter-view.result c.enter-view.ensures.view in
+    let next = start_down words top c.in-Branch.branch c.down.base way.0 at c.start_of-base.result inside c.start_of-base.ensures c.index.result.now c.index.ensures
+    c.enter-view.result c.enter-view.ensures.view in
     let same = same_Some c.holding-at.ensures.0 c.index.result.now (sym holds.there ∙ slice_get-get_or kids at c.index.result.now inside ∙ ap Some (sym c.index.ensures)) in
     let long = ap (λ kid. length kid.pairs) same ∙ ap length c.enter-view.ensures.view.pairs in
     let counted = holds.counted in
@@ -87,7 +89,9 @@ returns g c =
     let room = c.down.invariant.3 in
     let whole : c.down.base - 0 ≡ c.down.base = omega arith in
     record {
-      entry = part-at words (256 ^ 8) top (c.down.base - 0) (256 ^ width_of c.down.view) c.down.left c.args.place (view_pairs c.down.view) down.front down.back down.part c.down.invariant.1 c.down.invariant.2
+      entry =
+          part-at words (256 ^ 8) top (c.down.base - 0) (256 ^ width_of c.down.view) c.down.left c.args.place
+          (view_pairs c.down.view) down.front down.back down.part c.down.invariant.1 c.down.invariant.2
           ∙ ap (raised (c.down.base - 0)) c.entry_in-key.ensures ∙ (λ t. Some (whole t + c.entry_in-key.result.0, c.entry_in-key.result.1));
       no_fewer = c.down.invariant.4;
       visits = omega arith;

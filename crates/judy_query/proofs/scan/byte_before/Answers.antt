@@ -11,4 +11,5 @@ behind-requires g c =
     bits_inside g.V.Words.WORDS c.args.view.now c.in-BitLeaf.field-0 c.in-BitLeaf.list c.in-BitLeaf.is c.requires.shown (c.args.at - 1) (omega arith)
 
 pub returns-then-at-eq0 : goal.returns-then-at-eq0
-returns-then-at-eq0 g c = subst (λ at. IsScan c.args.view.now at 0) (sym c.if-at-eq0.true) (scan_first g.V.Words.WORDS c.args.view.now c.in-BitLeaf.field-0 c.in-BitLeaf.list c.in-BitLeaf.is c.requires.shown)
+returns-then-at-eq0 g c =
+    subst (λ at. IsScan c.args.view.now at 0) (sym c.if-at-eq0.true) (scan_first g.V.Words.WORDS c.args.view.now c.in-BitLeaf.field-0 c.in-BitLeaf.list c.in-BitLeaf.is c.requires.shown)

@@ -19,4 +19,5 @@ returns-then-place-len-clause-entry g c =
 pub returns-else-place-len-clause-entry : goal.returns-else-place-len-clause-entry
 returns-else-place-len-clause-entry g c =
     let b = c.args.branch.now in
-    c.pair_further_up.ensures.entry ∙ sym (turn_none g.V.Words.WORDS b.width b.skip b.bytes b.children.items b.population c.requires.branch (reached (length b.children.items) c.args.step) c.args.base (omega (arith, b.children.ok.0, c.len.ensures, c.reached-place.ensures, c.if-place-len.false)) _)
+    c.pair_further_up.ensures.entry ∙ sym (turn_none g.V.Words.WORDS b.width b.skip b.bytes b.children.items b.population c.requires.branch
+    (reached (length b.children.items) c.args.step) c.args.base (omega (arith, b.children.ok.0, c.len.ensures, c.reached-place.ensures, c.if-place-len.false)) _)

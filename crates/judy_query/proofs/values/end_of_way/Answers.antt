@@ -51,7 +51,12 @@ returns-in_default g c =
     let down = c.down.invariant.0 in
     let some = down.shown.some in
     let part = down_gap down c.step.result (beside_is c.step.result c.in_default.not-Child) c.step.ensures in
-    record { value = part-value words (256 ^ 8) tree c.args.key 1 0 c.args.key [] _ _ part (omega arith) (omega arith); end = tt; no_fewer = c.down.invariant.2; visits = omega (arith, c.down.invariant.1) }
+    record {
+      value = part-value words (256 ^ 8) tree c.args.key 1 0 c.args.key [] _ _ part (omega arith) (omega arith);
+      end = tt;
+      no_fewer = c.down.invariant.2;
+      visits = omega (arith, c.down.invariant.1);
+    }
 
 pub index-requires : goal.index-requires
 index-requires g c =
@@ -78,8 +83,11 @@ down-preserved g c =
     let here = ap width_of c.in-Branch.is in
     let less = next.width_is in
     let visits = c.enter.ensures.visits in
-    let so_far = c.down.invariant.1 in
-    (down_shown words c.in-Branch.next c.args.key c.in-Child.rest tree (subst (λ v. IsDown words tree v c.args.key c.in-Child.rest) c.in-Branch.is next.down), omega arith, omega (arith, visits, c.down.invariant.2))
+    let so_far = c.down.invariant.1 in (
+      down_shown words c.in-Branch.next c.args.key c.in-Child.rest tree (subst (λ v. IsDown words tree v c.args.key c.in-Child.rest) c.in-Branch.is next.down),
+      omega arith,
+      omega (arith, visits, c.down.invariant.2),
+    )
 
 pub returns-in_default-enter : goal.returns-in_default-enter
 returns-in_default-enter g c =
@@ -91,4 +99,9 @@ returns-in_default-enter g c =
     let visits = c.enter.ensures.visits in
     let so_far = c.down.invariant.1 in
     let less = next.width_is in
-    record { value = down_value words tree c.enter.result c.args.key c.in-Child.rest next.down; end = (end_is c.enter.result c.in_default-enter.not-Branch, next.down.shown); no_fewer = omega (arith, c.down.invariant.2); visits = omega arith }
+    record {
+      value = down_value words tree c.enter.result c.args.key c.in-Child.rest next.down;
+      end = (end_is c.enter.result c.in_default-enter.not-Branch, next.down.shown);
+      no_fewer = omega (arith, c.down.invariant.2);
+      visits = omega arith;
+    }

@@ -12,7 +12,8 @@ returns-then-place-len-clause-turns g c =
     let below = c.if-place-len.true in
     let inside : c.args.place < length b.children.items = omega arith in
     subst (AreTurns words 0) (sym c.push.ensures.items)
-    (turns-push words 0 c.args.turns.now.items (Some (record { branch = c.args.branch; place = c.args.place; base = c.args.base; edge = c.args.from })) (length c.args.turns.now.items) (omega arith) c.requires.turns
+    (turns-push words 0 c.args.turns.now.items (Some (record { branch = c.args.branch; place = c.args.place; base = c.args.base; edge = c.args.from }))
+    (length c.args.turns.now.items) (omega arith) c.requires.turns
     (record { branch = c.requires.branch; inside = inside; fits = c.requires.fits }, c.requires.room, c.requires.from))
 
 pub returns-then-place-len-clause-pairs : goal.returns-then-place-len-clause-pairs

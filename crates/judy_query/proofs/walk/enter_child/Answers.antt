@@ -16,8 +16,13 @@ use Rattle.judy_query.proofs.walk.enter_child.Goals as goal
 pub enter-view-requires : goal.enter-view-requires
 enter-view-requires g c =
     let turn = c.args.turn in
-    let b = turn.branch.now in
-    (omega arith, (omega (arith, c.requires.below), kid_is g.V.Words.WORDS b.width b.skip b.bytes b.children.items b.population c.requires.turn.branch 0 turn.place c.index.result.now c.requires.turn.inside c.index.ensures))
+    let b = turn.branch.now in (
+      omega arith,
+      (
+        omega (arith, c.requires.below),
+        kid_is g.V.Words.WORDS b.width b.skip b.bytes b.children.items b.population c.requires.turn.branch 0 turn.place c.index.result.now c.requires.turn.inside c.index.ensures,
+      ),
+    )
 
 pub keep-requires : goal.keep-requires
 keep-requires g c =

@@ -67,7 +67,8 @@ down-preserved g c =
     let all = shift c.args.start (view_pairs c.args.top) ++ waiting c.args.turns.now.items in
     let walked = subst (λ v. IsWalked words v c.down.base c.down.turns.items all) c.in-Branch.is c.down.invariant.0 in
     let is = walked.shown.place.1 in
-    let wide = entered_width (entered_of is (first_inside words b.width b.skip b.bytes b.children.items b.population is) c.byte_from-byte.ensures c.start_at-base.ensures c.index.ensures c.enter-view.ensures.view) in
+    let wide = entered_width (entered_of is (first_inside words b.width b.skip b.bytes b.children.items b.population is) c.byte_from-byte.ensures c.start_at-base.ensures
+    c.index.ensures c.enter-view.ensures.view) in
     let here = ap width_of c.in-Branch.is in
     let visits = c.enter-view.ensures.visits in
     let so_far = c.down.invariant.1 in (

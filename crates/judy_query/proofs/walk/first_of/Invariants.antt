@@ -7,7 +7,9 @@ use Rattle.judy_query.proofs.WalkFacts.{IsWalked}
 use Rattle.judy_query.proofs.walk.first_of.Given as goal
 
 abbrev pub invariant-down : goal.invariant-down
-invariant-down g l = IsWalked g.V.Words.WORDS l.view l.base l.turns.items (shift l.fn.start (view_pairs l.fn.top) ++ waiting l.initial.turns.items) × (l.meter + width_of l.view ≤ l.initial.meter + width_of l.fn.top) × (l.initial.meter ≤ l.meter)
+invariant-down g l =
+    IsWalked g.V.Words.WORDS l.view l.base l.turns.items (shift l.fn.start (view_pairs l.fn.top) ++ waiting l.initial.turns.items) ×
+    (l.meter + width_of l.view ≤ l.initial.meter + width_of l.fn.top) × (l.initial.meter ≤ l.meter)
 
 abbrev pub decreases-down : goal.decreases-down
 decreases-down g l = width_of l.view

@@ -35,8 +35,13 @@ enter-view-requires g c =
     let b = turn.branch.now in
     let inside : c.loop-count.place < length b.children.items = omega (arith, b.children.ok.0, c.len.ensures, c.if-place-len.true) in
     let within = c.loop-count.invariant.given.within in
-    let visits = c.loop-count.invariant.visits in
-    (omega arith, (omega (arith, c.requires.below), kid_is g.V.Words.WORDS b.width b.skip b.bytes b.children.items b.population c.requires.turn.branch 0 c.loop-count.place c.index.result.now inside c.index.ensures))
+    let visits = c.loop-count.invariant.visits in (
+      omega arith,
+      (
+        omega (arith, c.requires.below),
+        kid_is g.V.Words.WORDS b.width b.skip b.bytes b.children.items b.population c.requires.turn.branch 0 c.loop-count.place c.index.result.now inside c.index.ensures,
+      ),
+    )
 
 pub give_whole-requires-clause-fits : goal.give_whole-requires-clause-fits
 give_whole-requires-clause-fits g c =
@@ -152,7 +157,9 @@ loop-count-preserved g c =
     record {
       inside = omega arith;
       first = from;
-      given = put_more made all (here ++ (rest (place + 1) ++ others)) c.args.out.now c.loop-count.out c.loop-count.count given (omega arith) (rest (place + 1) ++ others) c.give_whole.new.out c.in-Some.whole
+      given =
+          put_more made all (here ++ (rest (place + 1) ++ others)) c.args.out.now c.loop-count.out c.loop-count.count given (omega arith)
+          (rest (place + 1) ++ others) c.give_whole.new.out c.in-Some.whole
           (given_with made here [] _ _ c.in-Some.whole c.in-Some.ensures.given (rest (place + 1) ++ others));
       visits = omega arith;
       no_fewer = omega arith;
@@ -162,12 +169,18 @@ loop-count-preserved g c =
 
 pub keep-requires-2 : goal.keep-requires-2
 keep-requires-2 g c =
-    let same = ap length c.loop-count.invariant.turns in
-    (omega arith, (c.requires.turn.branch, (c.loop-count.invariant.first, (c.requires.turn.fits, (subst (AreTurns g.V.Words.WORDS 0) (sym c.loop-count.invariant.turns) c.requires.turns, omega (arith, c.requires.room))))))
+    let same = ap length c.loop-count.invariant.turns in (
+      omega arith,
+      (
+        c.requires.turn.branch,
+        (c.loop-count.invariant.first, (c.requires.turn.fits, (subst (AreTurns g.V.Words.WORDS 0) (sym c.loop-count.invariant.turns) c.requires.turns, omega (arith, c.requires.room)))),
+      ),
+    )
 
 pub returns-clause-given : goal.returns-clause-given
 returns-clause-given g c =
     let b = c.args.turn.branch.now in
     let rest : Pairs = shift c.args.turn.base (rest_of (256 ^ b.width) (number_of b.skip * 256) b.bytes b.children.items c.loop-count.place) in
     subst (λ (left : Pairs). AreGiven g.E.FromPair.made (rest_of_turn c.args.turn ++ waiting c.args.turns.now.items) left c.args.out.now c.loop-count.out c.loop-count.count)
-    (ap (λ turns. rest ++ waiting turns) (sym c.loop-count.invariant.turns) ∙ sym c.keep-2.ensures.pairs ∙ ap (λ ps. ps ++ waiting c.keep-2.new.turns.items) (sym c.new.ensures)) c.loop-count.invariant.given
+    (ap (λ turns. rest ++ waiting turns) (sym c.loop-count.invariant.turns) ∙ sym c.keep-2.ensures.pairs ∙ ap (λ ps. ps ++ waiting c.keep-2.new.turns.items) (sym c.new.ensures))
+    c.loop-count.invariant.given

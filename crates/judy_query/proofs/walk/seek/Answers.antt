@@ -34,7 +34,8 @@ keep-requires g c =
     let b = c.in-Branch.branch.now in
     let down = down_branch c.down.invariant.0 c.in-Branch.is in
     let is = branch_is down in
-    let from = c.reached.ensures ∙ reached_rank words b.width b.skip b.bytes b.children.items b.population is c.down.left c.step-step.result c.step-step.ensures ∙ ap (rank b.bytes) (sym c.byte_behind.ensures) in
+    let from = c.reached.ensures ∙ reached_rank words b.width b.skip b.bytes b.children.items b.population is c.down.left c.step-step.result c.step-step.ensures ∙
+    ap (rank b.bytes) (sym c.byte_behind.ensures) in
     let here = ap width_of c.in-Branch.is in
     let room = c.down.invariant.3 in
     (omega arith, (is, (from, (down.part.fits, (c.down.invariant.2, omega arith)))))

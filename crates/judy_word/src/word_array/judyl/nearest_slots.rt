@@ -19,8 +19,8 @@ macro_rules! slot_found {
 }
 
 impl JudyL {
-    /// The slot of the least key from `i` on; `key` becomes that key. `None` where no key is left, and then `key` stays. What the caller leaves in
-    /// the slot is then that key's value. (Manual: JLF, JudyLFirst, which gives both.)
+    /// The slot of the least key from `i` on; `key` becomes that key. `None` where no key is left, and then `key`
+    /// stays. What the caller leaves in the slot is then that key's value. (Manual: JLF, JudyLFirst, which gives both.)
     pub fn first_slot(&mut self, i: u64, key: &mut u64) -> Option<&mut u64>
         ensures* writes_back { sem 𝓛 (LendsSlot self.entry key.new result) }
         ensures key { key.new ≡ unwrap_or (neighbours.first self.old.map i) key.old }
@@ -30,8 +30,8 @@ impl JudyL {
         slot_found!(self, first_entry(i), key)
     }
 
-    /// The slot of the least key above `i`; `key` becomes that key. `None` where no key is above it, and then `key` stays. What the caller leaves in
-    /// the slot is then that key's value. (Manual: JLN, JudyLNext, which gives both.)
+    /// The slot of the least key above `i`; `key` becomes that key. `None` where no key is above it, and then `key`
+    /// stays. What the caller leaves in the slot is then that key's value. (Manual: JLN, JudyLNext, which gives both.)
     pub fn next_slot(&mut self, i: u64, key: &mut u64) -> Option<&mut u64>
         ensures* writes_back { sem 𝓛 (LendsSlot self.entry key.new result) }
         ensures key { key.new ≡ unwrap_or (neighbours.next self.old.map i) key.old }
@@ -41,8 +41,9 @@ impl JudyL {
         slot_found!(self, next_entry(i), key)
     }
 
-    /// The slot of the greatest key up to `i`; `key` becomes that key. `None` where each key is above it, and then `key` stays. What the caller leaves in
-    /// the slot is then that key's value. (Manual: JLL, JudyLLast, which gives both.)
+    /// The slot of the greatest key up to `i`; `key` becomes that key. `None` where each key is above it, and then
+    /// `key` stays. What the caller leaves in the slot is then that key's value. (Manual: JLL, JudyLLast, which gives
+    /// both.)
     pub fn last_slot(&mut self, i: u64, key: &mut u64) -> Option<&mut u64>
         ensures* writes_back { sem 𝓛 (LendsSlot self.entry key.new result) }
         ensures key { key.new ≡ unwrap_or (neighbours.last self.old.map i) key.old }
@@ -52,8 +53,8 @@ impl JudyL {
         slot_found!(self, last_entry(i), key)
     }
 
-    /// The slot of the greatest key below `i`; `key` becomes that key. `None` where no key is below it, and then `key` stays. What the caller leaves in
-    /// the slot is then that key's value. (Manual: JLP, JudyLPrev, which gives both.)
+    /// The slot of the greatest key below `i`; `key` becomes that key. `None` where no key is below it, and then `key`
+    /// stays. What the caller leaves in the slot is then that key's value. (Manual: JLP, JudyLPrev, which gives both.)
     pub fn prev_slot(&mut self, i: u64, key: &mut u64) -> Option<&mut u64>
         ensures* writes_back { sem 𝓛 (LendsSlot self.entry key.new result) }
         ensures key { key.new ≡ unwrap_or (neighbours.prev self.old.map i) key.old }
@@ -63,8 +64,9 @@ impl JudyL {
         slot_found!(self, prev_entry(i), key)
     }
 
-    /// The slot of the `n`-th key in ascending order, counted from 1; `key` becomes that key. `None` for 0 and above the number of keys, and then `key` stays. What the caller leaves in
-    /// the slot is then that key's value. (Manual: JLBC, JudyLByCount, which gives both.)
+    /// The slot of the `n`-th key in ascending order, counted from 1; `key` becomes that key. `None` for 0 and above
+    /// the number of keys, and then `key` stays. What the caller leaves in the slot is then that key's value. (Manual:
+    /// JLBC, JudyLByCount, which gives both.)
     pub fn by_count_slot(&mut self, n: u64, key: &mut u64) -> Option<&mut u64>
         ensures* writes_back { sem 𝓛 (LendsSlot self.entry key.new result) }
         ensures key { key.new ≡ unwrap_or (counts.by_count self.old.map n) key.old }

@@ -11,7 +11,8 @@ returns-then-left-count c =
     ∙ ap (λ members. nth members c.args.at) c.self.view_is
 
 pub loop-word-preserved : goal.loop-word-preserved
-loop-word-preserved c = rw c.count-count.ensures (chosen_past c.self.inside.words.now c.args.at c.loop-word.word c.loop-word.left c.loop-word.invariant (rw c.count-count.ensures at c.if-left-count.false))
+loop-word-preserved c =
+    rw c.count-count.ensures (chosen_past c.self.inside.words.now c.args.at c.loop-word.word c.loop-word.left c.loop-word.invariant (rw c.count-count.ensures at c.if-left-count.false))
 
 pub returns : goal.returns
 returns c =

@@ -8,7 +8,8 @@ returns-in-Some c =
     let word = c.loop-word.word - 1 in
     let upto : 64 * c.loop-word.word ≡ 64 * word + 64 = omega arith in
     let limit : c.min-limit.result ≡ min 64 (c.args.byte + 1 - 64 * word) = omega arith in
-    sym (prev_in_word c.self.inside.words.now c.args.byte word c.in-Some.place c.ranges.byte.fits (omega arith) (λ at from end. c.loop-word.invariant at (omega arith) end) (rw limit at c.in-Some.ensures))
+    sym (prev_in_word c.self.inside.words.now c.args.byte word c.in-Some.place c.ranges.byte.fits (omega arith) (λ at from end. c.loop-word.invariant at (omega arith) end)
+    (rw limit at c.in-Some.ensures))
     ∙ ap (λ members. prev_from members c.args.byte) c.self.view_is
 
 pub loop-word-preserved : goal.loop-word-preserved

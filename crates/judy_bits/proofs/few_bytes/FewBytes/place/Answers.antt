@@ -10,7 +10,8 @@ returns-then-at-self c =
     let at = c.first_place-at.result in
     let few = c.self.invariant.0.within in
     let inside = c.if-at-self.true in
-    rw (← c.self.view_is) (place-there bytes count c.self.invariant.0 c.self.invariant.1 c.args.byte at inside (sym (listed bytes count at (omega arith)) ∙ c.first_place-at.ensures.holds (omega arith)))
+    rw (← c.self.view_is) (place-there bytes count c.self.invariant.0 c.self.invariant.1 c.args.byte at inside
+    (sym (listed bytes count at (omega arith)) ∙ c.first_place-at.ensures.holds (omega arith)))
 
 pub returns-else-at-self : goal.returns-else-at-self
 returns-else-at-self c =

@@ -10,4 +10,6 @@ bounds-self-inside-upto c =
     omega arith
 
 pub returns-else-upto-eq0 : goal.returns-else-upto-eq0
-returns-else-upto-eq0 c = rw (← c.self.view_is) (prev-there c.self.inside.bytes c.self.inside.count c.self.invariant.0 c.self.invariant.1 c.args.byte c.count_up_to-upto.result (rw (← c.self.view_is) at c.count_up_to-upto.ensures) c.if-upto-eq0.false)
+returns-else-upto-eq0 c =
+    rw (← c.self.view_is) (prev-there c.self.inside.bytes c.self.inside.count c.self.invariant.0 c.self.invariant.1 c.args.byte c.count_up_to-upto.result
+    (rw (← c.self.view_is) at c.count_up_to-upto.ensures) c.if-upto-eq0.false)

@@ -12,7 +12,8 @@ use mir.Val.{Val}
 use contract.Monad.{fact}
 use contract.Running.{tables}
 use types.Logic.{Logic, sem}
-use types.Kit.{‵, raw, ◌⊛◌, some, later, at_ret, ◌$◌, ◌∵◌, !, qed, done, move, keep, drop as skip, use1, use2, join, split, split3, fsplit, fsplit3, fjoin, fjoin3, fpack, pick, await, flt_i, flt_l, rewrite, suffices, frame, group}
+use types.Kit.{‵, raw, ◌⊛◌, some, later, at_ret, ◌$◌, ◌∵◌, !, qed, done, move, keep, drop as skip, use1, use2, join, split, split3, fsplit, fsplit3, fjoin, fjoin3, fpack, pick}
+use types.Kit.{await, flt_i, flt_l, rewrite, suffices, frame, group}
 use types.Part.{whole, sub, look_in, agg}
 use types.Run.{enter, of_opd, load, fld, stop, no_more, and_then, first, blocks, exec, returns}
 use types.ByLocal.{alloc_all, pass_all, free_all, look_at, get, through, sets, sets_last, env}
@@ -83,7 +84,8 @@ front_mut_spec 𝓤 𝓛 𝓜 𝓡 wired =
     proved 𝓛 f.ended stayed c 𝓜 𝓡 (Goes-spent_ref 𝓛 1 (0 ∷ []) tt (plain (λ _. R)), (Goes-dropped 𝓛 1 (plain (λ _. usize)) yes (λ κs x w. refl), tt))
     f.Key.name code.function (code.unfolded 𝓤 𝓛.H 𝓜 𝓡 wired)
     (λ κs. (mut_vals, (uint_vals w64, tt))) (λ κs. (mut_Tells (named 0) κs.0 R, (uint_Tells w64, tt))) (λ κs qs bounds a g are.
-    let κ = κs.0 in let q = qs.0 in let rb = a.0.ref_ptr.0 in let ro = a.0.ref_ptr.1 in let γ = a.0.ghost_name in let d : Cells = a.0.now in let n : ℕ = a.1.0 in let ws = take n d.items in let fits = are.1.0.1 in
+    let κ = κs.0 in let q = qs.0 in let rb = a.0.ref_ptr.0 in let ro = a.0.ref_ptr.1 in let γ = a.0.ghost_name in let d : Cells = a.0.now in let n : ℕ = a.1.0 in
+    let ws = take n d.items in let fits = are.1.0.1 in
     let y : W.Ghost = ((κs, qs, bounds, a, (mut_vals a.0, (uint_vals w64 n, tt))), tt) in
     qed 𝓛 (((‵ (flft κ q) ⊛ ‵ ftrue) ⊛ ‵ (owns (MutRef (named 0) κ R ∷ usize ∷ []) a y.0.4)) ∷ raw (fact 𝓤 (n ≤ length d.items)) ∷ []) ∵
     split ! $ split ! $ move ! (3 ∷ []) $ heard ! (n ≤ length d.items) (λ within. move ! (2 ∷ []) $ fsplit ! $ fsplit3 ! $ skip ! $ keep ! (0 ∷ 1 ∷ 3 ∷ []) $
@@ -96,7 +98,8 @@ front_mut_spec 𝓤 𝓛 𝓜 𝓡 wired =
     let word = lowers.val_is d vs is ∙ ap (λ (p : Ptr). lowers.lowered (record d { head = p }) ∷ []) e in
     let Cell = λ (us : List Val). ‵ (cell_at full_share R.mir us rb ro) in
     -- into `unsafe { .. }`: `self.head` is read, and `from_raw_parts_mut` makes the slice of it and the count
-    rewrite ! 2 Cell word refl $ first ! $ blocks ! $ sets ! (of_opd ! (load ! (through ! refl (fld ! refl (stop !))) (look_in ! 2 (sub ! 0 refl (whole !))))) refl (tt, tt) $ rewrite ! 2 Cell (sym word) refl $
+    rewrite ! 2 Cell word refl $ first ! $ blocks ! $ sets ! (of_opd ! (load ! (through ! refl (fld ! refl (stop !))) (look_in ! 2 (sub ! 0 refl (whole !))))) refl
+    (tt, tt) $ rewrite ! 2 Cell (sym word) refl $
     sets_last ! (agg ! (and_then ! (get ! refl) (and_then ! (get ! refl) (no_more !)))) refl (tt, (tt, (record { fits = fits }, tt))) $
     exec ! 𝓣.C 𝓣.Λ (env code.Mir.locals l) code.Mir.t-2 (at_ret _ (W.post y)) $ sets ! (of_opd ! (get ! refl)) refl (tt, (tt, (record { fits = fits }, tt))) $
     -- the words are cut after the first n, which leave under a name of their own
@@ -107,7 +110,8 @@ front_mut_spec 𝓤 𝓛 𝓜 𝓡 wired =
     let few' : length ws < 2 ^ 64 = omega arith in let fitting : length ws * 8 < 2 ^ 63 = omega arith in let mark = R.coded.code d in
     let Lent = Elements 𝓛 R u64 (new d n) (named 0) κ q rb ro b o γ ws (few', fitting) (sem 𝓛 (Rest 𝓛 d n rb ro b o at vs)) (back 𝓛 d n rb ro b o at vs e refl within few) in
     use1 𝓛 (later (some (λ (δ : GName). raw (Lent δ))))
-    (lends_Elements 𝓛 R u64 (new d n) (named 0) κ q rb ro b o γ ws (few', fitting) (sem 𝓛 (Rest 𝓛 d n rb ro b o at vs)) (back 𝓛 d n rb ro b o at vs e refl within few) mark mark) $ await ! tt $ pick ! (λ δ.
+    (lends_Elements 𝓛 R u64 (new d n) (named 0) κ q rb ro b o γ ws (few', fitting) (sem 𝓛 (Rest 𝓛 d n rb ro b o at vs)) (back 𝓛 d n rb ro b o at vs e refl within few) mark mark)
+    $ await ! tt $ pick ! (λ δ.
     -- the return: [the slice; the token; that the struct follows the slice]
     returns ! (look_at ! 0 refl) $ free_all ! refl $ keep ! (0 ∷ []) $
     let r : MutBor (List ℕ) = record { ref_ptr = (b, o); ghost_name = δ; now = ws } in

@@ -84,7 +84,8 @@ release_spec 𝓤 𝓛 𝓜 𝓡 wired A L g d dd met md =
     -- what `deallocate` requires is these four entries; the call takes them and leaves the lifetime
     group ! 4 $ use1 𝓛 (raw ((Gives Y 𝓛 𝓜.mem 𝓡.returns).pre y))
     (Gives-goes Y 𝓛 𝓜.mem 𝓡.returns κ q at h (⊑_trans κ z.0.0.1.0 A.lives z.0.2.0 le) b o (n * 8) 8 (words_type n) (capped_is (n * 8) bytes) refl bytes (lit< tt)) $
-    calls_at_last ! (framed 𝓤 𝓛.H 𝓜 𝓣) (Gives Y 𝓛 𝓜.mem 𝓡.returns) (met.deallocate dd) y (and_then ! (get ! refl) (and_then ! (get ! refl) (and_then ! (get ! refl) (and_then ! (lit ! tt) (no_more !))))) (λ v.
+    calls_at_last ! (framed 𝓤 𝓛.H 𝓜 𝓣) (Gives Y 𝓛 𝓜.mem 𝓡.returns) (met.deallocate dd) y (and_then ! (get ! refl)
+    (and_then ! (get ! refl) (and_then ! (get ! refl) (and_then ! (lit ! tt) (no_more !))))) (λ v.
     use1 𝓛 (later (given (v ≡ vunit) (‵ (flft κ q)))) (Gives-Gives Y 𝓛 𝓜.mem 𝓡.returns κ q at h b o (n * 8) 8 (words_type n) v) $ await ! tt $ learn ! (λ done_with. join ! $
     lands_last ! refl (subst (λ (u : Val). T (has_ty ty_unit u) × WT u) (sym done_with) (tt, tt)) $ exec ! 𝓣.C 𝓣.Λ En (after 2 fn.body) (at_ret En Post) $
     -- the return: no part of the parameters is left

@@ -11,7 +11,8 @@ use mir.Val.{Val, vptr}
 use contract.Monad.{fact}
 use contract.Running.{tables}
 use types.Logic.{Logic, sem}
-use types.Kit.{‵, raw, ◌⊛◌, some, later, at_ret, ◌$◌, ◌∵◌, !, qed, done, move, keep, drop as skip, use1, use2, join, split, split3, fsplit, fsplit3, fjoin, fjoin3, fpack, pick, await, flt_i, flt_l, rewrite, suffices, frame, group}
+use types.Kit.{‵, raw, ◌⊛◌, some, later, at_ret, ◌$◌, ◌∵◌, !, qed, done, move, keep, drop as skip, use1, use2, join, split, split3, fsplit, fsplit3, fjoin, fjoin3, fpack, pick}
+use types.Kit.{await, flt_i, flt_l, rewrite, suffices, frame, group}
 use types.Part.{whole, sub, look_in}
 use types.Run.{enter, of_opd, bin, lit, addr, load, fld, stop, first, blocks, exec, returns}
 use types.ByLocal.{alloc_all, pass_all, free_all, look_at, get, through, sets, sets_last, env}
@@ -75,7 +76,8 @@ word_mut_spec 𝓤 𝓛 𝓜 𝓡 wired =
     proved 𝓛 f.ended stayed c 𝓜 𝓡 (Goes-spent_ref 𝓛 1 (0 ∷ []) tt (plain (λ _. R)), (Goes-dropped 𝓛 1 (plain (λ _. usize)) yes (λ κs x w. refl), tt))
     f.Key.name code.function (code.unfolded 𝓤 𝓛.H 𝓜 𝓡 wired)
     (λ κs. (mut_vals, (uint_vals w64, tt))) (λ κs. (mut_Tells (named 0) κs.0 R, (uint_Tells w64, tt))) (λ κs qs bounds a g are.
-    let κ = κs.0 in let q = qs.0 in let rb = a.0.ref_ptr.0 in let ro = a.0.ref_ptr.1 in let γ = a.0.ghost_name in let d : Cells = a.0.now in let i : ℕ = a.1.0 in let w = get_or d.items i 0 in let fits = are.1.0.1 in
+    let κ = κs.0 in let q = qs.0 in let rb = a.0.ref_ptr.0 in let ro = a.0.ref_ptr.1 in let γ = a.0.ghost_name in let d : Cells = a.0.now in let i : ℕ = a.1.0 in
+    let w = get_or d.items i 0 in let fits = are.1.0.1 in
     let y : W.Ghost = ((κs, qs, bounds, a, (mut_vals a.0, (uint_vals w64 i, tt))), tt) in
     qed 𝓛 (((‵ (flft κ q) ⊛ ‵ ftrue) ⊛ ‵ (owns (MutRef (named 0) κ R ∷ usize ∷ []) a y.0.4)) ∷ raw (fact 𝓤 (i < length d.items)) ∷ []) ∵
     split ! $ split ! $ move ! (3 ∷ []) $ heard ! (i < length d.items) (λ within. move ! (2 ∷ []) $ fsplit ! $ fsplit3 ! $ skip ! $ keep ! (0 ∷ 1 ∷ 3 ∷ []) $
@@ -88,7 +90,8 @@ word_mut_spec 𝓤 𝓛 𝓜 𝓡 wired =
     let word = lowers.val_is d vs is ∙ ap (λ (p : Ptr). lowers.lowered (record d { head = p }) ∷ []) e in
     let Cell = λ (us : List Val). ‵ (cell_at full_share R.mir us rb ro) in let far : i * 8 < 2 ^ 64 = omega arith in let at : ℕ = i * 8 + o in
     -- into `unsafe { .. }`: `self.head` is read, `.add(i)` moves it on to the word, and `&mut *` makes the reference
-    rewrite ! 2 Cell word refl $ first ! $ blocks ! $ sets ! (of_opd ! (load ! (through ! refl (fld ! refl (stop !))) (look_in ! 2 (sub ! 0 refl (whole !))))) refl (tt, tt) $ rewrite ! 2 Cell (sym word) refl $
+    rewrite ! 2 Cell word refl $ first ! $ blocks ! $ sets ! (of_opd ! (load ! (through ! refl (fld ! refl (stop !))) (look_in ! 2 (sub ! 0 refl (whole !))))) refl
+    (tt, tt) $ rewrite ! 2 Cell (sym word) refl $
     sets ! (bin ! (get ! refl) (lit ! tt) (record { fits = far })) refl (tt, record { fits = far }) $ sets ! (bin ! (get ! refl) (get ! refl) tt) refl (tt, tt) $
     sets_last ! (addr ! (through ! refl (stop !))) refl (tt, tt) $ exec ! 𝓣.C 𝓣.Λ (env code.Mir.locals l) code.Mir.t-2 (at_ret _ (W.post y)) $ sets ! (of_opd ! (get ! refl)) refl (tt, tt) $
     -- the word is taken out of the others, and leaves under a name of its own

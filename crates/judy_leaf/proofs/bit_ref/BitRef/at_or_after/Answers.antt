@@ -13,12 +13,14 @@ returns-then-number-gt255 g c =
 pub value_at-requires : goal.value_at-requires
 value_at-requires g c =
     subst (λ at. at < length c.args.self.now.pairs) (sym c.rank.ensures.value)
-    (next_inside c.args.self.now.pairs c.law.ensures.ascending c.args.number c.in-Some.key (sym c.in-Some.is ∙ c.next_from.ensures ∙ ap (λ keys. set.next_from keys c.args.number) c.bits.ensures.value))
+    (next_inside c.args.self.now.pairs c.law.ensures.ascending c.args.number c.in-Some.key (sym c.in-Some.is ∙ c.next_from.ensures ∙
+    ap (λ keys. set.next_from keys c.args.number) c.bits.ensures.value))
 
 pub returns-in-Some : goal.returns-in-Some
 returns-in-Some g c =
     next_member c.args.self.now.pairs c.law.ensures.ascending c.args.number c.from.result c.value_at.result
-    (ap Some c.from.ensures ∙ sym c.in-Some.is ∙ c.next_from.ensures ∙ ap (λ keys. set.next_from keys c.args.number) c.bits.ensures.value) (c.value_at.ensures ∙ ap (λ at. get_or (values_of c.args.self.now.pairs) at 0) c.rank.ensures.value)
+    (ap Some c.from.ensures ∙ sym c.in-Some.is ∙ c.next_from.ensures ∙ ap (λ keys. set.next_from keys c.args.number) c.bits.ensures.value)
+    (c.value_at.ensures ∙ ap (λ at. get_or (values_of c.args.self.now.pairs) at 0) c.rank.ensures.value)
 
 pub returns-in-None : goal.returns-in-None
 returns-in-None g c =

@@ -25,8 +25,12 @@ take_next-key-requires-clause-some g c =
     let ranked = left.2 in
     let inside = c.loop-place-test.true in
     let room = c.requires.inside in
-    let most = c.loop-place.auto.place-end in
-    (left.0, left.1, get_or (keys_of pairs) (rank (keys_of pairs) left.0) 0, ap (λ keys. next_from keys left.0) c.bit_words-words.ensures.keys ∙ next_there pairs c.len-count.ensures.is_set.ascending left.0 (omega arith))
+    let most = c.loop-place.auto.place-end in (
+      left.0,
+      left.1,
+      get_or (keys_of pairs) (rank (keys_of pairs) left.0) 0,
+      ap (λ keys. next_from keys left.0) c.bit_words-words.ensures.keys ∙ next_there pairs c.len-count.ensures.is_set.ascending left.0 (omega arith),
+    )
 
 pub loop-place-preserved : goal.loop-place-preserved
 loop-place-preserved g c =
@@ -51,4 +55,5 @@ pub returns : goal.returns
 returns g c =
     let past = c.loop-place-test.false in
     let most = c.loop-place.auto.place-end in
-    all_made g.E.FromPair.made c.args.base c.args.at c.loop-place.place (length c.args.out.now) c.args.self.now.pairs c.loop-place.out (omega arith) (c.loop-place.auto.out ∙ omega arith) c.loop-place.invariant.written
+    all_made g.E.FromPair.made c.args.base c.args.at c.loop-place.place (length c.args.out.now) c.args.self.now.pairs c.loop-place.out (omega arith)
+    (c.loop-place.auto.out ∙ omega arith) c.loop-place.invariant.written

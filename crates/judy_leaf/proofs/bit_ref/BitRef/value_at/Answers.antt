@@ -9,7 +9,10 @@ pub get-requires : goal.get-requires
 get-requires g c = bit_value_inside g.V.Words.WORDS c.self.inside.block.now c.self.invariant c.args.self.now c.self.view_is c.args.at c.requires (sym c.WORDS.ensures ∙ c.if-WORDS-eq1.true)
 
 pub returns-then-WORDS-eq1 : goal.returns-then-WORDS-eq1
-returns-then-WORDS-eq1 g c = bit_value g.V.Words.WORDS c.self.inside.block.now c.self.invariant c.args.self.now c.self.view_is c.args.at c.get.result c.requires (sym c.WORDS.ensures ∙ c.if-WORDS-eq1.true) c.get.ensures
+returns-then-WORDS-eq1 g c =
+    bit_value g.V.Words.WORDS c.self.inside.block.now c.self.invariant c.args.self.now c.self.view_is c.args.at c.get.result c.requires (sym c.WORDS.ensures ∙ c.if-WORDS-eq1.true) c.get.ensures
 
 pub returns-else-WORDS-eq1 : goal.returns-else-WORDS-eq1
-returns-else-WORDS-eq1 g c = bit_no_value g.V.Words.WORDS c.self.inside.block.now c.self.invariant c.args.self.now c.self.view_is c.args.at (let is = c.WORDS.ensures in let most = c.self.invariant.one in let apart = c.if-WORDS-eq1.false in omega arith)
+returns-else-WORDS-eq1 g c =
+    bit_no_value g.V.Words.WORDS c.self.inside.block.now c.self.invariant c.args.self.now c.self.view_is c.args.at
+    (let is = c.WORDS.ensures in let most = c.self.invariant.one in let apart = c.if-WORDS-eq1.false in omega arith)

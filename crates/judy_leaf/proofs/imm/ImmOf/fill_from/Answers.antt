@@ -21,4 +21,5 @@ pub returns : goal.returns
 returns g c =
     let past = c.loop-place-test.false in
     let most = c.loop-place.auto.place-end in
-    all_made g.E.FromPair.made c.args.base c.args.at c.loop-place.place (length c.args.out.now) c.args.self.now.pairs c.loop-place.out (omega arith) (c.loop-place.auto.out ∙ omega arith) c.loop-place.invariant
+    all_made g.E.FromPair.made c.args.base c.args.at c.loop-place.place (length c.args.out.now) c.args.self.now.pairs c.loop-place.out (omega arith)
+    (c.loop-place.auto.out ∙ omega arith) c.loop-place.invariant

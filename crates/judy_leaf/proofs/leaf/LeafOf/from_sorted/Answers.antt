@@ -14,5 +14,7 @@ invariant_of-result g c =
     record {
       one = c.requires.words;
       keys = subst (λ w. AreKeysFrom w n (g.V.Words.WORDS * n) block) (sym put.tag) put.keys;
-      ascending = subst (IsStrictlySortedBy word_order) (sym (sym (keys_of-pairs_of (keys_from block.tag n (g.V.Words.WORDS * n) block) _) ∙ ap keys_of put.pairs ∙ ap (λ w. keys_of (low_pairs (256 ^ w) c.args.pairs.now)) c.from-2.ensures)) c.requires.list.ascending;
+      ascending =
+          subst (IsStrictlySortedBy word_order) (sym (sym (keys_of-pairs_of (keys_from block.tag n (g.V.Words.WORDS * n) block) _) ∙ ap keys_of put.pairs ∙
+          ap (λ w. keys_of (low_pairs (256 ^ w) c.args.pairs.now)) c.from-2.ensures)) c.requires.list.ascending;
     }

@@ -5,4 +5,6 @@ use Rattle.judy_leaf.proofs.AbsentRuns.{last_among}
 use Rattle.judy_leaf.proofs.leaf_ref.LeafRef.absent_at_or_before.Goals as goal
 
 pub returns : goal.returns
-returns g c = last_among (256 ^ c.keys-width.result.0) (256 ^ c.args.self.now.width) (keys_from c.keys-width.result.0 c.keys-width.result.3 c.keys-width.result.2 c.keys-width.result.1.now) (keys_of c.args.self.now.pairs) c.args.number c.absent_up_to.result (ap (λ w. 256 ^ w) c.keys-width.ensures.width) c.keys-width.ensures.same c.absent_up_to.ensures
+returns g c =
+    last_among (256 ^ c.keys-width.result.0) (256 ^ c.args.self.now.width) (keys_from c.keys-width.result.0 c.keys-width.result.3 c.keys-width.result.2 c.keys-width.result.1.now)
+    (keys_of c.args.self.now.pairs) c.args.number c.absent_up_to.result (ap (λ w. 256 ^ w) c.keys-width.ensures.width) c.keys-width.ensures.same c.absent_up_to.ensures

@@ -9,7 +9,8 @@ pub overflow_add-base : goal.overflow_add-base
 overflow_add-base g c =
     let inside = c.loop-place-test.true in
     let room = c.requires.inside in
-    let below = key_below (256 ^ g.row.W) c.args.self.now.pairs (c.args.at + c.loop-place.place) (subst (λ w. AllByRecursion (λ key. key < 256 ^ w) (keys_of c.args.self.now.pairs)) c.requires.width c.len-count.ensures.list.below) (omega arith) in
+    let below = key_below (256 ^ g.row.W) c.args.self.now.pairs (c.args.at + c.loop-place.place) (subst
+    (λ w. AllByRecursion (λ key. key < 256 ^ w) (keys_of c.args.self.now.pairs)) c.requires.width c.len-count.ensures.list.below) (omega arith) in
     omega (arith, c.requires.fits, below, c.key_of-key.ensures)
 
 pub loop-place-preserved : goal.loop-place-preserved
@@ -23,4 +24,5 @@ pub returns : goal.returns
 returns g c =
     let past = c.loop-place-test.false in
     let most = c.loop-place.auto.place-end in
-    all_made g.E.FromPair.made c.args.base c.args.at c.loop-place.place (length c.args.out.now) c.args.self.now.pairs c.loop-place.out (omega arith) (c.loop-place.auto.out ∙ omega arith) c.loop-place.invariant
+    all_made g.E.FromPair.made c.args.base c.args.at c.loop-place.place (length c.args.out.now) c.args.self.now.pairs c.loop-place.out (omega arith)
+    (c.loop-place.auto.out ∙ omega arith) c.loop-place.invariant

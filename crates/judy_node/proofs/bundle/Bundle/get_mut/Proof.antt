@@ -16,7 +16,8 @@ use base.Fml.{Lft, GName, Share, ftrue, flft}
 use types.Logic.{Logic, sem}
 use types.Mut.{open_ref}
 use types.SemTy.{cells}
-use types.Kit.{Item, ‵, ◌⊛◌, raw, given, some, later, ◌$◌, ◌∵◌, !, qed, move, keep, drop, split, split3, join, learn, fsplit, fsplit3, fjoin, use1, use2, await, pick, suffices, frame, done, updating, group, now, show, rewrite, check}
+use types.Kit.{Item, ‵, ◌⊛◌, raw, given, some, later, ◌$◌, ◌∵◌, !, qed, move, keep, drop, split, split3, join, learn, fsplit, fsplit3, fjoin, use1, use2, await, pick, suffices}
+use types.Kit.{frame, done, updating, group, now, show, rewrite, check}
 use types.Run.{stop, fld, addr, bin, lit, size_word, returns, enter}
 use types.ByLocal.{alloc_all, pass_all, free_all, look_at, get, through, sets, is}
 use contract.Running.{tables}
@@ -56,7 +57,9 @@ module _ (X : RattleType) (L : Laws X) {M : Type 1} {𝓤 : Ura M} (𝓛 : Logic
   Lent y = guard 𝓤 (d ≡ bundled y.1) (Part 𝓛 (S X) (R X) bundled (named 0) κ q b o b (start X o) γ (Left X 𝓛 b o) (value_in X 𝓛 b o) y.1 y.0)
 
   abbrev lent : GName × X.Denot → Item 𝓤
-  lent y = given (d ≡ bundled y.1) (‵ ((MutRef (named 0) κ (R X)).own_val (record { ref_ptr = (b, start X o); ghost_name = y.0; now = y.1 }) (vptr b (start X o) ∷ [])) ⊛ ‵ (flft κ q) ⊛ ‵ (follows (S X) (R X) γ y.0 bundled))
+  lent y =
+      given (d ≡ bundled y.1) (‵ ((MutRef (named 0) κ (R X)).own_val (record { ref_ptr = (b, start X o); ghost_name = y.0; now = y.1 }) (vptr b (start X o) ∷ [])) ⊛ ‵
+      (flft κ q) ⊛ ‵ (follows (S X) (R X) γ y.0 bundled))
 
   lends : (vs : List Val)
       → ent 𝓤 (sep 𝓤 (sem 𝓛 ((MutRef (named 0) κ (S X)).own_val (record { ref_ptr = (b, o); ghost_name = γ; now = d }) vs)) (A.lft κ q)) (H.⇛ (ex 𝓤 Lent))

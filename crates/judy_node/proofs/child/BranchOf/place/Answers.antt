@@ -7,4 +7,5 @@ returns-then-len-eq256 g c =
     let branch = c.args.self.now in
     let below : c.args.byte < 256 = omega (arith, c.ranges.byte) in
     ap Some c.from.ensures
-    ∙ sym (place_of_all g.V.Words.WORDS branch.width branch.skip branch.bytes branch.children.items branch.population c.args.byte c.requires (sym branch.children.ok.0 ∙ sym c.len.ensures ∙ c.if-len-eq256.true) below)
+    ∙ sym (place_of_all g.V.Words.WORDS branch.width branch.skip branch.bytes branch.children.items branch.population c.args.byte c.requires
+    (sym branch.children.ok.0 ∙ sym c.len.ensures ∙ c.if-len-eq256.true) below)

@@ -24,7 +24,8 @@ returns-then-block-front g c =
 pub returns-in-Some : goal.returns-in-Some
 returns-in-Some g c =
     let branch = c.args.self.now in (
-      key_read branch.width (number_of branch.skip) c.args.key c.without_tail-block.result c.number-front.ensures c.from-width.ensures c.without_tail-block.ensures c.tail-rest.ensures (omega (arith, c.if-block-front.false)) (omega (arith, c.if-block-front-gt255.false)),
+      key_read branch.width (number_of branch.skip) c.args.key c.without_tail-block.result c.number-front.ensures c.from-width.ensures c.without_tail-block.ensures c.tail-rest.ensures
+          (omega (arith, c.if-block-front.false)) (omega (arith, c.if-block-front-gt255.false)),
       present_place g.V.Words.WORDS branch.width branch.bytes branch.children.items (c.without_tail-block.result - c.number-front.result * 256) c.in-Some.place c.requires.parts.children
           (sym c.place.ensures ∙ c.in-Some.is),
     )
@@ -32,7 +33,8 @@ returns-in-Some g c =
 pub returns-in-None : goal.returns-in-None
 returns-in-None g c =
     let branch = c.args.self.now in (
-      key_read branch.width (number_of branch.skip) c.args.key c.without_tail-block.result c.number-front.ensures c.from-width.ensures c.without_tail-block.ensures c.tail-rest.ensures (omega (arith, c.if-block-front.false)) (omega (arith, c.if-block-front-gt255.false)),
+      key_read branch.width (number_of branch.skip) c.args.key c.without_tail-block.result c.number-front.ensures c.from-width.ensures c.without_tail-block.ensures c.tail-rest.ensures
+          (omega (arith, c.if-block-front.false)) (omega (arith, c.if-block-front-gt255.false)),
       absent_place branch.bytes (c.without_tail-block.result - c.number-front.result * 256) (sym c.place.ensures ∙ c.in-None.is),
       c.rank.ensures,
     )

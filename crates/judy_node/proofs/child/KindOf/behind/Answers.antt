@@ -33,7 +33,8 @@ returns-in-Bit-clause-level g c =
     let number = c.new-head.ensures ∙ front_sum c.bit_width.ensures c.from.ensures c.moved_up-front.ensures c.number.ensures.value in
     subst (λ b. IsBit words c.new-head.result b) (sym c.widen_bits.ensures)
     (subst (λ n. IsBit words n (record c.in-Bit.block { tag = c.in-Bit.block.tag + 65536 })) (sym number)
-    (bit_behind words c.in-Bit.head c.args.byte c.in-Bit.block (subst (λ kind. IsLevel words kind) c.in-Bit.is c.requires.level) (omega (arith, c.ranges.byte)) (subst (λ kind. (tree_of words kind).width + 1 ≤ 8) c.in-Bit.is c.requires.width)))
+    (bit_behind words c.in-Bit.head c.args.byte c.in-Bit.block (subst (λ kind. IsLevel words kind) c.in-Bit.is c.requires.level) (omega (arith, c.ranges.byte))
+    (subst (λ kind. (tree_of words kind).width + 1 ≤ 8) c.in-Bit.is c.requires.width)))
 
 pub returns-in-Bit-clause-tree : goal.returns-in-Bit-clause-tree
 returns-in-Bit-clause-tree g c =

@@ -56,7 +56,8 @@ returns-in-Missing-clause-none g c =
     let words = g.V.Words.WORDS in
     let node = c.in-Branch.branch.value in
     let level = (subst (IsLevel words) c.in-Branch.is c.requires.level).0 in
-    let step = subst (λ b. IsStep (256 ^ b.width) (number_of b.skip * 256) b.bytes c.args.key (Missing c.in-Missing.field-0 c.in-Missing.field-1 c.in-Missing.field-2)) c.deref.ensures c.in-Missing.ensures in
+    let step = subst (λ b. IsStep (256 ^ b.width) (number_of b.skip * 256) b.bytes c.args.key (Missing c.in-Missing.field-0 c.in-Missing.field-1 c.in-Missing.field-2))
+    c.deref.ensures c.in-Missing.ensures in
     rw c.in-Branch.is (branch-missing words node.width node.skip node.bytes node.children.items node.population c.args.key level c.in-Missing.field-0 c.in-Missing.field-1 c.in-Missing.field-2 step)
 
 pub returns-in-Below-clause-none : goal.returns-in-Below-clause-none

@@ -32,7 +32,11 @@ returns-in-Up-clause-room g c =
     let number = c.number-number.ensures in
     let more = c.if-number-gt0.true in
     let top = base + 256 ^ (length b.skip + 1 + b.width) in
-    room_told _ c.args.self words all base top (Some base) (rw c.in-Up.is (let told : IsFirstAbsent all base top (Some base) = (omega arith, run-none all base base refl, raised_beside words b.width b.skip b.bytes b.children.items b.population c.requires.branch base Below 0 base (omega arith) tt (omega arith) whole) in told))
+    room_told _ c.args.self words all base top (Some base) (rw c.in-Up.is (let told : IsFirstAbsent all base top (Some base) = (
+      omega arith,
+      run-none all base base refl,
+      raised_beside words b.width b.skip b.bytes b.children.items b.population c.requires.branch base Below 0 base (omega arith) tt (omega arith) whole,
+    ) in told))
 
 pub returns-in-Down-clause-room : goal.returns-in-Down-clause-room
 returns-in-Down-clause-room g c =
@@ -42,12 +46,17 @@ returns-in-Down-clause-room g c =
     let all = shift base (branch_pairs b.width b.skip b.bytes b.children.items) in
     let unit = 256 ^ (length b.skip + 1 + b.width) in
     let whole = unit_pos (length b.skip + 1 + b.width) in
-    let less : number_of b.skip + 1 < 256 ^ length b.skip = subst (λ n. number_of b.skip + 1 < 256 ^ n) c.len.ensures.count (subst (λ n. n + 1 < 256 ^ c.len.result) c.number-number.ensures (ltb-true (c.number-number.result + 1) (256 ^ c.len.result) (sym c.has_next.ensures ∙ c.if-has_next.true))) in
+    let less : number_of b.skip + 1 < 256 ^ length b.skip = subst (λ n. number_of b.skip + 1 < 256 ^ n) c.len.ensures.count
+    (subst (λ n. n + 1 < 256 ^ c.len.result) c.number-number.ensures (ltb-true (c.number-number.result + 1) (256 ^ c.len.result) (sym c.has_next.ensures ∙ c.if-has_next.true))) in
     let left = words_behind words b.width b.skip b.bytes b.children.items b.population c.requires.branch less in
     let last = c.last_word.ensures.value in
     let wide : 256 ^ c.args.wide ≡ unit = ap (λ w. 256 ^ w) c.requires.wide in
     let word = c.args.base + c.last_word.result in
-    room_told _ c.args.self words all base (base + unit) (Some word) (rw c.in-Down.is (let told : IsLastAbsent all base (base + unit) (Some word) = (omega arith, run-none all (word + 1) (base + unit) (omega arith), raised_beside words b.width b.skip b.bytes b.children.items b.population c.requires.branch base Above (unit - 1) word (omega arith) tt (omega arith) (omega arith)) in told))
+    room_told _ c.args.self words all base (base + unit) (Some word) (rw c.in-Down.is (let told : IsLastAbsent all base (base + unit) (Some word) = (
+      omega arith,
+      run-none all (word + 1) (base + unit) (omega arith),
+      raised_beside words b.width b.skip b.bytes b.children.items b.population c.requires.branch base Above (unit - 1) word (omega arith) tt (omega arith) (omega arith),
+    ) in told))
 
 pub returns-in-Down-2-clause-room : goal.returns-in-Down-2-clause-room
 returns-in-Down-2-clause-room g c =
@@ -55,5 +64,7 @@ returns-in-Down-2-clause-room g c =
     let b = c.args.branch.now in
     let base = c.args.base in
     let below = number_of-lt b.skip c.requires.branch.parts.skipped_bytes in
-    let most = least_top (number_of b.skip) (256 ^ length b.skip) below ((λ t. nat_lt (sym c.number-number.ensures t + 1) (256 ^ sym c.len.ensures.count t)) ∙ sym c.has_next.ensures ∙ c.if-has_next.false) in
-    rw c.in-Down-2.is (subst (λ n. IsRoomUpTo words (shift base (branch_pairs b.width b.skip b.bytes b.children.items)) base (base + n) c.room_up_to.result) (none_behind words b.width b.skip b.bytes b.children.items b.population c.requires.branch most) c.room_up_to.ensures.room)
+    let most = least_top (number_of b.skip) (256 ^ length b.skip) below ((λ t. nat_lt (sym c.number-number.ensures t + 1) (256 ^ sym c.len.ensures.count t)) ∙
+    sym c.has_next.ensures ∙ c.if-has_next.false) in
+    rw c.in-Down-2.is (subst (λ n. IsRoomUpTo words (shift base (branch_pairs b.width b.skip b.bytes b.children.items)) base (base + n) c.room_up_to.result)
+    (none_behind words b.width b.skip b.bytes b.children.items b.population c.requires.branch most) c.room_up_to.ensures.room)

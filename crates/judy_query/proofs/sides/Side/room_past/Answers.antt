@@ -42,9 +42,15 @@ pub room_up_to-requires : goal.room_up_to-requires
 room_up_to-requires g c =
     let b = c.args.passed.branch.now in
     let ascend = bytes_ascend g.V.Words.WORDS b.width b.skip b.bytes b.children.items b.population c.requires.branch in
-    record { branch = c.requires.branch; edge = omega (arith, c.requires.small); place = sym (rank_before b.bytes c.args.passed.edge c.args.passed.place ascend c.requires.child); fits = c.requires.fits }
+    record {
+      branch = c.requires.branch;
+      edge = omega (arith, c.requires.small);
+      place = sym (rank_before b.bytes c.args.passed.edge c.args.passed.place ascend c.requires.child);
+      fits = c.requires.fits;
+    }
 
 pub returns-in-Down : goal.returns-in-Down
 returns-in-Down g c =
     let passed = c.args.passed in
-    subst (λ side. IsRoomPast side g.V.Words.WORDS (branch_words passed) passed.base (words_end passed) (edge_word passed) (256 ^ passed.branch.now.width) c.room_up_to.result) (sym c.in-Down.is) c.room_up_to.ensures.room
+    subst (λ side. IsRoomPast side g.V.Words.WORDS (branch_words passed) passed.base (words_end passed) (edge_word passed) (256 ^ passed.branch.now.width) c.room_up_to.result)
+    (sym c.in-Down.is) c.room_up_to.ensures.room

@@ -9,7 +9,8 @@ returns-clause-given g c =
     let counted = c.self.invariant.counted in
     let within = c.self.invariant.within in
     let least = c.min-count.ensures in
-    next_given g.E.FromPair.made s.base s.at c.min-count.result (s.at + c.min-count.result) (view_pairs s.view) c.args.self.now c.args.out.now c.fill_in.new.out refl c.self.view_is (omega arith) (omega arith) c.fill_in.ensures
+    next_given g.E.FromPair.made s.base s.at c.min-count.result (s.at + c.min-count.result) (view_pairs s.view) c.args.self.now c.args.out.now c.fill_in.new.out refl c.self.view_is
+    (omega arith) (omega arith) c.fill_in.ensures
 
 pub returns-clause-most : goal.returns-clause-most
 returns-clause-most g c =

@@ -44,7 +44,9 @@ loop-count-preserved g c =
     let no_fewer = c.loop-count.invariant.no_fewer in
     record {
       turns = c.give_from-stretch.ensures.turns;
-      given = put_more made c.args.self.now mid c.args.out.now out n given (omega arith) (c.give_from-stretch.result.0 ++ waiting c.give_from-stretch.new.turns.items) c.give_from-stretch.new.out c.give_from-stretch.result.1
+      given =
+          put_more made c.args.self.now mid c.args.out.now out n given (omega arith) (c.give_from-stretch.result.0 ++ waiting c.give_from-stretch.new.turns.items)
+          c.give_from-stretch.new.out c.give_from-stretch.result.1
           c.give_from-stretch.ensures.given;
       emptied = λ less. c.give_from-stretch.ensures.most (omega arith);
       visits = omega arith;

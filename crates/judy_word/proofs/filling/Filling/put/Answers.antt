@@ -1,17 +1,11 @@
-use Rattle.std.proofs.Common.{ℕ, [], ◌∷◌, ap, ◌∙◌}
-use Rattle.std.specs.FinMap.{FinMap}
+use Rattle.std.proofs.Common.{subst}
 use Rattle.judy_model.specs.Keys.{word_order}
-use Rattle.judy_node.specs.Trees.{Pairs}
-use Rattle.judy_word.specs.Held.{map_in, with_all, with_new}
-use Rattle.judy_word.proofs.FrontFacts.{with_all-append}
+use Rattle.judy_model.specs.Arrays.{ArrayOf, with_map}
+use Rattle.judy_word.specs.Held.{with_new}
+use Rattle.judy_word.specs.Refusals.{IsRefusalOfAll}
 use Rattle.judy_word.proofs.filling.Filling.put.Goals as goal
 
-pub returns : goal.returns
-returns g c =
-    let tree = c.make_way.new.tree in
-    rw (← c.self.view_is)
-    (ap (λ (limit : ℕ). record { limit = limit; map = with_all (map_in tree) c.push_last.new.kept.items }) c.in_ok-make_way.ensures.limit
-    ∙ ap (λ (map : FinMap word_order ℕ). record { limit = c.self.inside.tree.limit; map = map })
-    (ap (λ (kept : Pairs). with_all (map_in tree) kept) c.in_ok-push_last.ensures.pushed
-    ∙ with_all-append (map_in tree) c.make_way.new.kept.items ((c.args.key, c.args.value) ∷ [])
-    ∙ ap (λ (map : FinMap word_order ℕ). with_new map c.args.key c.args.value) c.in_ok-make_way.ensures.same))
+pub returns-in_default-clause-refused : goal.returns-in_default-clause-refused
+returns-in_default-clause-refused g c =
+    subst (λ (array : ArrayOf word_order). IsRefusalOfAll (with_map array (with_new array.map c.args.key c.args.value)) c.refusal_of.result) c.in_default.ensures.unchanged
+    (c.refusal_of.ensures c.args.value)

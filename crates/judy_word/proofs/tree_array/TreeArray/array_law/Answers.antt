@@ -23,7 +23,8 @@ keys-preserved g c =
     let words = c.words_law-in-Some.ensures in
     let here = subst (λ o. IfSome o (λ entry. get map entry.0 ≡ Some entry.1)) c.in-Some.is c.keys.invariant.1 in (
       subst (Seen map) (sym c.next_entry-found.ensures.key)
-          (Seen-step map c.in-Some.key c.in-Some.value (subst (λ o. Seen map (option_map (λ entry. entry.0) o)) c.in-Some.is c.keys.invariant.0) words.0 (λ held is. same_Some held c.in-Some.value (sym is ∙ here)) words.1),
+          (Seen-step map c.in-Some.key c.in-Some.value (subst (λ o. Seen map (option_map (λ entry. entry.0) o)) c.in-Some.is c.keys.invariant.0) words.0
+          (λ held is. same_Some held c.in-Some.value (sym is ∙ here)) words.1),
       c.next_entry-found.ensures.value,
     )
 

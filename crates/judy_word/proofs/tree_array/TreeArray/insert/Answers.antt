@@ -46,7 +46,8 @@ invariant_of-self-2 g c =
 pub returns-clause-answer : goal.returns-clause-answer
 returns-clause-answer g c =
     let small : c.args.key < 256 ^ 8 = omega arith in
-    rw (← c.self.view_is) (was-is g.V.Words.WORDS c.self.inside.limit c.args.key _ c.self.inside.loose c.law.ensures c.self.invariant _ small c.args.value c.requires.words c.in-Ok.was c.in-Ok.ensures.exchanged)
+    rw (← c.self.view_is) (was-is g.V.Words.WORDS c.self.inside.limit c.args.key _ c.self.inside.loose c.law.ensures c.self.invariant _ small c.args.value
+    c.requires.words c.in-Ok.was c.in-Ok.ensures.exchanged)
 
 pub returns-clause-put : goal.returns-clause-put
 returns-clause-put g c =

@@ -48,7 +48,8 @@ invariant_of-self-2 g c =
 pub returns-clause-answer : goal.returns-clause-answer
 returns-clause-answer g c =
     let small : c.args.key < 256 ^ 8 = omega arith in
-    rw (← c.self.view_is) (added-is g.V.Words.WORDS c.self.inside.limit c.args.key _ c.self.inside.loose c.law.ensures c.self.invariant _ small c.args.value c.requires.no_value c.in-Ok.added c.in-Ok.ensures.inserted)
+    rw (← c.self.view_is) (added-is g.V.Words.WORDS c.self.inside.limit c.args.key _ c.self.inside.loose c.law.ensures c.self.invariant _ small c.args.value
+    c.requires.no_value c.in-Ok.added c.in-Ok.ensures.inserted)
 
 pub returns-clause-set : goal.returns-clause-set
 returns-clause-set g c =

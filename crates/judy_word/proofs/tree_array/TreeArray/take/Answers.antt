@@ -10,18 +10,22 @@ invariant_of-self g c = bounded-removed g.V.Words.WORDS c.self.inside.limit c.ar
 
 pub returns-then-removed-clause-answer : goal.returns-then-removed-clause-answer
 returns-then-removed-clause-answer g c =
-    rw (← c.self.view_is) (ap (λ was. cond was (Some c.remove-removed.result.value) None) (sym c.if-removed.true) ∙ value-held g.V.Words.WORDS c.self.inside.limit c.args.key _ _ c.remove-removed.result c.law.ensures c.remove-removed.ensures)
+    rw (← c.self.view_is) (ap (λ was. cond was (Some c.remove-removed.result.value) None) (sym c.if-removed.true) ∙
+    value-held g.V.Words.WORDS c.self.inside.limit c.args.key _ _ c.remove-removed.result c.law.ensures c.remove-removed.ensures)
 
 pub returns-clause-answer : goal.returns-clause-answer
 returns-clause-answer g c =
-    rw (← c.self.view_is) (ap (λ was. cond was (Some c.remove-removed.result.value) None) (sym c.if-removed.false) ∙ value-held g.V.Words.WORDS c.self.inside.limit c.args.key _ _ c.remove-removed.result c.law.ensures c.remove-removed.ensures)
+    rw (← c.self.view_is) (ap (λ was. cond was (Some c.remove-removed.result.value) None) (sym c.if-removed.false) ∙
+    value-held g.V.Words.WORDS c.self.inside.limit c.args.key _ _ c.remove-removed.result c.law.ensures c.remove-removed.ensures)
 
 pub returns-then-removed-clause-removed : goal.returns-then-removed-clause-removed
 returns-then-removed-clause-removed g c =
     rw (← c.self.view_is)
-    (ap (λ (map : FinMap word_order ℕ). record { limit = c.self.inside.limit; map = map }) (map-removed g.V.Words.WORDS c.self.inside.limit c.args.key _ _ c.remove-removed.result c.law.ensures c.remove-removed.ensures))
+    (ap (λ (map : FinMap word_order ℕ). record { limit = c.self.inside.limit; map = map }) (map-removed g.V.Words.WORDS c.self.inside.limit c.args.key _ _
+    c.remove-removed.result c.law.ensures c.remove-removed.ensures))
 
 pub returns-clause-removed : goal.returns-clause-removed
 returns-clause-removed g c =
     rw (← c.self.view_is)
-    (ap (λ (map : FinMap word_order ℕ). record { limit = c.self.inside.limit; map = map }) (map-removed g.V.Words.WORDS c.self.inside.limit c.args.key _ _ c.remove-removed.result c.law.ensures c.remove-removed.ensures))
+    (ap (λ (map : FinMap word_order ℕ). record { limit = c.self.inside.limit; map = map }) (map-removed g.V.Words.WORDS c.self.inside.limit c.args.key _ _
+    c.remove-removed.result c.law.ensures c.remove-removed.ensures))

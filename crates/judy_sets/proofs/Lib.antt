@@ -1,0 +1,13 @@
+pub mod Finds
+pub mod Merging
+pub mod MapLaws
+pub mod Lengths
+pub mod SliceSteps
+pub mod PageFacts
+pub mod CountFacts
+pub mod RelationFacts
+pub mod FillFacts
+pub mod RangeFacts
+pub mod FromFacts
+pub mod RangePuts
+pub mod Splits

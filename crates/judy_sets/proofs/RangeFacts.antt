@@ -1,0 +1,173 @@
+-- A range of keys that is taken out of a map key by key.
+use Rattle.std.proofs.Common.{◌≡◌, ◌≢◌, ℕ, suc, ◌+◌, ◌-◌, ◌<◌, ◌≤◌, ⊎_elim, not, ◌&&◌, Bool, true, false, cond, [], ◌∷◌, length, map, filter, Option, Some, None, is_some, refl}
+use Rattle.std.proofs.Common.{sym, ap, ◌∙◌, subst, arith, ne_eqb}
+use Rattle.std.specs.Ordering.{eq_by_cmp, is_le, is_ge}
+use Rattle.std.specs.Cmp.{nat_cmp_total, unsigned_tied}
+use Rattle.std.specs.FinMap.{entries, empty, get, contains_key, remove, len, len-entries, get-empty, get-remove, len-remove, len-empty, empty_of_len, nat_cmp-IsAntisymmetric}
+use Rattle.judy_model.specs.Keys.{word_order}
+use Rattle.judy_model.specs.Counts.{count}
+use Rattle.judy_model.specs.Nearest.{IsFirst}
+use Rattle.judy_model.specs.Neighbours.{first}
+use Rattle.judy_model.specs.Ranges.{within, outside}
+use Rattle.judy_model.proofs.lemmas.maps.Tests.{both_true, first_true, second_true}
+use Rattle.judy_model.proofs.lemmas.maps.MapsOfPairs.{count-is}
+use Rattle.judy_model.proofs.lemmas.orders.WordOrder.{is_le_word, is_ge_word, le_word, le_from_word}
+use Rattle.judy_model.proofs.lemmas.queries.NearestLemmas.{first-IsFirst}
+use Rattle.judy_sets.specs.Merges.{Pairs}
+use Rattle.judy_sets.proofs.Finds.{same_or}
+use Rattle.judy_sets.proofs.MapLaws.{Words, same_words, get-part}
+use Rattle.judy_sets.proofs.Lengths.{len-part}
+
+abbrev in_range : ℕ → ℕ → ℕ → Bool
+in_range from to key = is_le (word_order from key) && is_le (word_order key to)
+
+inside : (from to key : ℕ) → from ≤ key → key ≤ to → in_range from to key ≡ true
+inside from to key low high = both_true _ _ (le_word from key low) (le_word key to high)
+
+no_test : (b : Bool) → (b ≡ true → ⊥) → b ≡ false
+no_test true never = absurd (never refl)
+no_test false never = refl
+
+not_inside : (from to key : ℕ) → (from ≤ key → key ≤ to → ⊥) → in_range from to key ≡ false
+not_inside from to key never = no_test (in_range from to key) (λ h. never (le_from_word from key (first_true _ _ h)) (le_from_word key to (second_true _ _ h)))
+
+module _ (from to : ℕ) where
+  pub get-outside : (m : Words) (key : ℕ) → get (outside m from to) key ≡ cond (not (in_range from to key)) (get m key) None
+  unfolding outside
+  get-outside m key = get-part m (λ k. not (in_range from to k)) key
+
+  pub get-within : (m : Words) (key : ℕ) → get (within m from to) key ≡ cond (in_range from to key) (get m key) None
+  unfolding within
+  get-within m key = get-part m (in_range from to) key
+
+  -- ---- a key of the range taken out
+
+  gone : (b e : Bool) (held : Option ℕ) → (e ≡ true → b ≡ true) → cond (not b) (cond e None held) None ≡ cond (not b) held None
+  gone true e held is = refl
+  gone false true held is = absurd (let never = is refl in cc)
+  gone false false held is = refl
+
+  tie : (key at : ℕ) → in_range from to key ≡ true → eq_by_cmp word_order at key ≡ true → in_range from to at ≡ true
+  tie key at is tied = ⊎_elim
+      (λ (same : at ≡ key). ap (in_range from to) same ∙ is)
+      (λ (apart : at ≢ key). absurd (let never = sym tied ∙ unsigned_tied at key ∙ ne_eqb at key apart in cc))
+      (same_or at key)
+
+  pub outside-remove : (m : Words) (key : ℕ) → in_range from to key ≡ true → outside (remove m key) from to ≡ outside m from to
+  outside-remove m key is = same_words _ _ (λ at.
+      get-outside (remove m key) at
+      ∙ ap (λ (o : Option ℕ). cond (not (in_range from to at)) o None) (get-remove nat_cmp_total m key at)
+      ∙ gone (in_range from to at) (eq_by_cmp word_order at key) (get m at) (tie key at is)
+      ∙ sym (get-outside m at))
+
+  swapped : (b e : Bool) (held : Option ℕ) → cond b (cond e None held) None ≡ cond e None (cond b held None)
+  swapped true e held = refl
+  swapped false true held = refl
+  swapped false false held = refl
+
+  within-remove : (m : Words) (key : ℕ) → within (remove m key) from to ≡ remove (within m from to) key
+  within-remove m key = same_words _ _ (λ at.
+      get-within (remove m key) at
+      ∙ ap (λ (o : Option ℕ). cond (in_range from to at) o None) (get-remove nat_cmp_total m key at)
+      ∙ swapped (in_range from to at) (eq_by_cmp word_order at key) (get m at)
+      ∙ sym (get-remove nat_cmp_total (within m from to) key at ∙ ap (cond (eq_by_cmp word_order at key) None) (get-within m at)))
+
+  some_len : (m : Words) (key : ℕ) → contains_key m key ≡ true → 1 ≤ len m
+  some_len m key held = ⊎_elim
+      (λ (none : len m ≡ 0). absurd (let never = sym held ∙ ap is_some (ap (λ (w : Words). get w key) (empty_of_len m none) ∙ get-empty word_order key) in cc))
+      (λ (some : len m ≢ 0). omega (arith, some))
+      (same_or (len m) 0)
+
+  pub within-fewer : (m : Words) (key : ℕ) → contains_key m key ≡ true → in_range from to key ≡ true → len (within (remove m key) from to) + 1 ≡ len (within m from to)
+  within-fewer m key held is =
+      let here : contains_key (within m from to) key ≡ true = ap is_some (get-within m key ∙ ap (λ b. cond b (get m key) None) is) ∙ held in
+      let some = some_len (within m from to) key here in
+      let long = ap len (within-remove m key) ∙ len-remove nat_cmp_total (within m from to) key ∙ ap (λ b. cond b (len (within m from to) - 1) (len (within m from to))) here in
+      omega (arith, some, long)
+
+  pub fewer : (m : Words) (key : ℕ) → contains_key m key ≡ true → len (remove m key) < len m
+  fewer m key held =
+      let some = some_len m key held in
+      let long = len-remove nat_cmp_total m key ∙ ap (λ b. cond b (len m - 1) (len m)) held in
+      omega (arith, some, long)
+
+  -- ---- nothing of the range is left
+
+  kept : (held : Option ℕ) (b : Bool) → (is_some held ≡ true → b ≡ false) → cond (not b) held None ≡ held
+  kept None true none = refl
+  kept None false none = refl
+  kept (Some v) b none = ap (λ t. cond (not t) (Some v) None) (none refl)
+
+  lost : (held : Option ℕ) (b : Bool) → (is_some held ≡ true → b ≡ false) → cond b held None ≡ None
+  lost None true none = refl
+  lost None false none = refl
+  lost (Some v) b none = ap (λ t. cond t (Some v) None) (none refl)
+
+  abbrev pub NoneInside : Words → Type 0
+  NoneInside m = (key : ℕ) → contains_key m key ≡ true → in_range from to key ≡ false
+
+  pub outside-all : (m : Words) → NoneInside m → outside m from to ≡ m
+  outside-all m none = same_words _ _ (λ key. get-outside m key ∙ kept (get m key) (in_range from to key) (none key))
+
+  pub within-none : (m : Words) → NoneInside m → len (within m from to) ≡ 0
+  within-none m none =
+      ap len (same_words (within m from to) empty (λ key. get-within m key ∙ lost (get m key) (in_range from to key) (none key) ∙ sym (get-empty word_order key))) ∙ len-empty word_order ℕ
+
+  -- ---- how many there are
+
+  filter-map : (p : ℕ → Bool) (pairs : Pairs) → length (filter p (map (λ (e : ℕ × ℕ). e.0) pairs)) ≡ length (filter (λ (e : ℕ × ℕ). p e.0) pairs)
+  filter-map p [] = refl
+  filter-map p (pair ∷ pairs) = elim (p pair.0) as (λ b. length (cond b (pair.0 ∷ filter p (map (λ (e : ℕ × ℕ). e.0) pairs)) (filter p (map (λ (e : ℕ × ℕ). e.0) pairs))) ≡
+      length (cond b (pair ∷ filter (λ (e : ℕ × ℕ). p e.0) pairs) (filter (λ (e : ℕ × ℕ). p e.0) pairs))) [
+        | true ↦ ap suc (filter-map p pairs)
+        | false ↦ filter-map p pairs
+      ]
+
+  pub count-within : (m : Words) → count m from to ≡ len (within m from to)
+  unfolding within
+  count-within m = count-is m from to ∙ filter-map (in_range from to) (entries m) ∙ sym (len-part m (in_range from to))
+
+  most : (p : ℕ × ℕ → Bool) (pairs : Pairs) → length (filter p pairs) ≤ length pairs
+  most p [] = omega arith
+  most p (pair ∷ pairs) =
+      let rest = most p pairs in
+      elim (p pair) as (λ b. length (cond b (pair ∷ filter p pairs) (filter p pairs)) ≤ suc (length pairs)) [
+        | true ↦ omega (arith, rest)
+        | false ↦ omega (arith, rest)
+      ]
+
+  pub within-most : (m : Words) → len (within m from to) ≤ len m
+  unfolding within
+  within-most m =
+      let part = len-part m (in_range from to) in
+      let long = len-entries m in
+      let few = most (λ e. in_range from to e.0) (entries m) in
+      omega (arith, part, long, few)
+
+  -- ---- the first key from the lower end on
+
+  is_first : (m : Words) → IsFirst word_order (contains_key m) from (first m from)
+  is_first m = first-IsFirst nat_cmp_total nat_cmp-IsAntisymmetric m from
+
+  at_or_above : (m : Words) (key : ℕ) → contains_key m key ≡ true → from ≤ key → (contains_key m key && is_ge (word_order key from)) ≡ true
+  at_or_above m key held low = both_true _ _ held (is_ge_word key from ∙ sym (is_le_word from key) ∙ le_word from key low)
+
+  pub none_first : (m : Words) → None ≡ first m from → NoneInside m
+  none_first m is = λ key held. not_inside from to key (λ low high.
+      let none = subst (IsFirst word_order (contains_key m) from) (sym is) (is_first m) key in
+      let some = at_or_above m key held low in
+      cc)
+
+  pub past_first : (m : Words) (least : ℕ) → Some least ≡ first m from → to < least → NoneInside m
+  past_first m least is past = λ key held. not_inside from to key (λ low high.
+      let by = subst (IsFirst word_order (contains_key m) from) (sym is) (is_first m) in
+      let above = le_from_word least key (by.1 key (at_or_above m key held low)) in
+      omega (arith, above, high, past))
+
+  pub first_held : (m : Words) (least : ℕ) → Some least ≡ first m from → contains_key m least ≡ true
+  first_held m least is = first_true _ _ (subst (IsFirst word_order (contains_key m) from) (sym is) (is_first m)).0
+
+  pub first_inside : (m : Words) (least : ℕ) → Some least ≡ first m from → least ≤ to → in_range from to least ≡ true
+  first_inside m least is high =
+      let ge = second_true (contains_key m least) (is_ge (word_order least from)) (subst (IsFirst word_order (contains_key m) from) (sym is) (is_first m)).0 in
+      inside from to least (le_from_word from least (is_le_word from least ∙ sym (is_ge_word least from) ∙ ge)) high

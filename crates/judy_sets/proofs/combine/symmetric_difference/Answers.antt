@@ -1,0 +1,9 @@
+use Rattle.std.proofs.Common.{ℕ, subst}
+use Rattle.std.specs.FinMap.{FinMap}
+use Rattle.judy_model.specs.Keys.{word_order}
+use Rattle.judy_sets.specs.Fills.{IsMade}
+use Rattle.judy_sets.proofs.MapLaws.{kept-symmetric}
+use Rattle.judy_sets.proofs.combine.symmetric_difference.Goals as goal
+
+pub returns : goal.returns
+returns g c = subst (λ (map : FinMap word_order ℕ). IsMade c.args.limit map c.combined.result) (kept-symmetric c.args.one.now.map c.args.other.now.map) c.combined.ensures

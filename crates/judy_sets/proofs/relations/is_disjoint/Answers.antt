@@ -1,0 +1,5 @@
+use Rattle.judy_sets.proofs.RelationFacts.{disjoint_is}
+use Rattle.judy_sets.proofs.relations.is_disjoint.Goals as goal
+
+pub returns : goal.returns
+returns g c = disjoint_is c.args.one.now.map c.args.other.now.map c.keeps_some.result c.keeps_some.ensures

@@ -1,0 +1,4 @@
+pub mod Merges
+pub mod Pages
+pub mod Results
+pub mod Fills

@@ -1,0 +1,128 @@
+//! Ranges of keys: copied, taken out, and split off.
+
+ghost use Rattle.std.specs.Prelude.{◌≡◌, ◌≤◌, false, IfOk, OnOk, OnErr};
+ghost use Rattle.judy_model.specs.Arrays as arrays;
+ghost use Rattle.judy_model.specs.Counts as counts;
+ghost use Rattle.judy_model.specs.Ranges as ranges;
+ghost use Rattle.judy_word.specs.WordArrays.{array_of};
+ghost use Rattle.judy_sets.specs.Fills.{IsMade};
+
+use crate::range_puts::{keys_law, part_filled, rest_filled};
+use judy_leaf::Words;
+use judy_word::{InsertError, WordArray};
+use std::alloc::{AllocError, Global};
+
+/// The array with a limit, at least 1, of the keys from one word to another, both included, with their values: none
+/// where the first is above the second.
+///
+/// `Full` where they are more than the limit, which is told before memory is asked for; `NoMemory` where there is none.
+/// It takes one way through the range.
+///
+///     let teens = copy_range(alloc, 100, &ages, 13, 19)?;
+pub fn copy_range<V: Words + Drop>(
+    alloc: Global,
+    limit: u64,
+    array: &WordArray<V>,
+    from: u64,
+    to: u64,
+) -> Result<WordArray<V>, InsertError>
+    requires one { V.WORDS ≤ 1 }
+    requires some { 1 ≤ limit }
+    ensures { IsMade limit (ranges.within array.now.map from to) result }
+{
+    let filling = part_filled(alloc, limit, array, from, to)?;
+    match filling.into_array() {
+        Ok(part) => Ok(part),
+        Err(_) => Err(InsertError::NoMemory),
+    }
+}
+
+/// Takes the keys from one word to another out, both included, and answers how many they were: none where the first is
+/// above the second.
+/// It can't fail. Where more keys go than stay, the others are put into new nodes, if there is memory; else the array
+/// may become loose, as by so many deletes.
+pub fn remove_range<V: Words + Drop>(
+    alloc: Global,
+    array: &mut WordArray<V>,
+    from: u64,
+    to: u64,
+) -> u64
+    requires { V.WORDS ≤ 1 }
+    ensures count { result ≡ counts.count array.old.map from to }
+    ensures left { array_of array.new
+        ≡ arrays.with_map (array_of array.old) (ranges.outside array.old.map from to) }
+{
+    let count = array.count(from, to);
+    if from <= to && array.len() <= count.saturating_mul(2) {
+        if let Ok(rest) = without_range(alloc, array, from, to) {
+            *array = rest;
+            return count;
+        }
+    }
+    remove_keys(array, from, to)
+}
+
+// The array of all keys but those from one word to another. The error is want of memory.
+fn without_range<V: Words + Drop>(
+    alloc: Global,
+    array: &WordArray<V>,
+    from: u64,
+    to: u64,
+) -> Result<WordArray<V>, InsertError>
+    requires one { V.WORDS ≤ 1 }
+    requires order { from ≤ to }
+    ensures { IfOk result (λ rest. array_of rest
+        ≡ arrays.with_map (array_of array.now) (ranges.outside array.now.map from to)) }
+{
+    let filling = rest_filled(alloc, array, from, to)?;
+    filling.into_array()
+}
+
+// Takes them out one by one.
+fn remove_keys<V: Words + Drop>(array: &mut WordArray<V>, from: u64, to: u64) -> u64
+    requires { V.WORDS ≤ 1 }
+    ensures count { result ≡ counts.count array.old.map from to }
+    ensures left { array_of array.new
+        ≡ arrays.with_map (array_of array.old) (ranges.outside array.old.map from to) }
+{
+    let _most = array.len();
+    let mut count = 0;
+    'keys: loop {
+        let Some(key) = array.first(from) else {
+            return count;
+        };
+        if key > to {
+            return count;
+        }
+        array.delete(key);
+        count += 1;
+    }
+}
+
+/// Moves the keys at or above a word into an array of their own, with the same limit, each of whose nodes is as small
+/// as its keys allow. Those below it stay.
+///
+/// The error is want of memory; the array is as it was then.
+///
+///     let late = split_off(alloc, &mut times, noon)?;
+pub fn split_off<V: Words + Drop>(
+    alloc: Global,
+    array: &mut WordArray<V>,
+    at: u64,
+) -> Result<WordArray<V>, AllocError>
+    requires { V.WORDS ≤ 1 }
+    ensures made { IfOk result (λ made. array_of made
+        ≡ arrays.with_map (array_of array.old) (ranges.from_on array.old.map at)) }
+    ensures tight { IfOk result (λ made. made.loose ≡ false) }
+    ensures left { OnOk result (array_of array.new
+        ≡ arrays.with_map (array_of array.old) (ranges.below array.old.map at)) }
+    ensures unchanged { OnErr result (array.new ≡ array.old) }
+{
+    keys_law(array);
+    let limit = array.limit();
+    let Ok(made) = copy_range(alloc, limit, array, at, u64::MAX) else {
+        return Err(AllocError);
+    };
+    remove_range(alloc, array, at, u64::MAX);
+    Ok(made)
+}
