@@ -1,10 +1,10 @@
--- That a source over a slice keeps to what a source keeps to, and one that reads ahead from another too.
-use Rattle.std.specs.Prelude.{◌≡◌, ℕ, ◌-◌, ◌<◌, ◌≤◌, Bool, true, false, List, ◌++◌, length, take, drop, Option, Some, None, IfSome, refl}
-use Rattle.std.proofs.Common.{sym, ap, ◌∙◌, append_assoc, arith}
+-- That the pipes of this crate keep to the laws of their traits.
+use Rattle.std.specs.Prelude.{◌≡◌, ℕ, ◌-◌, ◌<◌, ◌≤◌, Bool, true, false, List, [], ◌++◌, length, take, drop, Option, Some, None, IfSome, refl}
+use Rattle.std.proofs.Common.{sym, ap, ◌∙◌, append-nil, append_assoc, arith}
 use Rattle.std.proofs.Math.Seq.{take-length}
 use Rattle.std.proofs.lemmas.List.{take-append-drop}
 use Rattle.judy_pipe.specs.declared.tally.Tally.{Tally}
-use Rattle.judy_pipe.specs.Pipe.{told, without, IsFront, GivesContent, NeverFails}
+use Rattle.judy_pipe.specs.Pipe.{grown, told, without, IsFront, IsEnd, GivesContent, NeverFails}
 
 -- what a source over a slice gave is a front of it, and all of it once the end came
 pub slice_in_order : (bytes : List ℕ) (given : ℕ) (ended : Bool) → (ended ≡ true → given ≡ length bytes) →
@@ -47,3 +47,13 @@ ahead_in_order (Some whole) given ended next end ordered going inner = record {
 pub none_failed_ahead : (sure : Bool) (tally : Tally) → NeverFails sure tally → NeverFails sure (record { failures = tally.failures; interruptions = 0 })
 none_failed_ahead true tally none = none
 none_failed_ahead false tally none = tt
+
+-- a sink that keeps nothing keeps the end of what it took
+pub none_kept : (known : Option (List ℕ)) → IfSome known (IsEnd [])
+none_kept None = tt
+none_kept (Some bytes) = (bytes, sym (append-nil bytes))
+
+-- Of a sink below that keeps the end of what it took: with what stands in a buffer behind both, it is the end too.
+pub kept_behind : (below : Option (List ℕ)) (kept buffered : List ℕ) → IfSome below (IsEnd kept) → IfSome (grown below buffered) (IsEnd (kept ++ buffered))
+kept_behind None kept buffered last = tt
+kept_behind (Some bytes) kept buffered last = (last.0, ap (λ all. all ++ buffered) last.1 ∙ append_assoc last.0 kept buffered)

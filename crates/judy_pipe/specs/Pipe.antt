@@ -36,6 +36,16 @@ IsAhead most given inner = (kept : List ℕ) × (length kept ≤ most) × (inner
 abbrev pub IsFront : List ℕ → List ℕ → Type 0
 IsFront front whole = (rest : List ℕ) × (whole ≡ front ++ rest)
 
+-- `whole` ends with `end`
+abbrev pub IsEnd : List ℕ → List ℕ → Type 0
+IsEnd end whole = (front : List ℕ) × (whole ≡ front ++ end)
+
+-- a sink with a buffer took what the sink below took and then what stands in the buffer, and that is what it keeps behind
+-- what the sink below keeps
+abbrev pub IsBuffered : Option (List ℕ) → List ℕ → Option (List ℕ) → List ℕ → Type 0
+IsBuffered taken kept below kept_below =
+    (buffered : List ℕ) × (taken ≡ grown below buffered) × (kept ≡ kept_below ++ buffered)
+
 -- of a source whose bytes are `whole`: it gave a front of them, and all of them once it gave the end
 pub record GivesInOrder (whole : List ℕ) (given : Option (List ℕ)) (ended : Option Bool) : Type 0 where
   pub front : IfSome given (λ bytes. IsFront bytes whole)

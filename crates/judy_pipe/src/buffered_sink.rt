@@ -1,13 +1,14 @@
 //! A sink that keeps bytes back and hands them on in large pieces.
 
-ghost use Rattle.std.specs.Prelude.{◌≡◌, ◌+◌, ◌-◌, ◌<◌, ◌≤◌, ◌^◌, [], take, drop, length, is_ok, if◌then◌else◌, IfOk, IfErr, OnOk};
+ghost use Rattle.std.specs.Prelude.{◌≡◌, ◌+◌, ◌-◌, ◌<◌, ◌≤◌, ◌^◌, [], ◌++◌, take, drop, length, is_ok, if◌then◌else◌, IfOk, IfErr, OnOk};
 ghost use Rattle.judy_pipe.specs.declared.stop.Stop.TheVariants.{Failed};
-ghost use Rattle.judy_pipe.specs.Pipe.{grown, moved};
+ghost use Rattle.judy_pipe.specs.Pipe.{grown, moved, IsBuffered};
 
 use crate::sink::{SHORT_LEN, Sink, write_on};
 use crate::stop::{PipeFailed, Stop};
 
-/// Keeps up to `N` bytes, and hands them on to another sink where a write finds it full and at each `flush`.
+/// Keeps up to `N` bytes, and hands them on to another sink where a write finds it full and at each `flush`,
+/// which flushes that sink too.
 ///
 /// Its bytes so far are those that the other sink took and then those that it keeps, and its failures are
 /// that sink's. What couldn't be handed on it keeps, in order, for the next try; where it is dropped
@@ -25,11 +26,11 @@ pub struct BufferedSink<W: Sink + Drop, const N: usize> {
 }
 
 impl<W: Sink + Drop, const N: usize> BufferedSink<W, N> {
-    /// The sink that keeps nothing yet, over `inner`. `N` is at least 1.
+    /// The sink that keeps nothing of its own yet, over `inner`. `N` is at least 1.
     pub fn new(inner: W) -> Self
         requires { 0 < N }
         ensures taken { ⟦<BufferedSink<W, N> as Sink>⟧.taken result ≡ grown (W.taken inner) [] }
-        ensures kept { ⟦<BufferedSink<W, N> as Sink>⟧.kept result ≡ [] }
+        ensures kept { ⟦<BufferedSink<W, N> as Sink>⟧.kept result ≡ W.kept inner }
         ensures failures { (⟦<BufferedSink<W, N> as Sink>⟧.tally result).failures
             ≡ (W.tally inner).failures }
     {
@@ -43,7 +44,9 @@ impl<W: Sink + Drop, const N: usize> BufferedSink<W, N> {
 
     /// The sink that it writes to. What is still kept is let go.
     pub fn into_inner(self) -> W
-        ensures { result ≡ self.inner }
+        ensures inner { result ≡ self.inner }
+        ensures buffered { IsBuffered (⟦<BufferedSink<W, N> as Sink>⟧.taken self)
+            (⟦<BufferedSink<W, N> as Sink>⟧.kept self) (W.taken result) (W.kept result) }
     {
         self.inner
     }
@@ -84,12 +87,16 @@ impl<W: Sink + Drop, const N: usize> BufferedSink<W, N> {
 
 impl<W: Sink + Drop, const N: usize> Sink for BufferedSink<W, N> {
     ghost use Rattle.judy_pipe.specs.declared.tally.Tally.{Tally};
+    ghost use Rattle.judy_pipe.specs.Content.{kept_behind};
 
     ghost taken = { λ s. grown (W.taken s.inner) (take (s.end - s.sent) (drop s.sent s.buffer)) };
 
-    ghost kept = { λ s. take (s.end - s.sent) (drop s.sent s.buffer) };
+    ghost kept = { λ s. W.kept s.inner ++ take (s.end - s.sent) (drop s.sent s.buffer) };
 
     ghost tally = { λ s. record { failures = (W.tally s.inner).failures; interruptions = 0 } };
+
+    ghost keeps_last = { λ s. kept_behind (W.taken s.inner) (W.kept s.inner)
+        (take (s.end - s.sent) (drop s.sent s.buffer)) (W.keeps_last s.inner) };
 
     // Interruptions are tried again while it hands on, and counted there.
     fn write(&mut self, piece: &[u8]) -> Result<usize, Stop> {
@@ -117,7 +124,8 @@ impl<W: Sink + Drop, const N: usize> Sink for BufferedSink<W, N> {
     }
 
     fn flush(&mut self) -> Result<(), PipeFailed> {
-        self.send()
+        self.send()?;
+        self.inner.flush()
     }
 
     fn failures(&self) -> u64 {

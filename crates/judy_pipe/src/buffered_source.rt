@@ -54,8 +54,8 @@ impl<R: Source + Drop, const N: usize> BufferedSource<R, N> {
         self.inner
     }
 
-    // Asks for the next piece, of up to `most` bytes, where none is kept. It stands apart from the way of most reads, which are given what
-    // is kept and are compiled into their caller, who knows how many bytes it wants.
+    // Asks for the next piece, of up to `most` bytes, where none is kept. It stands apart from the way of most reads,
+    // which are given what is kept and are compiled into their caller, who knows how many bytes it wants.
     #[inline(never)]
     fn refill(&mut self, most: usize) -> Result<(), PipeFailed>
         requires within { most ≤ N }
@@ -99,7 +99,8 @@ impl<R: Source + Drop, const N: usize> BufferedSource<R, N> {
         kept
     }
 
-    // Fills a room from what is kept, which is as much or more. Where the caller knows how long its room is, so does the copy.
+    // Fills a room from what is kept, which is as much or more. Where the caller knows how long its room is, so does
+    // the copy.
     #[inline(always)]
     fn fill(&mut self, room: &mut [u8])
         requires { length room.old ≤ self.old.end - self.old.next }

@@ -125,10 +125,13 @@ impl<const N: usize> MemSink<N> {
 
 impl<const N: usize> Sink for MemSink<N> {
     ghost use Rattle.judy_pipe.specs.MemSink.{taken_bytes, sink_tally, sink_most, sink_trouble, sink_answer};
+    ghost use Rattle.judy_pipe.specs.Content.{none_kept};
 
     ghost taken = { λ s. Some (taken_bytes s) };
 
     ghost tally = { λ s. sink_tally s };
+
+    ghost keeps_last = { λ s. none_kept (Some (taken_bytes s)) };
 
     fn write(&mut self, piece: &[u8]) -> Result<usize, Stop>
         requires { (sink_tally self.old).failures < 2 ^ 64 - 1 }

@@ -1,7 +1,7 @@
 //! What takes bytes, and how a whole piece is written.
 
-ghost use Rattle.std.specs.Prelude.{◌≡◌, ℕ, ◌+◌, ◌-◌, ◌<◌, ◌≤◌, ◌^◌, List, [], Option, length, take, drop, is_ok, if◌then◌else◌, IfOk, OnOk, OnErr};
-ghost use Rattle.judy_pipe.specs.Pipe.{grown, moved, GrewByFront};
+ghost use Rattle.std.specs.Prelude.{◌≡◌, ℕ, ◌+◌, ◌-◌, ◌<◌, ◌≤◌, ◌^◌, List, [], Option, length, take, drop, is_ok, if◌then◌else◌, IfOk, IfSome, OnOk, OnErr};
+ghost use Rattle.judy_pipe.specs.Pipe.{grown, moved, GrewByFront, IsEnd};
 ghost use Rattle.judy_pipe.specs.declared.sink.TheConstants.{SHORT_LEN};
 ghost use Rattle.judy_pipe.specs.Tally.{after_write};
 
@@ -17,7 +17,7 @@ pub trait Sink {
     // The bytes that it took so far, in order; `None` where it tells nothing of them.
     ghost taken: { Self → Option (List ℕ) };
 
-    // The last of these, which it keeps in a buffer of its own; none where it tells nothing of them.
+    // The last of these, which are still in a buffer, its own or that of a sink below; none where it tells of none.
     ghost kept: { Self → List ℕ } = { λ _. [] };
 
     // Its failures and its interruptions in a row.
@@ -45,9 +45,9 @@ pub trait Sink {
         false
     }
 
-    /// Hands on what it keeps in a buffer of its own, where it has one: its bytes are then with whom it
-    /// writes to. It takes no byte by that. At the one error, `PipeFailed`, it couldn't hand on all of
-    /// them and has exactly one failure more.
+    /// Hands on what it keeps in a buffer of its own, where it has one, and flushes what it writes to: none
+    /// keeps any of its bytes then. It takes no byte by that. At the one error, `PipeFailed`, not all of
+    /// them were handed on, and it has exactly one failure more.
     fn flush(&mut self) -> Result<(), PipeFailed>
         requires { (tally self.old).failures < 2 ^ 64 - 1 }
         ensures taken { taken self.new ≡ taken self.old }
@@ -58,6 +58,9 @@ pub trait Sink {
     /// The number of its failures so far.
     fn failures(&self) -> u64
         ensures { result ≡ (tally self.now).failures };
+
+    // What it keeps is the end of what it took.
+    ghost keeps_last: { (s : Self) → IfSome (taken s) (IsEnd (kept s)) };
 }
 
 /// Writes all of `bytes`, trying an interrupted write again until the sink's failures rise.

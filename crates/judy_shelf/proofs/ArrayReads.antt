@@ -13,7 +13,8 @@ use Rattle.judy_model.proofs.lemmas.dumps.DumpLemmas.{dump_back}
 use Rattle.judy_model.proofs.lemmas.dumps.FieldLemmas.{followed_ok, done_ok}
 use Rattle.judy_pipe.specs.Pipe.{grown}
 use Rattle.judy_pipe.proofs.Moves.{grown-grown}
-use Rattle.judy_shelf.specs.Reads.{Drawn, Cause, reader, memory, cut, told, OfFronts, IsWholeOrCut, Stops, ReadsValue, ReadsFault, EndFault, LoadsFault, AtSome, InBody, InArray, InArrays, InCounted, InStore, counted, up_to_end, LoadsWhole, Loaded, cause_of}
+use Rattle.judy_shelf.specs.Reads.{Drawn, Cause, reader, memory, cut, told, OfFronts, IsWholeOrCut, Stops, ReadsValue, ReadsFault, EndFault, LoadsFault, AtSome, InBody, InArray}
+use Rattle.judy_shelf.specs.Reads.{InArrays, InCounted, InStore, counted, up_to_end, LoadsWhole, Loaded, cause_of}
 use Rattle.std.specs.Result.{IsErrAnd}
 use Rattle.judy_shelf.specs.declared.fault.LoadFault.{LoadFault}
 use Rattle.judy_shelf.specs.Shelves.{Entries}
@@ -34,7 +35,8 @@ array_ends version made input read is =
     let contents : Contents count.0.1 = (count.0.0, omega arith, subst (λ r. Behind r (λ _ rest. rest ≡ [])) (sym count.2) ends) in
     let counted = subst (λ r. Behind r (λ count. AtSome (grammar.contents version kind.0.0 limit.0.0) count)) (sym count.1) contents in
     let limited = subst (λ r. Behind r (λ limit. Begins (grammar.key_count limit) (λ count. AtSome (grammar.contents version kind.0.0 limit) count))) (sym limit.1) counted in
-    let inside : InBody version name.0.1 = subst (λ r. Behind r (λ kind. Begins grammar.limit (λ limit. Begins (grammar.key_count limit) (λ count. AtSome (grammar.contents version kind limit) count)))) (sym kind.1) limited in
+    let inside : InBody version name.0.1 = subst (λ r. Behind r (λ kind. Begins grammar.limit (λ limit. Begins (grammar.key_count limit)
+    (λ count. AtSome (grammar.contents version kind limit) count)))) (sym kind.1) limited in
     subst (λ r. Behind r (λ name. InBody version)) (sym name.1) inside
 
 -- So many arrays were read, which are these, however many are said.
@@ -58,7 +60,14 @@ arrays_none version now = record {
 
 module _ (version : Version) (earlier : ℕ) (made : Store) (before mid : Drawn) (far : ArraysRead version earlier made before mid) where
   abbrev far_reading : (left total : ℕ) → earlier + left ≡ total → Reading (grammar.arrays version [] total) (grammar.arrays version made left) before mid
-  far_reading left total is = record { input = far.input; given = far.given; bytes = far.bytes; failures = far.failures; goes = far.goes left total is; cut_before = far.cut_before total (omega (arith, is)) }
+  far_reading left total is = record {
+    input = far.input;
+    given = far.given;
+    bytes = far.bytes;
+    failures = far.failures;
+    goes = far.goes left total is;
+    cut_before = far.cut_before total (omega (arith, is));
+  }
 
   far_begins : (input : List ℕ) → InArray version made input → Begins (grammar.arrays version [] earlier) (InArray version) (far.input ++ input)
   far_begins input inside =
@@ -71,7 +80,8 @@ module _ (version : Version) (earlier : ℕ) (made : Store) (before mid : Drawn)
       reading_end (grammar.arrays version [] earlier) made before mid (far_reading 0 earlier all)
 
   module _ (after : Drawn) where
-    pub arrays_next : (name : List ℕ) (held : ArrayValue) → ReadsValue (grammar.array version made) (name, held) mid after → ArraysRead version (earlier + 1) (with_new_array made name held) before after
+    pub arrays_next : (name : List ℕ) (held : ArrayValue) → ReadsValue (grammar.array version made) (name, held) mid after →
+        ArraysRead version (earlier + 1) (with_new_array made name held) before after
     arrays_next name held next = record {
       input = far.input ++ next.input;
       given = next.given ∙ ap (λ known. grown known next.input) far.given ∙ grown-grown before.given far.input next.input;
@@ -88,15 +98,19 @@ module _ (version : Version) (earlier : ℕ) (made : Store) (before mid : Drawn)
           far.goes (suc left) total one front ∙ ap (λ r. followed_by r (λ next. grammar.arrays version (with_new_array made next.0 next.1) left)) (next.cut_before front later byte is));
     }
 
-    pub arrays_fault : (total : ℕ) → earlier < total → (cause : Cause) → ReadsFault (InArray version made) (grammar.array version made) cause mid after → ReadsFault (InArrays version total) (grammar.arrays version [] total) cause before after
+    pub arrays_fault : (total : ℕ) → earlier < total → (cause : Cause) → ReadsFault (InArray version made) (grammar.array version made) cause mid after →
+        ReadsFault (InArrays version total) (grammar.arrays version [] total) cause before after
     arrays_fault total some cause next =
         let n = total - (earlier + 1) in
         let all : earlier + suc n ≡ total = omega (arith, some) in
-        reading_fault (grammar.arrays version [] total) (grammar.arrays version made (suc n)) before mid after (far_reading (suc n) total all) (InArray version made) (InArrays version total) (λ input inside. (earlier, some, far_begins input inside)) cause
-        (fault_within (grammar.array version made) (λ next. grammar.arrays version (with_new_array made next.0 next.1) n) (InArray version made) (InArray version made) (λ input inside. inside) cause mid after next)
+        reading_fault (grammar.arrays version [] total) (grammar.arrays version made (suc n)) before mid after (far_reading (suc n) total all) (InArray version made)
+        (InArrays version total) (λ input inside. (earlier, some, far_begins input inside)) cause
+        (fault_within (grammar.array version made) (λ next. grammar.arrays version (with_new_array made next.0 next.1) n) (InArray version made) (InArray version made)
+        (λ input inside. inside) cause mid after next)
 
     -- Want of memory for one more array, which was read.
-    pub arrays_memory : (total : ℕ) → earlier < total → (name : List ℕ) (held : ArrayValue) → ReadsValue (grammar.array version made) (name, held) mid after → ReadsFault (InArrays version total) (grammar.arrays version [] total) memory before after
+    pub arrays_memory : (total : ℕ) → earlier < total → (name : List ℕ) (held : ArrayValue) → ReadsValue (grammar.array version made) (name, held) mid after →
+        ReadsFault (InArrays version total) (grammar.arrays version [] total) memory before after
     arrays_memory total some name held next =
         let is = ap (grammar.array version made) (sym (append-nil next.input)) ∙ next.gives [] in
         arrays_fault total some memory (record { input = next.input; given = next.given; bytes = next.bytes; stops = (next.failures, array_ends version made next.input (name, held) is) })
@@ -114,7 +128,8 @@ abbrev ended_with : Version → Store → Parser (Version × Store)
 ended_with version made = end >>= λ _. done (version, made)
 
 -- The end is asked for behind the arrays, which stand behind their number.
-counted_parts : (version : Version) (read : Result (ℕ × List ℕ) Flaw) → followed_by read (λ count. grammar.arrays version [] count >>= ended_with version) ≡ followed_by (followed_by read (grammar.arrays version [])) (ended_with version)
+counted_parts : (version : Version) (read : Result (ℕ × List ℕ) Flaw) → followed_by read (λ count. grammar.arrays version [] count >>= ended_with version) ≡
+    followed_by (followed_by read (grammar.arrays version [])) (ended_with version)
 counted_parts version (Ok given) = refl
 counted_parts version (Err fault) = refl
 
@@ -122,7 +137,8 @@ told_parts : (version : Version) (read : Result (Store × List ℕ) Flaw) → fo
 told_parts version (Ok given) = refl
 told_parts version (Err fault) = refl
 
-begun_parts : (read : Result (Version × List ℕ) Flaw) → followed_by read (λ version. grammar.array_count >>= λ count. grammar.arrays version [] count >>= ended_with version) ≡ followed_by (followed_by read (λ version. counted version >>= paired version)) at_last
+begun_parts : (read : Result (Version × List ℕ) Flaw) → followed_by read (λ version. grammar.array_count >>= λ count. grammar.arrays version [] count >>= ended_with version) ≡
+    followed_by (followed_by read (λ version. counted version >>= paired version)) at_last
 begun_parts (Ok given) = counted_parts given.0 (grammar.array_count given.1) ∙ told_parts given.0 (counted given.0 given.1)
 begun_parts (Err fault) = refl
 
@@ -144,7 +160,7 @@ abbrev up_to_entry_of : Version → ℕ → ℕ → ℕ → Parser (ℕ × ℕ)
 up_to_entry_of version earlier listed arrays = grammar.arrays version [] earlier >>= λ made. grammar.name made >>= λ _. rest_of version listed arrays
 
 -- The places told part by part are those of the definition.
-ends_at_entry : (dump : List ℕ) → InStore dump → EndsAtEntry dump
+pub ends_at_entry : (dump : List ℕ) → InStore dump → EndsAtEntry dump
 ends_at_entry dump inside =
     let magic = begun (grammar.begins dump) InCounted inside in
     let version = magic.0.0 in
@@ -178,7 +194,9 @@ module _ (before after : Drawn) where
     input = read.input;
     given = read.given;
     bytes = read.bytes;
-    stops = stops_too EndsAtEntry EndsAtEntry (λ front. (up_to_end >>= at_last) front ≡ Err truncated) (λ front. IsWholeOrCut (grammar.store front)) (up_to_end >>= at_last) grammar.store read.input before after
+    stops =
+        stops_too EndsAtEntry EndsAtEntry (λ front. (up_to_end >>= at_last) front ≡ Err truncated) (λ front. IsWholeOrCut (grammar.store front))
+        (up_to_end >>= at_last) grammar.store read.input before after
         (λ input fault is. store_parts input ∙ is) (λ ends. ends) cut_whole cause read.stops;
   }
 
@@ -190,7 +208,8 @@ module _ (version : Version) (before one two : Drawn) (first : ReadsValue gramma
   -- What stops the reading behind the name of the format.
   pub stopped_inside : (cause : Cause) → ReadsFault (InCounted version) (counted version) cause one two → ReadsFault InStore up_to_end cause before two
   stopped_inside cause read =
-      fault_behind grammar.begins (λ version. counted version >>= λ made. done (version, made)) version before one first (InCounted version) InStore (begins_then grammar.begins version before one first InCounted) cause two
+      fault_behind grammar.begins (λ version. counted version >>= λ made. done (version, made)) version before one first (InCounted version) InStore
+      (begins_then grammar.begins version before one first InCounted) cause two
       (fault_within (counted version) (λ made. done (version, made)) (InCounted version) (InCounted version) (λ input inside. inside) cause one two read)
 
 module _ (version : Version) (store : Store) (before one two : Drawn) (first : ReadsValue grammar.begins version before one) where
@@ -204,9 +223,20 @@ module _ (version : Version) (store : Store) (before mid after : Drawn) (first :
   -- Behind the arrays come no bytes.
   pub loads_whole : after.given ≡ mid.given → after.failures ≡ mid.failures → IfSome after.ended (λ ended. ended ≡ true) → LoadsWhole store before after
   loads_whole given failures ended =
-      let is : IsDump version first.input store = ap value_of (store_parts first.input ∙ ap (up_to_end >>= at_last) (sym (append-nil first.input)) ∙ ap (λ r. followed_by r at_last) (first.gives [])) in
+      let is : IsDump version first.input store = ap value_of (store_parts first.input ∙ ap (up_to_end >>= at_last) (sym (append-nil first.input)) ∙
+      ap (λ r. followed_by r at_last) (first.gives [])) in
       let known = dump_back version first.input store first.bytes is in
-      record { input = first.input; given = given ∙ first.given; bytes = first.bytes; failures = failures ∙ first.failures; ended = ended; version = version; is_dump = is; is_store = known.1; is_regular = known.2 }
+      record {
+        input = first.input;
+        given = given ∙ first.given;
+        bytes = first.bytes;
+        failures = failures ∙ first.failures;
+        ended = ended;
+        version = version;
+        is_dump = is;
+        is_store = known.1;
+        is_regular = known.2;
+      }
 
   -- Behind the arrays the end is asked for.
   end_behind : (input : List ℕ) → grammar.store (first.input ++ input) ≡ at_last (version, store) input
@@ -219,7 +249,8 @@ module _ (version : Version) (store : Store) (before mid after : Drawn) (first :
   whole_behind : (input : List ℕ) → IsWholeOrCut (end input) → IsWholeOrCut (grammar.store (first.input ++ input))
   whole_behind input is = subst IsWholeOrCut (sym (end_behind input)) (whole_at_end (end input) is)
 
-  end_stops : (input : List ℕ) (cause : Cause) → Stops (λ input. ⊥) (λ front. IsWholeOrCut (end front)) end input mid after cause → Stops EndsAtEntry (λ front. IsWholeOrCut (grammar.store front)) grammar.store (first.input ++ input) before after cause
+  end_stops : (input : List ℕ) (cause : Cause) → Stops (λ input. ⊥) (λ front. IsWholeOrCut (end front)) end input mid after cause →
+      Stops EndsAtEntry (λ front. IsWholeOrCut (grammar.store front)) grammar.store (first.input ++ input) before after cause
   end_stops input reader stops = (stops.0 ∙ ap (λ n. n + 1) first.failures, whole_behind input stops.1)
   end_stops input memory stops = absurd stops.1
   end_stops input cut stops = (stops.0 ∙ first.failures, stops.1, end_behind input ∙ ap (λ r. followed_by r (λ _. paired version store)) stops.2)
@@ -240,6 +271,7 @@ module _ (version : Version) (store : Store) (before mid after : Drawn) (first :
   }
 
 -- What is answered where the load was stopped.
-pub loaded_err : (before after : Drawn) (fault : LoadFault) (result : Result Entries LoadFault) → IsErrAnd result (λ told. told ≡ fault) → LoadsFault (cause_of fault) before after → Loaded before result after
+pub loaded_err : (before after : Drawn) (fault : LoadFault) (result : Result Entries LoadFault) → IsErrAnd result (λ told. told ≡ fault) → LoadsFault (cause_of fault) before after →
+    Loaded before result after
 loaded_err before after fault (Ok entries) is read = absurd is
 loaded_err before after fault (Err other) is read = subst (λ f. LoadsFault (cause_of f) before after) (sym is) read

@@ -1,5 +1,6 @@
 -- Entries that are read one after another into a map.
-use Rattle.std.proofs.Common.{◌≡◌, ℕ, ◌+◌, ◌-◌, ◌<◌, ◌≤◌, suc, arith, true, false, cond, IsTrue, List, [], ◌∷◌, ◌++◌, Option, Some, None, is_some, Result, Ok, Err, refl, sym, ap, subst, ◌∙◌, append_assoc, append-nil, Less, Equal, Greater}
+use Rattle.std.proofs.Common.{◌≡◌, ℕ, ◌+◌, ◌-◌, ◌<◌, ◌≤◌, suc, arith, true, false, cond, IsTrue, List, [], ◌∷◌, ◌++◌, Option, Some, None, is_some, Result, Ok, Err, refl, sym, ap}
+use Rattle.std.proofs.Common.{subst, ◌∙◌, append_assoc, append-nil, Less, Equal, Greater}
 use Rattle.std.specs.declared.cmp.Ordering.{Ordering}
 use Rattle.std.specs.Ordering.{is_lt, is_eq, eq_by_cmp}
 use Rattle.std.specs.Cmp.{IsTotalOrder, nat_cmp_total, tied_itself}
@@ -30,7 +31,8 @@ in_a_row : {A B C : Type 0} (read : Result (A × List ℕ) Flaw) (one : A → Pa
 in_a_row (Ok given) one two = refl
 in_a_row (Err fault) one two = refl
 
-one_more : {A : Type 0} (read : Result (List A × List ℕ) Flaw) (held : List A) (item : A) → followed_by (followed_by read (λ others. done (item ∷ others))) (λ others. done (held ++ others)) ≡ followed_by read (λ others. done ((held ++ item ∷ []) ++ others))
+one_more : {A : Type 0} (read : Result (List A × List ℕ) Flaw) (held : List A) (item : A) → followed_by (followed_by read (λ others. done (item ∷ others)))
+    (λ others. done (held ++ others)) ≡ followed_by read (λ others. done ((held ++ item ∷ []) ++ others))
 one_more (Ok given) held item = ap (λ all. Ok (all, given.1)) (sym (append_assoc held (item ∷ []) given.0))
 one_more (Err fault) held item = refl
 
@@ -79,7 +81,8 @@ module _ {K : Type 0} (order : K → K → Ordering) (key : Option K → Parser 
         (fault_first value (λ held. done (first, held)) cause mid after next)
 
   -- A key that couldn't be read.
-  entry_key_stopped : (last : Option K) (cause : Cause) (before after : Drawn) → ReadsFault Nowhere (field (key last) ((is_above order last, bad_order) ∷ [])) cause before after → ReadsFault Nowhere (entry order key value last) cause before after
+  entry_key_stopped : (last : Option K) (cause : Cause) (before after : Drawn) → ReadsFault Nowhere (field (key last) ((is_above order last, bad_order) ∷ [])) cause before after →
+      ReadsFault Nowhere (entry order key value last) cause before after
   entry_key_stopped last cause before after next = fault_first (field (key last) ((is_above order last, bad_order) ∷ [])) (λ first. value >>= λ held. done (first, held)) cause before after next
 
   module _ {map_order : K → K → Ordering} (kind : ArrayOf map_order → ArrayValue) (limit : ℕ) (before after : Drawn) where
@@ -113,7 +116,14 @@ module _ {K : Type 0} (order : K → K → Ordering) (key : Option K → Parser 
 
   module _ (listed : ℕ) (last : Option K) (held : List (K × ℕ)) (before mid : Drawn) (far : Listing listed last held before mid) where
     abbrev listing_reading : (left total : ℕ) → listed + left ≡ total → Reading (whole order key value total) (to_come order key value total last left held) before mid
-    listing_reading left total is = record { input = far.input; given = far.given; bytes = far.bytes; failures = far.failures; goes = far.goes left total is; cut_before = far.cut_before total (omega (arith, is)) }
+    listing_reading left total is = record {
+      input = far.input;
+      given = far.given;
+      bytes = far.bytes;
+      failures = far.failures;
+      goes = far.goes left total is;
+      cut_before = far.cut_before total (omega (arith, is));
+    }
 
     listing_next : (pair : K × ℕ) (after : Drawn) → ReadsValue (entry order key value last) pair mid after → Listing (listed + 1) (Some pair.0) (held ++ pair ∷ []) before after
     listing_next pair after next = record {
@@ -129,17 +139,20 @@ module _ {K : Type 0} (order : K → K → Ordering) (key : Option K → Parser 
           let left = total - (listed + 1) in
           let one : listed + suc left ≡ total = omega (arith, few) in
           fronts_of_both (λ front. whole order key value total front ≡ Err truncated) far.input next.input (far.cut_before total (omega (arith, few))) (λ front later byte is.
-          far.goes (suc left) total one front ∙ ap (λ r. followed_by (followed_by r (λ first. entries order key value (Some first.0) left >>= λ others. done (first ∷ others))) (λ others. done (held ++ others))) (next.cut_before front later byte is));
+          far.goes (suc left) total one front ∙ ap (λ r. followed_by (followed_by r (λ first. entries order key value (Some first.0) left >>= λ others. done (first ∷ others)))
+          (λ others. done (held ++ others))) (next.cut_before front later byte is));
     }
 
-    listing_fault : (total : ℕ) → listed < total → (cause : Cause) (after : Drawn) → ReadsFault Nowhere (entry order key value last) cause mid after → ReadsFault Nowhere (whole order key value total) cause before after
+    listing_fault : (total : ℕ) → listed < total → (cause : Cause) (after : Drawn) → ReadsFault Nowhere (entry order key value last) cause mid after →
+        ReadsFault Nowhere (whole order key value total) cause before after
     listing_fault total some cause after next =
         let n = total - (listed + 1) in
         let all : listed + suc n ≡ total = omega (arith, some) in
         entries_fault order key value total last (suc n) n refl held before mid after (listing_reading (suc n) total all) cause next
 
     -- One entry more, whose key and value were read.
-    listing_entry : (first : K) (keyed : Drawn) → ReadsValue (field (key last) ((is_above order last, bad_order) ∷ [])) first mid keyed → (word : ℕ) (after : Drawn) → ReadsValue value word keyed after → Listing (listed + 1) (Some first) (held ++ (first, word) ∷ []) before after
+    listing_entry : (first : K) (keyed : Drawn) → ReadsValue (field (key last) ((is_above order last, bad_order) ∷ [])) first mid keyed → (word : ℕ) (after : Drawn) →
+        ReadsValue value word keyed after → Listing (listed + 1) (Some first) (held ++ (first, word) ∷ []) before after
     listing_entry first keyed read word after next = listing_next (first, word) after (entry_read order key value 0 last first mid keyed read word after next)
 
     listed_behind : (more : List ℕ) → whole order key value listed (far.input ++ more) ≡ Ok (held, more)
@@ -155,19 +168,24 @@ module _ {K : Type 0} (order : K → K → Ordering) (key : Option K → Parser 
     listed_end = ap (whole order key value listed) (sym (append-nil far.input)) ∙ listed_behind []
 
     -- The array that holds them and nothing else.
-    listing_filled : {map_order : K → K → Ordering} (kind : ArrayOf map_order → ArrayValue) (limit count : ℕ) (array : ArrayOf map_order) → listed ≡ count → array.limit ≡ limit → array.map ≡ from_entries held → ReadsValue (filled kind limit (whole order key value count)) (kind array) before mid
+    listing_filled : {map_order : K → K → Ordering} (kind : ArrayOf map_order → ArrayValue) (limit count : ℕ) (array : ArrayOf map_order) → listed ≡ count →
+        array.limit ≡ limit → array.map ≡ from_entries held → ReadsValue (filled kind limit (whole order key value count)) (kind array) before mid
     listing_filled kind limit count array all limits maps =
         let same : kind (record { limit = limit; map = from_entries held }) ≡ kind array = sym (λ t. kind (record { limit = limits t; map = maps t })) in
         subst (λ n. ReadsValue (filled kind limit (whole order key value n)) (kind array) before mid) all
         (subst (λ made. ReadsValue (filled kind limit (whole order key value listed)) made before mid) same (filled_value order key value listed kind limit before mid held listing_whole))
 
     -- Want of memory behind the last of them.
-    listing_memory : {map_order : K → K → Ordering} (kind : ArrayOf map_order → ArrayValue) (limit count : ℕ) → listed ≤ count → ReadsFault (AtSome (λ n. filled kind limit (entries order key value None n)) count) (filled kind limit (whole order key value count)) memory before mid
+    listing_memory : {map_order : K → K → Ordering} (kind : ArrayOf map_order → ArrayValue) (limit count : ℕ) → listed ≤ count →
+        ReadsFault (AtSome (λ n. filled kind limit (entries order key value None n)) count) (filled kind limit (whole order key value count)) memory before mid
     listing_memory kind limit count within = record {
       input = far.input;
       given = far.given;
       bytes = far.bytes;
-      stops = (far.failures, (listed, within, subst (λ r. Behind (followed_by r (λ held. done (kind (record { limit = limit; map = from_entries held })))) (λ _ rest. rest ≡ [])) (sym listed_end) refl));
+      stops = (
+        far.failures,
+        (listed, within, subst (λ r. Behind (followed_by r (λ held. done (kind (record { limit = limit; map = from_entries held })))) (λ _ rest. rest ≡ [])) (sym listed_end) refl),
+      );
     }
 
 -- An order in which keys are read, and that of the map into which they are put.
@@ -216,7 +234,8 @@ module _ {K : Type 0} {order map_order : K → K → Ordering} (orders : KeyOrde
     new_more : AreNew (Some key) (held ++ (key, value) ∷ [])
     new_more other later =
         let less = is_Less (order key other) later in
-        find-append map_order orders.map_total held key value other (new key above) ∙ ap (λ b. cond b (Some value) (find map_order other held)) (apart key other less) ∙ new other (above_both last key other above less)
+        find-append map_order orders.map_total held key value other (new key above) ∙ ap (λ b. cond b (Some value) (find map_order other held)) (apart key other less) ∙
+        new other (above_both last key other above less)
 
     made_more : from_entries {R = map_order} (held ++ (key, value) ∷ []) ≡ insert (from_entries held) key value
     made_more = from_entries_push orders.map_total orders.same held key value (new key above)
@@ -225,7 +244,8 @@ module _ {K : Type 0} {order map_order : K → K → Ordering} (orders : KeyOrde
     absent_key = get-from_entries orders.map_total held key ∙ new key above
 
 -- So many entries were read, the last one with this key, and the array holds them.
-pub record Filling {K : Type 0} {order map_order : K → K → Ordering} (orders : KeyOrders order map_order) (key : Option K → Parser K) (value : Parser ℕ) (limit listed : ℕ) (last : Option K) (array : ArrayOf map_order) (before now : Drawn) : Type 0 where
+pub record Filling {K : Type 0} {order map_order : K → K → Ordering} (orders : KeyOrders order map_order) (key : Option K → Parser K) (value : Parser ℕ)
+    (limit listed : ℕ) (last : Option K) (array : ArrayOf map_order) (before now : Drawn) : Type 0 where
   pub held : List (K × ℕ)
   pub limit_is : array.limit ≡ limit
   pub map_is : array.map ≡ from_entries held
@@ -252,12 +272,14 @@ module _ {K : Type 0} {order map_order : K → K → Ordering} {orders : KeyOrde
         entry_stopped : ReadsFault Nowhere (entry order key value last) (cause_of fault) mid after → Filled view result after
         entry_stopped next =
             reads_err view (filled kind limit (entries order key value None count)) before after fault result is
-            (filled_fault order key value count kind limit before after (cause_of fault) (listing_fault order key value listed last far.held before mid far.listing count some (cause_of fault) after next))
+            (filled_fault order key value count kind limit before after (cause_of fault) (listing_fault order key value listed last far.held before mid far.listing count some
+            (cause_of fault) after next))
 
         pub key_stopped : ReadsFault Nowhere (field (key last) ((is_above order last, bad_order) ∷ [])) (cause_of fault) mid after → Filled view result after
         key_stopped next = entry_stopped (entry_key_stopped order key value count last (cause_of fault) mid after next)
 
-        pub value_stopped : (first : K) (keyed : Drawn) → ReadsValue (field (key last) ((is_above order last, bad_order) ∷ [])) first mid keyed → ReadsFault Nowhere value (cause_of fault) keyed after → Filled view result after
+        pub value_stopped : (first : K) (keyed : Drawn) → ReadsValue (field (key last) ((is_above order last, bad_order) ∷ [])) first mid keyed →
+            ReadsFault Nowhere value (cause_of fault) keyed after → Filled view result after
         value_stopped first keyed read next = entry_stopped (entry_value_stopped order key value count last first mid keyed read (cause_of fault) after next)
 
       -- There is no memory to put in what was read.
@@ -266,10 +288,12 @@ module _ {K : Type 0} {order map_order : K → K → Ordering} {orders : KeyOrde
 
       -- All of them were read.
       pub all_filled : listed ≡ count → (made : ArrayOf map_order) → made ≡ array → ReadsValue (filled kind limit (entries order key value None count)) (kind made) before mid
-      all_filled all made is = listing_filled order key value listed last far.held before mid far.listing kind limit count made all (ap (λ a. a.limit) is ∙ far.limit_is) (ap (λ a. a.map) is ∙ far.map_is)
+      all_filled all made is =
+          listing_filled order key value listed last far.held before mid far.listing kind limit count made all (ap (λ a. a.limit) is ∙ far.limit_is) (ap (λ a. a.map) is ∙ far.map_is)
 
     -- One more was read.
-    module _ (first : K) (above : IsTrue (is_above order last first)) (keyed : Drawn) (read : ReadsValue (field (key last) ((is_above order last, bad_order) ∷ [])) first mid keyed) (word : ℕ) (after : Drawn) (next : ReadsValue value word keyed after) where
+    module _ (first : K) (above : IsTrue (is_above order last first)) (keyed : Drawn) (read : ReadsValue (field (key last) ((is_above order last, bad_order) ∷ [])) first mid keyed)
+        (word : ℕ) (after : Drawn) (next : ReadsValue value word keyed after) where
       pub one_filled : (made : ArrayOf map_order) → made.limit ≡ array.limit → made.map ≡ insert array.map first word → Filling orders key value limit (listed + 1) (Some first) made before after
       one_filled made same put = record {
         held = far.held ++ (first, word) ∷ [];
@@ -280,6 +304,8 @@ module _ {K : Type 0} {order map_order : K → K → Ordering} {orders : KeyOrde
       }
 
       -- And there is no memory to put it in.
-      pub one_not_filled : (kind : ArrayOf map_order → ArrayValue) (count : ℕ) → listed < count → ReadsFault (AtSome (λ n. filled kind limit (entries order key value None n)) count) (filled kind limit (entries order key value None count)) memory before after
+      pub one_not_filled : (kind : ArrayOf map_order → ArrayValue) (count : ℕ) → listed < count → ReadsFault (AtSome (λ n. filled kind limit (entries order key value None n)) count)
+          (filled kind limit (entries order key value None count)) memory before after
       one_not_filled kind count some =
-          listing_memory order key value (listed + 1) (Some first) _ before after (listing_entry order key value listed last far.held before mid far.listing first keyed read word after next) kind limit count (omega (arith, some))
+          listing_memory order key value (listed + 1) (Some first) _ before after (listing_entry order key value listed last far.held before mid far.listing first keyed read word after next)
+          kind limit count (omega (arith, some))

@@ -14,4 +14,5 @@ fronts_of_both Holds (x ∷ one) other first second [] later byte is = first [] 
 fronts_of_both Holds (x ∷ one) other first second (y ∷ front) later byte is =
     let head : x ≡ y = cc in
     let tail : one ++ other ≡ front ++ byte ∷ later = cc in
-    subst (λ z. Holds (z ∷ front)) head (fronts_of_both (λ front. Holds (x ∷ front)) one other (λ front later byte is. first (x ∷ front) later byte (ap (λ bytes. x ∷ bytes) is)) second front later byte tail)
+    subst (λ z. Holds (z ∷ front)) head (fronts_of_both (λ front. Holds (x ∷ front)) one other (λ front later byte is. first (x ∷ front) later byte (ap (λ bytes. x ∷ bytes) is))
+    second front later byte tail)

@@ -28,14 +28,19 @@ use Rattle.judy_shelf.proofs.ReadLemmas.{value_passes, value_passes_both, value_
 -- ---- the name of the format
 
 module _ (named : List ℕ) (before after : Drawn) (was : ReadsValue (bytes 4) named before after) where
-  version_told_by : (made : Version) → named ≡ magic (format_of made) → is_magic (magic (format_of made)) ≡ true → version_of (magic (format_of made)) ≡ format_of made → ReadsValue grammar.begins (format_of made) before after
+  version_told_by : (made : Version) → named ≡ magic (format_of made) → is_magic (magic (format_of made)) ≡ true → version_of (magic (format_of made)) ≡ format_of made →
+      ReadsValue grammar.begins (format_of made) before after
   version_told_by made same known names =
       subst (λ version. ReadsValue grammar.begins version before after) (ap version_of same ∙ names)
-      (value_then (field (bytes 4) ((is_magic, bad_magic) ∷ [])) (λ named. done (version_of named)) named before after (value_passes (bytes 4) named before after was is_magic bad_magic (ap is_magic same ∙ known)) (version_of named) after
+      (value_then (field (bytes 4) ((is_magic, bad_magic) ∷ [])) (λ named. done (version_of named)) named before after
+      (value_passes (bytes 4) named before after was is_magic bad_magic (ap is_magic same ∙ known)) (version_of named) after
       (value_done (version_of named) after))
 
-  pub version_told : (found : Option Version) → MatchOption found (IsFalse (is_magic named)) (λ version. named ≡ magic (format_of version)) → Reads format_of grammar.begins before (ok_or found BadMagic) after
-  version_told None unknown = fault_first (field (bytes 4) ((is_magic, bad_magic) ∷ [])) (λ named. done (version_of named)) (told bad_magic) before after (value_fails (bytes 4) named before after was is_magic bad_magic [] unknown)
+  pub version_told : (found : Option Version) → MatchOption found (IsFalse (is_magic named)) (λ version. named ≡ magic (format_of version)) →
+      Reads format_of grammar.begins before (ok_or found BadMagic) after
+  version_told None unknown =
+      fault_first (field (bytes 4) ((is_magic, bad_magic) ∷ [])) (λ named. done (version_of named)) (told bad_magic) before after
+      (value_fails (bytes 4) named before after was is_magic bad_magic [] unknown)
   version_told (Some First) same = version_told_by First same refl refl
   version_told (Some Second) same = version_told_by Second same refl refl
 
@@ -66,7 +71,8 @@ module _ (entries : Entries) (wanted : ℕ) (read name : List ℕ) (before after
       (value_passes_both (bytes wanted) read before after was (list_all is_name_byte) (is_new (store_of entries)) bad_name same_name bytes_pass (ap (is_new (store_of entries)) same ∙ new))
 
   pub name_is_taken : is_new (store_of entries) name ≡ false → ReadsFault Nowhere (field (bytes wanted) (name_checks (store_of entries))) (told same_name) before after
-  name_is_taken taken = value_fails_second (bytes wanted) read before after was (list_all is_name_byte) (is_new (store_of entries)) bad_name same_name bytes_pass (ap (is_new (store_of entries)) same ∙ taken)
+  name_is_taken taken =
+      value_fails_second (bytes wanted) read before after was (list_all is_name_byte) (is_new (store_of entries)) bad_name same_name bytes_pass (ap (is_new (store_of entries)) same ∙ taken)
 
 -- ---- kinds
 

@@ -37,13 +37,15 @@ module _ (before : List ℕ) where
       -- The rest couldn't be read.
       pub suffix_stopped : (cause : Cause) → ReadsFault Nowhere (suffix_field shared rest) cause two three → ReadsFault Nowhere (grammar.string_behind_front before) cause was three
       suffix_stopped cause next =
-          fault_then shared_field behind_shared shared was one first cause three (fault_then (rest_field shared) (behind_rest shared) rest one two second cause three (fault_first (suffix_field shared rest) (made_of shared) cause two three next))
+          fault_then shared_field behind_shared shared was one first cause three (fault_then (rest_field shared) (behind_rest shared) rest one two second cause three
+          (fault_first (suffix_field shared rest) (made_of shared) cause two three next))
 
       -- The front and the rest are the key.
       pub front_and_suffix : (suffix : List ℕ) → ReadsValue (suffix_field shared rest) suffix two three → ReadsValue (grammar.string_behind_front before) (take shared before ++ suffix) was three
       front_and_suffix suffix next =
           let key = take shared before ++ suffix in
-          value_then shared_field behind_shared shared was one first key three (value_then (rest_field shared) (behind_rest shared) rest one two second key three (value_then (suffix_field shared rest) (made_of shared) suffix two three next key three (value_done key three)))
+          value_then shared_field behind_shared shared was one first key three (value_then (rest_field shared) (behind_rest shared) rest one two second key three
+          (value_then (suffix_field shared rest) (made_of shared) suffix two three next key three (value_done key three)))
 
 -- ---- the room of a key
 

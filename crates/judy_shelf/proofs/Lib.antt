@@ -15,3 +15,4 @@ pub mod EntryReads
 pub mod ArrayReads
 pub mod SortedLemmas
 pub mod PlaceLemmas
+pub mod OneReads

@@ -42,9 +42,11 @@ from_be_8 (a ∷ b ∷ c ∷ d ∷ e ∷ f ∷ g ∷ h ∷ i ∷ rest) long = ab
 -- A number whose bytes were read.
 pub number_read : (width : ℕ) (read : List ℕ) (value : ℕ) (before after : Drawn) → ReadsValue (bytes width) read before after → number_of read ≡ value → ReadsValue (number width) value before after
 number_read width read value before after first is =
-    value_then (bytes width) (λ spelled. done (number_of spelled)) read before after first value after (subst (λ n. ReadsValue (done (number_of read)) n after after) is (value_done (number_of read) after))
+    value_then (bytes width) (λ spelled. done (number_of spelled)) read before after first value after
+    (subst (λ n. ReadsValue (done (number_of read)) n after after) is (value_done (number_of read) after))
 
 -- A number whose bytes couldn't be read.
-pub number_stopped : (width : ℕ) (before after : Drawn) (fault : LoadFault) (result : Result ℕ LoadFault) → IsErrAnd result (λ told. told ≡ fault) → ReadsFault Nowhere (bytes width) (cause_of fault) before after → Reads (λ n. n) (number width) before result after
+pub number_stopped : (width : ℕ) (before after : Drawn) (fault : LoadFault) (result : Result ℕ LoadFault) → IsErrAnd result (λ told. told ≡ fault) →
+    ReadsFault Nowhere (bytes width) (cause_of fault) before after → Reads (λ n. n) (number width) before result after
 number_stopped width before after fault result is first =
     reads_err (λ n. n) (number width) before after fault result is (fault_first (bytes width) (λ spelled. done (number_of spelled)) (cause_of fault) before after first)

@@ -1,5 +1,6 @@
 -- The entry at the place of a key.
-use Rattle.std.proofs.Common.{◌≡◌, ℕ, zero, suc, ◌+◌, ◌<◌, ◌≤◌, Bool, true, false, cond, not, List, [], ◌∷◌, length, drop, add-one, Option, Some, None, refl, sym, ap, subst, ◌∙◌, arith, nat_lt, MutBor}
+use Rattle.std.proofs.Common.{◌≡◌, ℕ, zero, suc, ◌+◌, ◌<◌, ◌≤◌, Bool, true, false, cond, not, List, [], ◌∷◌, length, drop, add-one, Option, Some, None, refl, sym, ap, subst, ◌∙◌}
+use Rattle.std.proofs.Common.{arith, nat_lt, MutBor}
 use Rattle.std.specs.Prelude.{bytes_eq, IfSome}
 use Rattle.std.specs.Option.{option_copied_mut}
 use Rattle.std.proofs.lemmas.Option.{slice_get_within}
@@ -52,7 +53,8 @@ module _ {K X : Type 0} (test : K → Bool) where
   pub place_here : (entries : List (K × X)) (place : ℕ) (entry : K × X) → Some entry ≡ slice_get entries place → test entry.0 ≡ true → place_of test (drop place entries) ≡ 0
   place_here entries place entry there passes = rw (at_place entries place entry there, passes) refl
 
-  pub place_behind : (entries : List (K × X)) (place : ℕ) (entry : K × X) → Some entry ≡ slice_get entries place → test entry.0 ≡ false → place_of test (drop place entries) ≡ 1 + place_of test (drop (place + 1) entries)
+  pub place_behind : (entries : List (K × X)) (place : ℕ) (entry : K × X) → Some entry ≡ slice_get entries place → test entry.0 ≡ false →
+      place_of test (drop place entries) ≡ 1 + place_of test (drop (place + 1) entries)
   place_behind entries place entry there fails = rw (at_place entries place entry there, fails, add-one) refl
 
   pub place_past : (entries : List (K × X)) (place : ℕ) → length entries ≤ place → place_of test (drop place entries) ≡ 0
@@ -62,7 +64,8 @@ module _ {K X : Type 0} (test : K → Bool) where
   pub place_none : (entries : List (K × X)) → None ≡ position test (keys_of entries) → length entries ≡ place_of test entries
   place_none entries none =
       let within = place_within entries in
-      elim (nat_lt (place_of test entries) (length (keys_of entries))) as (λ b. nat_lt (place_of test entries) (length (keys_of entries)) ≡ b → None ≡ cond b (Some (place_of test entries)) None → length entries ≡ place_of test entries) [
+      elim (nat_lt (place_of test entries) (length (keys_of entries))) as (λ b. nat_lt (place_of test entries) (length (keys_of entries)) ≡ b →
+      None ≡ cond b (Some (place_of test entries)) None → length entries ≡ place_of test entries) [
         | true ↦ λ _ e. absurd (cc)
         | false ↦ λ past _. omega (arith, ltb-false (place_of test entries) (length (keys_of entries)) past, length-map entries (λ (entry : K × X). entry.0))
       ] refl none
@@ -85,7 +88,8 @@ IsShelf-written entries place array shelf = record {
 }
 
 -- what was found at a place is there
-pub found_within : {P : Type 0} (found : Option (MutBor Array)) (entries : Entries) (place : ℕ) → option_copied_mut found ≡ slice_get (values_of entries) place → (place < length entries → P) → IfSome found (λ _. P)
+pub found_within : {P : Type 0} (found : Option (MutBor Array)) (entries : Entries) (place : ℕ) → option_copied_mut found ≡ slice_get (values_of entries) place →
+    (place < length entries → P) → IfSome found (λ _. P)
 found_within None entries place is name = tt
 found_within (Some array) entries place is name =
     let within : place < length (values_of entries) = slice_get_within (values_of entries) place array.now (sym is) in

@@ -13,7 +13,8 @@ use Rattle.judy_shelf.proofs.WriteLemmas.{grown_nothing}
 
 -- ---- one part behind another
 
-module _ {A B : Type 0} (Wants Also Early Before : List ℕ → Type 0) (part : Parser A) (other : Parser B) (input : List ℕ) (before after : Drawn) (same : (read : List ℕ) (fault : Flaw) → part read ≡ Err fault → other read ≡ Err fault) (also : Wants input → Also input) (early : (read : List ℕ) → Early read → Before read) where
+module _ {A B : Type 0} (Wants Also Early Before : List ℕ → Type 0) (part : Parser A) (other : Parser B) (input : List ℕ) (before after : Drawn)
+    (same : (read : List ℕ) (fault : Flaw) → part read ≡ Err fault → other read ≡ Err fault) (also : Wants input → Also input) (early : (read : List ℕ) → Early read → Before read) where
   -- What stops a part stops all that begins with it.
   pub stops_too : (cause : Cause) → Stops Wants Early part input before after cause → Stops Also Before other input before after cause
   stops_too reader stops = (stops.0, early input stops.1)
@@ -26,11 +27,13 @@ pub nowhere : (Also : List ℕ → Type 0) (input : List ℕ) → Nowhere input 
 nowhere Also input never = absurd never
 
 -- What holds of the bytes behind a part.
-pub begins_then : {A : Type 0} (part : Parser A) (value : A) (before mid : Drawn) (first : ReadsValue part value before mid) (Holds : A → List ℕ → Type 0) (input : List ℕ) → Holds value input → Begins part Holds (first.input ++ input)
+pub begins_then : {A : Type 0} (part : Parser A) (value : A) (before mid : Drawn) (first : ReadsValue part value before mid) (Holds : A → List ℕ → Type 0) (input : List ℕ) →
+    Holds value input → Begins part Holds (first.input ++ input)
 begins_then part value before mid first Holds input holds = subst (λ r. Behind r Holds) (sym (first.gives input)) holds
 
 module _ {A B : Type 0} (part : Parser A) (rest : A → Parser B) where
-  pub fault_within : (Wants Also : List ℕ → Type 0) → ((input : List ℕ) → Wants input → Also input) → (cause : Cause) (before after : Drawn) → ReadsFault Wants part cause before after → ReadsFault Also (part >>= rest) cause before after
+  pub fault_within : (Wants Also : List ℕ → Type 0) → ((input : List ℕ) → Wants input → Also input) → (cause : Cause) (before after : Drawn) →
+      ReadsFault Wants part cause before after → ReadsFault Also (part >>= rest) cause before after
   fault_within Wants Also also cause before after read = record {
     input = read.input;
     given = read.given;
@@ -59,13 +62,16 @@ module _ {A B : Type 0} (part : Parser A) (rest : A → Parser B) where
         fronts_of_both (λ front. (part >>= rest) front ≡ Err truncated) first.input input (λ front later byte is. ap (λ r. followed_by r rest) (first.cut_before front later byte is))
         (λ front later byte is. goes_on front ∙ cut_later front later byte is)
 
-    later_stops : (Wants Also : List ℕ → Type 0) (after : Drawn) (input : List ℕ) → (Wants input → Also (first.input ++ input)) → (cause : Cause) → Stops Wants (λ front. rest value front ≡ Err truncated) (rest value) input mid after cause → Stops Also (λ front. (part >>= rest) front ≡ Err truncated) (part >>= rest) (first.input ++ input) before after cause
+    later_stops : (Wants Also : List ℕ → Type 0) (after : Drawn) (input : List ℕ) → (Wants input → Also (first.input ++ input)) → (cause : Cause) →
+        Stops Wants (λ front. rest value front ≡ Err truncated) (rest value) input mid after cause →
+        Stops Also (λ front. (part >>= rest) front ≡ Err truncated) (part >>= rest) (first.input ++ input) before after cause
     later_stops Wants Also after input also reader stops = (stops.0 ∙ ap (λ n. n + 1) first.failures, goes_on input ∙ stops.1)
     later_stops Wants Also after input also memory stops = (stops.0 ∙ first.failures, also stops.1)
     later_stops Wants Also after input also cut stops = (stops.0 ∙ first.failures, stops.1, goes_on input ∙ stops.2)
     later_stops Wants Also after input also (told fault) stops = (stops.0 ∙ first.failures, (λ more. goes_on_more input more ∙ stops.1 more), cut_before_both input stops.2)
 
-    pub fault_behind : (Wants Also : List ℕ → Type 0) → ((input : List ℕ) → Wants input → Also (first.input ++ input)) → (cause : Cause) (after : Drawn) → ReadsFault Wants (rest value) cause mid after → ReadsFault Also (part >>= rest) cause before after
+    pub fault_behind : (Wants Also : List ℕ → Type 0) → ((input : List ℕ) → Wants input → Also (first.input ++ input)) → (cause : Cause) (after : Drawn) →
+        ReadsFault Wants (rest value) cause mid after → ReadsFault Also (part >>= rest) cause before after
     fault_behind Wants Also also cause after read = record {
       input = first.input ++ read.input;
       given = both_given after read.input read.given;
@@ -90,16 +96,25 @@ module _ {A B : Type 0} (part : Parser A) (rest : A → Parser B) where
     reads_then view after (Ok given) read = value_then (view given) after read
     reads_then view after (Err fault) read = fault_then (cause_of fault) after read
 
-    pub reads_behind : {X : Type 0} (Wants : A → List ℕ → Type 0) (view : X → B) (after : Drawn) (result : Result X LoadFault) → ReadsWanting (Wants value) view (rest value) mid result after → ReadsWanting (Begins part Wants) view (part >>= rest) before result after
+    pub reads_behind : {X : Type 0} (Wants : A → List ℕ → Type 0) (view : X → B) (after : Drawn) (result : Result X LoadFault) →
+        ReadsWanting (Wants value) view (rest value) mid result after → ReadsWanting (Begins part Wants) view (part >>= rest) before result after
     reads_behind Wants view after (Ok given) read = value_then (view given) after read
     reads_behind Wants view after (Err fault) read = fault_behind (Wants value) (Begins part Wants) (begins_then part value before mid first Wants) (cause_of fault) after read
 
 -- A value for which nothing is read.
 pub value_done : {A : Type 0} (value : A) (now : Drawn) → ReadsValue (done value) value now now
-value_done value now = record { input = []; given = sym (grown_nothing now.given); bytes = All-nil (λ byte. byte < 256); failures = refl; gives = λ more. refl; cut_before = no_fronts (λ front. done value front ≡ Err truncated) }
+value_done value now = record {
+  input = [];
+  given = sym (grown_nothing now.given);
+  bytes = All-nil (λ byte. byte < 256);
+  failures = refl;
+  gives = λ more. refl;
+  cut_before = no_fronts (λ front. done value front ≡ Err truncated);
+}
 
 -- What is answered where the reading was stopped.
-pub reads_err : {X A : Type 0} {Wants : List ℕ → Type 0} (view : X → A) (part : Parser A) (before after : Drawn) (fault : LoadFault) (result : Result X LoadFault) → IsErrAnd result (λ told. told ≡ fault) → ReadsFault Wants part (cause_of fault) before after → ReadsWanting Wants view part before result after
+pub reads_err : {X A : Type 0} {Wants : List ℕ → Type 0} (view : X → A) (part : Parser A) (before after : Drawn) (fault : LoadFault) (result : Result X LoadFault) →
+    IsErrAnd result (λ told. told ≡ fault) → ReadsFault Wants part (cause_of fault) before after → ReadsWanting Wants view part before result after
 reads_err view part before after fault (Ok value) is read = absurd is
 reads_err {Wants = Wants} view part before after fault (Err other) is read = subst (λ f. ReadsFault Wants part (cause_of f) before after) (sym is) read
 
@@ -150,7 +165,8 @@ module _ {B : Type 0} (whole : Parser B) where
     far_more : (input more : List ℕ) → whole ((far.input ++ input) ++ more) ≡ rest (input ++ more)
     far_more input more = ap whole (append_assoc far.input input more) ∙ far.goes (input ++ more)
 
-    far_stops : (Wants Also : List ℕ → Type 0) (input : List ℕ) → (Wants input → Also (far.input ++ input)) → (cause : Cause) → Stops Wants (λ front. rest front ≡ Err truncated) rest input mid after cause → Stops Also (λ front. whole front ≡ Err truncated) whole (far.input ++ input) before after cause
+    far_stops : (Wants Also : List ℕ → Type 0) (input : List ℕ) → (Wants input → Also (far.input ++ input)) → (cause : Cause) →
+        Stops Wants (λ front. rest front ≡ Err truncated) rest input mid after cause → Stops Also (λ front. whole front ≡ Err truncated) whole (far.input ++ input) before after cause
     far_stops Wants Also input also reader stops = (stops.0 ∙ ap (λ n. n + 1) far.failures, far.goes input ∙ stops.1)
     far_stops Wants Also input also memory stops = (stops.0 ∙ far.failures, also stops.1)
     far_stops Wants Also input also cut stops = (stops.0 ∙ far.failures, stops.1, far.goes input ∙ stops.2)
@@ -161,7 +177,8 @@ module _ {B : Type 0} (whole : Parser B) where
     )
 
     -- What stops the rest stops the whole.
-    pub reading_fault : (Wants Also : List ℕ → Type 0) → ((input : List ℕ) → Wants input → Also (far.input ++ input)) → (cause : Cause) → ReadsFault Wants rest cause mid after → ReadsFault Also whole cause before after
+    pub reading_fault : (Wants Also : List ℕ → Type 0) → ((input : List ℕ) → Wants input → Also (far.input ++ input)) → (cause : Cause) → ReadsFault Wants rest cause mid after →
+        ReadsFault Also whole cause before after
     reading_fault Wants Also also cause next = record {
       input = far.input ++ next.input;
       given = next.given ∙ ap (λ known. grown known next.input) far.given ∙ grown-grown before.given far.input next.input;
@@ -191,8 +208,20 @@ module _ {A : Type 0} (part : Parser A) (value : A) (before after : Drawn) (read
 
   -- A value that passes both.
   pub value_passes_both : two value ≡ true → ReadsValue (field part ((one, fault) ∷ (two, other) ∷ [])) value before after
-  value_passes_both second = record { input = read.input; given = read.given; bytes = read.bytes; failures = read.failures; gives = λ more. twice more ∙ ap (λ b. cond b (Ok (value, more)) (Err other)) second; cut_before = cut_twice }
+  value_passes_both second = record {
+    input = read.input;
+    given = read.given;
+    bytes = read.bytes;
+    failures = read.failures;
+    gives = λ more. twice more ∙ ap (λ b. cond b (Ok (value, more)) (Err other)) second;
+    cut_before = cut_twice;
+  }
 
   -- A value that doesn't pass the second.
   pub value_fails_second : two value ≡ false → ReadsFault Nowhere (field part ((one, fault) ∷ (two, other) ∷ [])) (told other) before after
-  value_fails_second second = record { input = read.input; given = read.given; bytes = read.bytes; stops = (read.failures, (λ more. twice more ∙ ap (λ b. cond b (Ok (value, more)) (Err other)) second), cut_twice) }
+  value_fails_second second = record {
+    input = read.input;
+    given = read.given;
+    bytes = read.bytes;
+    stops = (read.failures, (λ more. twice more ∙ ap (λ b. cond b (Ok (value, more)) (Err other)) second), cut_twice);
+  }

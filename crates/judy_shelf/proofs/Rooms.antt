@@ -1,5 +1,6 @@
 -- A room that is filled from the front.
-use Rattle.std.proofs.Common.{◌≡◌, ◌≢◌, ℕ, zero, suc, [], ◌∷◌, ◌+◌, ◌-◌, ◌<◌, ◌≤◌, Bool, true, cond, List, ◌++◌, length, get_or, take, drop, Option, Some, None, Ok, Err, IfSome, refl, sym, ap, subst, ◌∙◌, arith}
+use Rattle.std.proofs.Common.{◌≡◌, ◌≢◌, ℕ, zero, suc, [], ◌∷◌, ◌+◌, ◌-◌, ◌<◌, ◌≤◌, Bool, true, cond, List, ◌++◌, length, get_or, take, drop, Option, Some, None, Ok, Err, IfSome}
+use Rattle.std.proofs.Common.{refl, sym, ap, subst, ◌∙◌, arith}
 use Rattle.std.proofs.Math.Seq.{take-add}
 use Rattle.std.proofs.lemmas.Bool.{lt-ltb, le-ltb}
 use Rattle.std.proofs.lemmas.List.{take_at, drop_at, take-append-le, length-append, length-take-le, length-drop}
@@ -40,9 +41,11 @@ module _ (room : List ℕ) (filled : ℕ) (before after : Drawn) (given : after.
   -- Fewer bytes than are wanted.
   too_few : (wanted : ℕ) → filled < wanted → filled ≤ length room → bytes wanted (take filled room) ≡ Err truncated
   too_few wanted short within =
-      ap (λ b. cond b (Err truncated) (Ok (take wanted (take filled room), drop wanted (take filled room)))) (lt-ltb (length (take filled room)) wanted (let l = length-take-le filled room within in omega arith))
+      ap (λ b. cond b (Err truncated) (Ok (take wanted (take filled room), drop wanted (take filled room))))
+      (lt-ltb (length (take filled room)) wanted (let l = length-take-le filled room within in omega arith))
 
-  pub room_cut : (known : Option Bool) (wanted : ℕ) → filled < wanted → filled ≤ length room → after.ended ≡ pipe.told known true → after.failures ≡ before.failures → ReadsFault Nowhere (bytes wanted) cut before after
+  pub room_cut : (known : Option Bool) (wanted : ℕ) → filled < wanted → filled ≤ length room → after.ended ≡ pipe.told known true → after.failures ≡ before.failures →
+      ReadsFault Nowhere (bytes wanted) cut before after
   room_cut known wanted short within ended same = record {
     input = take filled room;
     given = given;
@@ -57,7 +60,8 @@ module _ (room : List ℕ) (filled : ℕ) (before after : Drawn) (given : after.
   pub room_broken : (wanted : ℕ) → filled < wanted → filled ≤ length room → after.failures ≡ before.failures + 1 → ReadsFault Nowhere (bytes wanted) reader before after
   room_broken wanted short within more = record { input = take filled room; given = given; bytes = are; stops = (more, too_few wanted short within) }
 
-pub room_full : (room : List ℕ) (wanted : ℕ) (before after : Drawn) → after.given ≡ grown before.given room → IsByteString room → length room ≡ wanted → after.failures ≡ before.failures → ReadsValue (bytes wanted) room before after
+pub room_full : (room : List ℕ) (wanted : ℕ) (before after : Drawn) → after.given ≡ grown before.given room → IsByteString room → length room ≡ wanted →
+    after.failures ≡ before.failures → ReadsValue (bytes wanted) room before after
 room_full room wanted before after given are long same = record {
   input = room;
   given = given;

@@ -49,7 +49,8 @@ key_before before [] place = before
 key_before before (entry ∷ entries) zero = before
 key_before before (entry ∷ entries) (suc place) = key_before entry.0 entries place
 
-pub beside_at : (before : List ℕ) (entries : List (List ℕ × ℕ)) (place : ℕ) (entry : List ℕ × ℕ) → slice_get entries place ≡ Some entry → slice_get (beside_before before entries) place ≡ Some (key_before before entries place, entry)
+pub beside_at : (before : List ℕ) (entries : List (List ℕ × ℕ)) (place : ℕ) (entry : List ℕ × ℕ) → slice_get entries place ≡ Some entry →
+    slice_get (beside_before before entries) place ≡ Some (key_before before entries place, entry)
 beside_at before [] place entry at = absurd cc
 beside_at before (first ∷ entries) zero entry at = let same : first ≡ entry = cc in ap (λ e. Some (before, e)) same
 beside_at before (first ∷ entries) (suc place) entry at = beside_at first.0 entries place entry at

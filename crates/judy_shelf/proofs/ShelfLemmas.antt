@@ -18,7 +18,8 @@ array_named-store_of (entry ∷ entries) name =
 pub with_array-store_of : (entries : Entries) (name : List ℕ) (array : Array) → with_array (store_of entries) name (value_of array) ≡ store_of (with_array entries name array)
 with_array-store_of [] name array = refl
 with_array-store_of (entry ∷ entries) name array =
-    elim (bytes_eq name entry.0) as (λ b. cond b ((entry.0, value_of array) ∷ store_of entries) ((entry.0, value_of entry.1) ∷ with_array (store_of entries) name (value_of array)) ≡ store_of (cond b ((entry.0, array) ∷ entries) (entry ∷ with_array entries name array))) [
+    elim (bytes_eq name entry.0) as (λ b. cond b ((entry.0, value_of array) ∷ store_of entries) ((entry.0, value_of entry.1) ∷ with_array (store_of entries) name (value_of array)) ≡
+    store_of (cond b ((entry.0, array) ∷ entries) (entry ∷ with_array entries name array))) [
       | true ↦ refl
       | false ↦ ap (λ rest. (entry.0, value_of entry.1) ∷ rest) (with_array-store_of entries name array)
     ]
@@ -33,7 +34,8 @@ length-store_of entries = length-map entries _
 pub without_array-store_of : (entries : Entries) (name : List ℕ) → without_array (store_of entries) name ≡ store_of (without_array entries name)
 without_array-store_of [] name = refl
 without_array-store_of (entry ∷ entries) name =
-    elim (bytes_eq name entry.0) as (λ b. cond b (store_of entries) ((entry.0, value_of entry.1) ∷ without_array (store_of entries) name) ≡ store_of (cond b entries (entry ∷ without_array entries name))) [
+    elim (bytes_eq name entry.0) as (λ b. cond b (store_of entries) ((entry.0, value_of entry.1) ∷ without_array (store_of entries) name) ≡
+    store_of (cond b entries (entry ∷ without_array entries name))) [
       | true ↦ refl
       | false ↦ ap (λ rest. (entry.0, value_of entry.1) ∷ rest) (without_array-store_of entries name)
     ]

@@ -1,5 +1,6 @@
 -- The sorted lists of a shelf, array by array.
-use Rattle.std.proofs.Common.{◌≡◌, ℕ, zero, suc, ◌+◌, ◌<◌, ◌≤◌, List, [], ◌∷◌, ◌++◌, length, take, get_or, map, slice_get, option_map, option_copied, true, false, Option, Some, None, IsSome, IfSome, refl, sym, ap, subst, ◌∙◌}
+use Rattle.std.proofs.Common.{◌≡◌, ℕ, zero, suc, ◌+◌, ◌<◌, ◌≤◌, List, [], ◌∷◌, ◌++◌, length, take, get_or, map, slice_get, option_map, option_copied, true, false, Option, Some}
+use Rattle.std.proofs.Common.{None, IsSome, IfSome, refl, sym, ap, subst, ◌∙◌}
 use Rattle.std.specs.Borrow.{Bor}
 use Rattle.std.proofs.lemmas.List.{length-append, length-map}
 use Rattle.std.proofs.lemmas.Option.{slice_get-map, slice_get-get_or, slice_get_past, slice_get_within}
@@ -12,10 +13,12 @@ use Rattle.judy_shelf.specs.Sorted.{pairs_in, lists_in, sorted_in, sorted_lists}
 use Rattle.judy_shelf.proofs.WalkLemmas.{take_one}
 
 -- The key and the value of an entry stand at its place.
-pub pair_at : (list : SortedKeys) (items : List HsEntry) → items ≡ list.entries.items → (place : ℕ) → place < length items → (entry : HsEntry) → entry ≡ get_or items place entry → slice_get (pairs_in list) place ≡ Some (key_bytes entry.key, entry.value)
+pub pair_at : (list : SortedKeys) (items : List HsEntry) → items ≡ list.entries.items → (place : ℕ) → place < length items → (entry : HsEntry) →
+    entry ≡ get_or items place entry → slice_get (pairs_in list) place ≡ Some (key_bytes entry.key, entry.value)
 pair_at list items is place within entry at =
     let pair : HsEntry → List ℕ × ℕ = λ e. (key_bytes e.key, e.value) in
-    ap (λ (es : List HsEntry). slice_get (map pair es) place) (sym is) ∙ slice_get-map pair items place ∙ ap (option_map pair) (slice_get-get_or items place entry within) ∙ ap (λ (e : HsEntry). Some (pair e)) (sym at)
+    ap (λ (es : List HsEntry). slice_get (map pair es) place) (sym is) ∙ slice_get-map pair items place ∙ ap (option_map pair) (slice_get-get_or items place entry within) ∙
+    ap (λ (e : HsEntry). Some (pair e)) (sym at)
 
 -- Behind all entries stands none.
 pub no_pair_at : (list : SortedKeys) (items : List HsEntry) → items ≡ list.entries.items → (place : ℕ) → length items ≤ place → slice_get (pairs_in list) place ≡ None
@@ -38,10 +41,12 @@ list_at (one ∷ entries) (suc place) entry list at is =
     behind (sorted_in one.1) (sorted_lists entries) (sorted_lists (take place entries)) ∙ list_at entries place entry list at is
 
 -- The lists up to and with those of an array.
-pub lists_more : (entries : Entries) (place : ℕ) (entry : List ℕ × Array) → slice_get entries place ≡ Some entry → sorted_lists (take (suc place) entries) ≡ sorted_lists (take place entries) ++ sorted_in entry.1
+pub lists_more : (entries : Entries) (place : ℕ) (entry : List ℕ × Array) → slice_get entries place ≡ Some entry →
+    sorted_lists (take (suc place) entries) ≡ sorted_lists (take place entries) ++ sorted_in entry.1
 lists_more entries place entry at = take_one (λ (e : List ℕ × Array). sorted_in e.1) entries place entry at
 
-pub lists_counted : (entries : Entries) (place : ℕ) (entry : List ℕ × Array) → slice_get entries place ≡ Some entry → length (sorted_lists (take (suc place) entries)) ≡ length (sorted_lists (take place entries)) + length (sorted_in entry.1)
+pub lists_counted : (entries : Entries) (place : ℕ) (entry : List ℕ × Array) → slice_get entries place ≡ Some entry →
+    length (sorted_lists (take (suc place) entries)) ≡ length (sorted_lists (take place entries)) + length (sorted_in entry.1)
 lists_counted entries place entry at = ap length (lists_more entries place entry at) ∙ length-append (sorted_lists (take place entries)) (sorted_in entry.1)
 
 -- What is found at a place among lists.

@@ -1,5 +1,6 @@
 -- The entries of a map of strings, one after another by `first` and `next`, and lists whose items are written in turn.
-use Rattle.std.proofs.Common.{◌≡◌, ℕ, zero, suc, ◌-◌, ◌<◌, List, [], ◌∷◌, ◌++◌, length, take, drop, filter, slice_get, Option, Some, None, option_map, unwrap_or, refl, sym, ap, subst, ◌∙◌, append_assoc, append-nil, arith}
+use Rattle.std.proofs.Common.{◌≡◌, ℕ, zero, suc, ◌-◌, ◌<◌, List, [], ◌∷◌, ◌++◌, length, take, drop, filter, slice_get, Option, Some, None, option_map, unwrap_or, refl, sym, ap}
+use Rattle.std.proofs.Common.{subst, ◌∙◌, append_assoc, append-nil, arith}
 use Rattle.std.specs.List.{flat_map}
 use Rattle.std.specs.Cmp.{IsTotalOrder, tied_itself}
 use Rattle.std.specs.Cmp.Lexicographic.{nat_list_cmp_total}
@@ -27,13 +28,15 @@ module _ {K : Type 0} {order : K → K → Ordering} (total : IsTotalOrder order
   pub walk_on : (place : ℕ) (key : K) → slice_get (keys m) place ≡ Some key → next m key ≡ slice_get (keys m) (suc place)
   walk_on place key at = next-slice_get total m key ∙ ap (slice_get (keys m)) (count_up_to_at total m place key at)
 
-  entry_of_key : (place : ℕ) (key : K) (found : Option (K × ℕ)) → slice_get (entries m) place ≡ found → option_map (λ e. e.0) found ≡ Some key → (value : ℕ) × (get m key ≡ Some value) × (slice_get (entries m) place ≡ Some (key, value))
+  entry_of_key : (place : ℕ) (key : K) (found : Option (K × ℕ)) → slice_get (entries m) place ≡ found → option_map (λ e. e.0) found ≡ Some key →
+      (value : ℕ) × (get m key ≡ Some value) × (slice_get (entries m) place ≡ Some (key, value))
   entry_of_key place key None at is = absurd cc
   entry_of_key place key (Some pair) at is =
       let same : pair.0 ≡ key = cc in
       let within = slice_get_within (entries m) place pair at in
       let there = get_or_from_slice_get (entries m) place pair pair at in
-      let held : get m key ≡ Some pair.1 = get-entries m key ∙ find-at order total (entries m) key place pair (entries_sorted m) within (ap (λ e. order e.0 key) there ∙ ap (λ k. order k key) same ∙ tied_itself total key) ∙ ap (λ e. Some e.1) there in
+      let held : get m key ≡ Some pair.1 = get-entries m key ∙ find-at order total (entries m) key place pair (entries_sorted m) within
+      (ap (λ e. order e.0 key) there ∙ ap (λ k. order k key) same ∙ tied_itself total key) ∙ ap (λ e. Some e.1) there in
       (pair.1, held, at ∙ ap Some (λ t. (same t, pair.1)))
 
   -- The entry at a place is the key there with its value.
@@ -73,7 +76,8 @@ module _ (m : FinMap byte_order ℕ) where
       let there = entry_there nat_list_cmp_total m place key at in
       subst (λ o. IsAt place key o) (sym there.1) (at, there.1)
 
-  pub is_at : (place : ℕ) (old key : List ℕ) (found : Option (List ℕ)) (value : Option ℕ) → found ≡ slice_get (keys m) place → key ≡ unwrap_or found old → value ≡ value_found m found → IsAt place key value
+  pub is_at : (place : ℕ) (old key : List ℕ) (found : Option (List ℕ)) (value : Option ℕ) → found ≡ slice_get (keys m) place → key ≡ unwrap_or found old →
+      value ≡ value_found m found → IsAt place key value
   is_at place old key found value at keyed valued =
       subst (λ k. IsAt place k value) (sym keyed) (subst (λ v. IsAt place (unwrap_or found old) v) (sym valued) (stands place old found (sym at)))
 
@@ -128,7 +132,8 @@ module _ {A : Type 0} (text : A → List ℕ) where
         let both = wrote_both (flat_map text (take place items)) (text item) before mid after written wrote in
         (both.0 ∙ ap (grown before.taken) (sym (take_one text items place item at)), both.1)
 
-    pub written_stop : (place : ℕ) (item : A) (mid after : Sunk) → Written place mid → slice_get items place ≡ Some item → WroteFront (text item) mid after → WroteFront (flat_map text items) before after
+    pub written_stop : (place : ℕ) (item : A) (mid after : Sunk) → Written place mid → slice_get items place ≡ Some item → WroteFront (text item) mid after →
+        WroteFront (flat_map text items) before after
     written_stop place item mid after written at wrote =
         let both = wrote_second (flat_map text (take place items)) (text item) before mid after written wrote in
         let here : WroteFront (flat_map text (take (suc place) items)) before after = subst (λ t. WroteFront t before after) (sym (take_one text items place item at)) both in
@@ -147,10 +152,12 @@ module _ {A : Type 0} (text : A → List ℕ) (before : Sunk) where
   -- One item more is written.
   pub wrote_more : (done : List A) (item : A) (mid after : Sunk) → WroteAll (flat_map text done) before mid → WroteAll (text item) mid after → WroteAll (flat_map text (done ++ item ∷ [])) before after
   wrote_more done item mid after written wrote =
-      subst (λ t. WroteAll t before after) (sym (flat_map-append text done (item ∷ []) ∙ ap (λ t. flat_map text done ++ t) (append-nil (text item)))) (wrote_both (flat_map text done) (text item) before mid after written wrote)
+      subst (λ t. WroteAll t before after) (sym (flat_map-append text done (item ∷ []) ∙ ap (λ t. flat_map text done ++ t) (append-nil (text item))))
+      (wrote_both (flat_map text done) (text item) before mid after written wrote)
 
   -- A front of the next item is one of all items.
-  pub wrote_part : (done rest : List A) (item : A) (mid after : Sunk) → WroteAll (flat_map text done) before mid → WroteFront (text item) mid after → WroteFront (flat_map text (done ++ item ∷ rest)) before after
+  pub wrote_part : (done rest : List A) (item : A) (mid after : Sunk) → WroteAll (flat_map text done) before mid → WroteFront (text item) mid after →
+      WroteFront (flat_map text (done ++ item ∷ rest)) before after
   wrote_part done rest item mid after written wrote =
       let here = wrote_first (flat_map text done ++ text item) (flat_map text rest) before after (wrote_second (flat_map text done) (text item) before mid after written wrote) in
       subst (λ t. WroteFront t before after) (append_assoc (flat_map text done) (text item) (flat_map text rest) ∙ sym (flat_map-append text done (item ∷ rest))) here

@@ -11,14 +11,18 @@ grown_nothing None = refl
 grown_nothing (Some before) = ap Some (append-nil before)
 
 -- A front of a piece behind what was written is a front of the whole.
-front_later : (before : Option (List ℕ)) (written piece rest : List ℕ) (after : Option (List ℕ)) → GrewByFront (grown before written) piece after → GrewByFront before (written ++ (piece ++ rest)) after
+front_later : (before : Option (List ℕ)) (written piece rest : List ℕ) (after : Option (List ℕ)) → GrewByFront (grown before written) piece after →
+    GrewByFront before (written ++ (piece ++ rest)) after
 front_later before written piece rest after front =
     let some = take front.0 piece in
     let left = drop front.0 piece ++ rest in
     let parts : written ++ (piece ++ rest) ≡ (written ++ some) ++ left =
     ap (λ p. written ++ (p ++ rest)) (sym (take-append-drop front.0 piece)) ∙ ap (λ p. written ++ p) (append_assoc some (drop front.0 piece) rest) ∙ sym (append_assoc written some left) in
-    let all : length (written ++ (piece ++ rest)) ≡ length (written ++ some) + length left = ap length parts ∙ length-append (written ++ some) left in
-    (length (written ++ some), omega arith, front.2 ∙ grown-grown before written some ∙ ap (grown before) (sym (ap (take (length (written ++ some))) parts ∙ take_at (written ++ some) left (length (written ++ some)) refl)))
+    let all : length (written ++ (piece ++ rest)) ≡ length (written ++ some) + length left = ap length parts ∙ length-append (written ++ some) left in (
+      length (written ++ some),
+      omega arith,
+      front.2 ∙ grown-grown before written some ∙ ap (grown before) (sym (ap (take (length (written ++ some))) parts ∙ take_at (written ++ some) left (length (written ++ some)) refl)),
+    )
 
 wrote_front : (one other : List ℕ) (before mid after : Sunk) → mid.taken ≡ grown before.taken one → GrewByFront mid.taken other after.taken → GrewByFront before.taken (one ++ other) after.taken
 wrote_front one other before mid after first front =

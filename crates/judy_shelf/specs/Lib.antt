@@ -10,3 +10,4 @@ pub mod Reads
 pub mod LastKeys
 pub mod Faults
 pub mod Places
+pub mod Ones

@@ -129,8 +129,10 @@ abbrev pub AtSome : {A : Type 0} → (ℕ → Parser A) → ℕ → List ℕ →
 AtSome part count input = (listed : ℕ) × (listed ≤ count) × Begins (part listed) (λ _ rest. rest ≡ []) input
 
 -- So many entries of an array were read, behind each of which memory may be wanted, and gave the array that holds them.
-abbrev pub Fills : {K X : Type 0} {map_order : K → K → Ordering} → (ArrayOf map_order → ArrayValue) → ℕ → (ℕ → Parser (List (K × ℕ))) → ℕ → (X → ArrayValue) → Drawn → Result X LoadFault → Drawn → Type 0
-Fills kind limit entries count view before result after = ReadsWanting (AtSome (λ listed. grammar.filled kind limit (entries listed)) count) view (grammar.filled kind limit (entries count)) before result after
+abbrev pub Fills : {K X : Type 0} {map_order : K → K → Ordering} → (ArrayOf map_order → ArrayValue) → ℕ → (ℕ → Parser (List (K × ℕ))) → ℕ → (X → ArrayValue) →
+    Drawn → Result X LoadFault → Drawn → Type 0
+Fills kind limit entries count view before result after =
+    ReadsWanting (AtSome (λ listed. grammar.filled kind limit (entries listed)) count) view (grammar.filled kind limit (entries count)) before result after
 
 -- Behind a key count, and behind each entry.
 abbrev pub InBody : Version → List ℕ → Type 0

@@ -8,7 +8,8 @@ use crate::fault::LoadFault;
 use judy_pipe::{Source, read_some};
 
 // Reads as many bytes as fit into `room`, and none beyond.
-// Mostly one piece has all of them: how many are copied is known then where this is compiled into, and a number is one load.
+// Mostly one piece has all of them: how many are copied is known then where this is compiled into, and a number is one
+// load.
 #[inline(always)]
 pub(crate) fn read_bytes<R: Source>(source: &mut R, room: &mut [u8]) -> Result<(), LoadFault>
     requires { (R.tally source.old).failures < 2 ^ 64 - 1 }

@@ -13,8 +13,8 @@ use judy_model::keys::LONGEST_KEY;
 use judy_pipe::Source;
 use judy_sl::are_nonzero;
 
-// How long the longest front is that two keys share.
-pub(crate) fn shared_len(before: &[u8], key: &[u8]) -> usize
+/// How long the longest front is that two keys share.
+pub fn shared_len(before: &[u8], key: &[u8]) -> usize
     ensures shared { result ≡ shared_length before.now key.now }
     ensures most { result ≤ length key.now }
 {

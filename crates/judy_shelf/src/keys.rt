@@ -19,16 +19,16 @@ use judy_model::keys::LONGEST_KEY;
 use judy_pipe::Source;
 use judy_sl::{KeyBuf, are_nonzero};
 
-// The key that was read last, if there is one.
+/// A copy of the key that was read or written last, if there is one. It takes no memory of its own.
 #[derive(Drop)]
-pub(crate) struct LastKey {
+pub struct LastKey {
     bytes: KeyBuf,
     is_some: bool,
 }
 
 impl LastKey {
-    // No key.
-    pub(crate) fn new() -> LastKey
+    /// No key.
+    pub fn new() -> LastKey
         ensures { last_key result ≡ None }
     {
         LastKey {
@@ -37,8 +37,8 @@ impl LastKey {
         }
     }
 
-    // Keeps a copy of a key.
-    pub(crate) fn keep(&mut self, key: &[u8])
+    /// Keeps a copy of a key, in place of the one that it had.
+    pub fn keep(&mut self, key: &[u8])
         requires { length key.now ≤ LONGEST_KEY }
         ensures { last_key self.new ≡ Some key.now }
     {
@@ -47,8 +47,8 @@ impl LastKey {
         self.is_some = true;
     }
 
-    // The bytes of the key, or none.
-    pub(crate) fn front(&self) -> &[u8]
+    /// The bytes of the key, or none.
+    pub fn front(&self) -> &[u8]
         ensures bytes { result.now ≡ unwrap_or (last_key self.now) [] }
         ensures most { length result.now ≤ LONGEST_KEY }
     {

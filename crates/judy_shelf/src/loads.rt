@@ -1,6 +1,6 @@
 //! A shelf from bytes.
 
-ghost use Rattle.std.specs.Prelude.{◌<◌, ◌≤◌, ◌-◌, ◌^◌, ◌≡◌, [], None, IfOk};
+ghost use Rattle.std.specs.Prelude.{◌<◌, ◌≤◌, ◌-◌, ◌^◌, ◌≡◌, [], None, IfOk, false};
 ghost use Rattle.std.specs.FinMap as map;
 ghost use Rattle.judy_model.specs.Arrays.{judy1, judyl, judysl, judyhs};
 ghost use Rattle.judy_word.specs.WordArrays.{array_of};
@@ -25,7 +25,7 @@ use crate::kind::Kind;
 use crate::name::Name;
 use crate::shelf::Shelf;
 use crate::version::Version;
-use judy_hs::{Fnv1a, JudyHs};
+use judy_hs::{ByteHash, Fnv1a, JudyHs};
 use judy_model::keys::LONGEST_KEY;
 use judy_pipe::Source;
 use judy_sl::JudySl;
@@ -36,15 +36,15 @@ use std::alloc::Global;
 /// byte to the end of the source, and gives the shelf that it is a dump of.
 ///
 /// At Ok what the source gave in the call is the dump of the shelf's store in one of the formats, and the store is
-/// regular; the source's last read gave the end. Every other answer is the first fault in the order of the fields: what the source gave has that
-/// fault, whatever came after it, and no proper front of it has one, but that it is cut off; `Truncated` comes only
-/// where the source's last read gave the end. `Read` comes only where the source failed, which it then did once, and
-/// what it gave before has no fault, but that it may be cut off; `NoMemory` where there is none for an array or a key,
-/// and only where what the source gave has no fault and ends behind a key count or an entry. So no byte is taken behind
-/// the field that decides, and a source that never ends is left.
+/// regular; the source's last read gave the end. Every other answer is the first fault in the order of the fields: what
+/// the source gave has that fault, whatever came after it, and no proper front of it has one, but that it is cut off;
+/// `Truncated` comes only where the source's last read gave the end. `Read` comes only where the source failed, which
+/// it then did once, and what it gave before has no fault, but that it may be cut off; `NoMemory` where there is none
+/// for an array or a key, and only where what the source gave has no fault and ends behind a key count or an entry. So
+/// no byte is taken behind the field that decides, and a source that never ends is left.
 ///
-/// Memory is asked for by the keys that were read, and never by a number that the bytes say. Up to 4,096 keys of an array of words are
-/// read before they are put in.
+/// Memory is asked for by the keys that were read, and never by a number that the bytes say. Up to 4,096 keys of an
+/// array of words are read before they are put in.
 pub fn load<R: Source>(alloc: Global, source: &mut R) -> Result<Shelf, LoadFault>
     requires { (R.tally source.old).failures < 2 ^ 64 - 1 }
     ensures { Loaded
@@ -91,7 +91,8 @@ macro_rules! fill_words {
     }};
 }
 
-// Reads so many entries of an array of byte strings and puts them in: keys, by `$read`, from the last one and into a room, and a value behind each.
+// Reads so many entries of an array of byte strings and puts them in: keys, by `$read`, from the last one and into a
+// room, and a value behind each.
 macro_rules! fill_strings {
     ($strings:ident, $source:ident, $count:ident, |$last:ident, $room:ident| $read:expr) => {{
         let mut $last = LastKey::new();
@@ -111,10 +112,15 @@ macro_rules! fill_strings {
 }
 
 // Reads so many keys into an empty set.
-fn read_set<R: Source>(source: &mut R, mut set: FillingSet, count: u64) -> Result<Judy1, LoadFault>
+pub(crate) fn read_set<R: Source>(
+    source: &mut R,
+    mut set: FillingSet,
+    count: u64,
+) -> Result<Judy1, LoadFault>
     requires below { (R.tally source.old).failures < 2 ^ 64 - 1 }
     requires empty { set.map ≡ map.empty }
-    ensures { Fills judy1 set.limit
+    ensures tight { IfOk result (λ made. made.loose ≡ false) }
+    ensures read { Fills judy1 set.limit
         (grammar.entries word_order (λ before. grammar.word) grammar.no_value None) count
         (λ made. judy1 (array_of made))
         (drawn (R.given source.old) (R.ended source.old) (R.tally source.old).failures) result
@@ -124,14 +130,15 @@ fn read_set<R: Source>(source: &mut R, mut set: FillingSet, count: u64) -> Resul
 }
 
 // Reads so many keys into an empty map, and the value of each behind it.
-fn read_words<R: Source>(
+pub(crate) fn read_words<R: Source>(
     source: &mut R,
     mut words: FillingMap,
     count: u64,
 ) -> Result<JudyL, LoadFault>
     requires below { (R.tally source.old).failures < 2 ^ 64 - 1 }
     requires empty { words.map ≡ map.empty }
-    ensures { Fills judyl words.limit
+    ensures tight { IfOk result (λ made. made.loose ≡ false) }
+    ensures read { Fills judyl words.limit
         (grammar.entries word_order (λ before. grammar.word) grammar.word None) count
         (λ made. judyl (array_of made))
         (drawn (R.given source.old) (R.ended source.old) (R.tally source.old).failures) result
@@ -141,7 +148,7 @@ fn read_words<R: Source>(
 }
 
 // Reads so many keys into an empty array of strings, and the value of each behind it.
-fn read_strings<R: Source>(
+pub(crate) fn read_strings<R: Source>(
     source: &mut R,
     version: Version,
     mut strings: JudySl,
@@ -160,12 +167,12 @@ fn read_strings<R: Source>(
     })
 }
 
-// Reads so many keys into an empty array of byte strings, and the value of each behind it.
-fn read_byte_strings<R: Source>(
+// Reads so many keys into an empty array of byte strings under a hash, and the value of each behind it.
+pub(crate) fn read_byte_strings<R: Source, H: ByteHash + Drop>(
     source: &mut R,
-    mut strings: JudyHs<Fnv1a>,
+    mut strings: JudyHs<H>,
     count: u64,
-) -> Result<JudyHs<Fnv1a>, LoadFault>
+) -> Result<JudyHs<H>, LoadFault>
     requires below { (R.tally source.old).failures < 2 ^ 64 - 1 }
     requires empty { strings.map ≡ map.empty }
     ensures { Fills judyhs strings.limit

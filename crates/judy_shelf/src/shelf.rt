@@ -137,8 +137,8 @@ impl Shelf {
         self.arrays.get_mut(name)
     }
 
-    /// The array that bytes name, to be changed: it alone changes, and every other stays as it is. Where they are no name none
-    /// has it.
+    /// The array that bytes name, to be changed: it alone changes, and every other stays as it is. Where they are no
+    /// name none has it.
     #[inline(always)]
     pub fn named_mut(&mut self, bytes: &[u8]) -> Option<&mut Array>
         ensures* writes_back { sem 𝓛 (LendsNamed self.entry bytes.now result) }
@@ -149,8 +149,8 @@ impl Shelf {
         self.arrays.get_index_mut(place)
     }
 
-    // The place of the array that bytes name; the number of arrays where there is none. Few names are compared one by one, which is
-    // done sooner than a hash.
+    // The place of the array that bytes name; the number of arrays where there is none. Few names are compared one by
+    // one, which is done sooner than a hash.
     #[inline(always)]
     fn place_of(&self, bytes: &[u8]) -> usize
         ensures place { result ≡ place_of (bytes_eq bytes.now) self.now }

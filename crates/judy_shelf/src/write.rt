@@ -20,8 +20,9 @@ use arrayvec::ArrayVec;
 use byteorder::{BigEndian, ByteOrder};
 use judy_pipe::{PipeFailed, Sink, write_all};
 
-// The most bytes of what stands before an array's keys: a name behind its length, the kind, the limit, the number of keys.
-const MAX_HEAD_LEN: usize = 50;
+/// The most bytes of what stands before an array's keys: a name behind its length, the kind, the limit, the number of
+/// keys.
+pub const MAX_HEAD_LEN: usize = 50;
 
 // Writes bytes.
 pub(crate) fn put<W: Sink>(sink: &mut W, bytes: &[u8]) -> Result<(), PipeFailed>
@@ -118,13 +119,20 @@ fn word_bytes(word: u64) -> [u8; 8]
     bytes
 }
 
-// The first bytes of a dump, which name its format, and the number of arrays.
+// The first bytes of a shelf's dump.
 pub(crate) fn heading(version: Version, shelf: &Shelf) -> [u8; 8]
     ensures { result ≡ text.magic (format_of version) ++ low_bytes 4 (length shelf.now) }
 {
+    heading_of(version, shelf.len() as u32)
+}
+
+/// The first bytes of a dump of so many arrays, which name its format and tell their number. (This project's own.)
+pub fn heading_of(version: Version, arrays: u32) -> [u8; 8]
+    ensures { result ≡ text.magic (format_of version) ++ low_bytes 4 arrays }
+{
     let mut bytes = [0; 8];
     bytes[..4].copy_from_slice(magic(version));
-    BigEndian::write_u32(&mut bytes[4..], shelf.len() as u32);
+    BigEndian::write_u32(&mut bytes[4..], arrays);
     bytes
 }
 
@@ -138,20 +146,30 @@ fn magic(version: Version) -> &'static [u8; 4]
     }
 }
 
-// What stands before an array's keys: its name behind the name's length, its kind, its limit, and how many
-// keys it has.
+// What stands before an array's keys.
 pub(crate) fn array_head(name: &Name, array: &Array) -> ArrayVec<u8, MAX_HEAD_LEN>
     ensures { result.items
         ≡ text.name_text name.now ++ low_bytes 1
         (text.kind_number (value_of array.now)) ++ text.word
         (limit_of (value_of array.now)) ++ text.word (len_of (value_of array.now)) }
 {
+    head_of(name, array.kind(), array.limit(), array.len())
+}
+
+/// What stands before an array's keys in a dump: its name behind the name's length, its kind, its limit, and how many
+/// keys it has. (This project's own.)
+pub fn head_of(name: &Name, kind: Kind, limit: u64, count: u64) -> ArrayVec<u8, MAX_HEAD_LEN>
+    ensures head { result.items
+        ≡ text.name_text name.now ++ low_bytes 1 (kind_number kind) ++ text.word limit
+        ++ text.word count }
+    ensures short { array_vec_len result ≤ 50 }
+{
     let mut head = ArrayVec::new();
     head.push(name.bytes().len() as u8);
     append(&mut head, name.bytes());
-    head.push(kind_number(array.kind()));
-    append(&mut head, &word_bytes(array.limit()));
-    append(&mut head, &word_bytes(array.len()));
+    head.push(kind_number(kind));
+    append(&mut head, &word_bytes(limit));
+    append(&mut head, &word_bytes(count));
     head
 }
 
@@ -165,7 +183,7 @@ fn append(head: &mut ArrayVec<u8, MAX_HEAD_LEN>, bytes: &[u8])
 }
 
 // The number of a kind in dumps. (This project's own.)
-fn kind_number(kind: Kind) -> u8
+pub(crate) fn kind_number(kind: Kind) -> u8
     ensures { result ≡ kind_number kind }
 {
     match kind {

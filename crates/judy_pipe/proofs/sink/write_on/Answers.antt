@@ -20,7 +20,9 @@ loop-count-preserved g c =
     record {
       begun = omega (arith, c.loop-count.invariant.begun);
       within = omega arith;
-      taken = rw c.unwrap_or.ensures (c.write.ensures.taken ∙ ap (λ known. grown known (take (result_unwrap_or c.write.result 0) piece)) c.loop-count.invariant.taken ∙ grown-on (g.W.Sink.taken c.args.sink.now) bytes c.args.count.now count (result_unwrap_or c.write.result 0) c.loop-count.invariant.begun);
+      taken =
+          rw c.unwrap_or.ensures (c.write.ensures.taken ∙ ap (λ known. grown known (take (result_unwrap_or c.write.result 0) piece)) c.loop-count.invariant.taken ∙
+          grown-on (g.W.Sink.taken c.args.sink.now) bytes c.args.count.now count (result_unwrap_or c.write.result 0) c.loop-count.invariant.begun);
       failures = omega (arith, ap (λ t. t.failures) c.write.ensures.tally);
       before = c.loop-count.invariant.before;
     }

@@ -20,15 +20,18 @@ returns-in_err-put g c =
 
 pub returns-in-Judy1 : goal.returns-in-Judy1
 returns-in-Judy1 g c =
-    array_goes_on (format_of c.args.version) c.deref.result.now c.args.name.now (value_of c.args.array.now) (c.deref.ensures.0 ∙ c.array_head.ensures) _ (judy1 (array_of c.in-Judy1.set)) _ _ c.write_set.result (ap value_of c.in-Judy1.is) c.in_ok-put.ensures c.write_set.ensures
+    array_goes_on (format_of c.args.version) c.deref.result.now c.args.name.now (value_of c.args.array.now) (c.deref.ensures.0 ∙ c.array_head.ensures) _
+    (judy1 (array_of c.in-Judy1.set)) _ _ c.write_set.result (ap value_of c.in-Judy1.is) c.in_ok-put.ensures c.write_set.ensures
 
 pub returns-in-JudyL : goal.returns-in-JudyL
 returns-in-JudyL g c =
-    array_goes_on (format_of c.args.version) c.deref.result.now c.args.name.now (value_of c.args.array.now) (c.deref.ensures.0 ∙ c.array_head.ensures) _ (judyl (array_of c.in-JudyL.words)) _ _ c.write_words.result (ap value_of c.in-JudyL.is) c.in_ok-put.ensures c.write_words.ensures
+    array_goes_on (format_of c.args.version) c.deref.result.now c.args.name.now (value_of c.args.array.now) (c.deref.ensures.0 ∙ c.array_head.ensures) _
+    (judyl (array_of c.in-JudyL.words)) _ _ c.write_words.result (ap value_of c.in-JudyL.is) c.in_ok-put.ensures c.write_words.ensures
 
 pub returns-in-JudySl : goal.returns-in-JudySl
 returns-in-JudySl g c =
-    array_goes_on (format_of c.args.version) c.deref.result.now c.args.name.now (value_of c.args.array.now) (c.deref.ensures.0 ∙ c.array_head.ensures) _ (judysl c.in-JudySl.strings) _ _ c.write_strings.result (ap value_of c.in-JudySl.is) c.in_ok-put.ensures c.write_strings.ensures
+    array_goes_on (format_of c.args.version) c.deref.result.now c.args.name.now (value_of c.args.array.now) (c.deref.ensures.0 ∙ c.array_head.ensures) _
+    (judysl c.in-JudySl.strings) _ _ c.write_strings.result (ap value_of c.in-JudySl.is) c.in_ok-put.ensures c.write_strings.ensures
 
 pub unreachable-requires : goal.unreachable-requires
 unreachable-requires g c =
@@ -43,5 +46,6 @@ returns-in-Some g c =
     let list = entries_by length_order c.in-JudyHs.field-0.map in
     let there = c.requires.sorted list (ap sorted_in c.in-JudyHs.is) in
     let same : pairs_in c.in-Some.keys.now ≡ list = same_Some (pairs_in c.in-Some.keys.now) list (sym (ap (λ keys. option_map pairs_in (option_copied keys)) c.in-Some.is) ∙ there) in
-    array_goes_on (format_of c.args.version) c.deref.result.now c.args.name.now (value_of c.args.array.now) (c.deref.ensures.0 ∙ c.array_head.ensures) before (judyhs c.in-JudyHs.field-0) mid after c.write.result (ap value_of c.in-JudyHs.is) c.in_ok-put.ensures
+    array_goes_on (format_of c.args.version) c.deref.result.now c.args.name.now (value_of c.args.array.now) (c.deref.ensures.0 ∙ c.array_head.ensures) before
+    (judyhs c.in-JudyHs.field-0) mid after c.write.result (ap value_of c.in-JudyHs.is) c.in_ok-put.ensures
     (subst (λ pairs. Wrote (flat_map (λ (entry : List ℕ × ℕ). text.string entry.0 ++ text.word entry.1) pairs) mid c.write.result after) same c.write.ensures)

@@ -18,7 +18,8 @@ returns-in_err-put_word g c =
     let before = sunk (g.W.Sink.taken c.args.sink.now) (g.W.Sink.tally c.args.sink.now).failures in
     let mid = sunk (g.W.Sink.taken c.keys.sink) (g.W.Sink.tally c.keys.sink).failures in
     let after = sunk (g.W.Sink.taken c.put_word.new.sink) (g.W.Sink.tally c.put_word.new.sink).failures in
-    let all = ap (flat_map text.word) (sym (c.keys.invariant.0 ∙ ap (λ left. c.keys.yielded ++ left) c.in-Some.ensures.steps)) ∙ flat_map-map text.word (λ (entry : ℕ × ℕ). entry.0) (entries c.args.set.now.map) in
+    let all = ap (flat_map text.word) (sym (c.keys.invariant.0 ∙ ap (λ left. c.keys.yielded ++ left) c.in-Some.ensures.steps)) ∙
+    flat_map-map text.word (λ (entry : ℕ × ℕ). entry.0) (entries c.args.set.now.map) in
     wrote_err _ before after _ c.from_residual.result c.from_residual.ensures.1
     (subst (λ (bytes : List ℕ). WroteFront bytes before after) all
     (wrote_part text.word before c.keys.yielded c.next.new.self c.in-Some.key mid after c.keys.invariant.1 c.in_err-put_word.ensures))

@@ -17,7 +17,8 @@ pub returns-in_err-put : goal.returns-in_err-put
 returns-in_err-put g c =
     let before = sunk (g.W.Sink.taken c.args.sink.now) (g.W.Sink.tally c.args.sink.now).failures in
     let after = sunk (g.W.Sink.taken c.put.new.sink) (g.W.Sink.tally c.put.new.sink).failures in
-    wrote_err _ before after _ c.from_residual.result c.from_residual.ensures.1 (dump_stopped_early (format_of c.args.version) c.args.shelf.now before c.heading.result c.heading.ensures after c.in_err-put.ensures)
+    wrote_err _ before after _ c.from_residual.result c.from_residual.ensures.1 (dump_stopped_early (format_of c.args.version) c.args.shelf.now before c.heading.result
+    c.heading.ensures after c.in_err-put.ensures)
 
 pub returns-in_err-write_array : goal.returns-in_err-write_array
 returns-in_err-write_array g c =
@@ -27,7 +28,8 @@ returns-in_err-write_array g c =
     let after = sunk (g.W.Sink.taken c.write_array.new.sink) (g.W.Sink.tally c.write_array.new.sink).failures in
     wrote_err _ before after _ c.from_residual-in_err-write_array.result c.from_residual-in_err-write_array.ensures.1
     (dump_stopped (format_of c.args.version) entries before after
-    (written_stop (array_text (format_of c.args.version)) (store_of entries) (headed (format_of c.args.version) entries before) c.arrays.place (c.in-Some.name.now, value_of c.in-Some.array.now) mid after c.arrays.invariant.2
+    (written_stop (array_text (format_of c.args.version)) (store_of entries) (headed (format_of c.args.version) entries before) c.arrays.place
+    (c.in-Some.name.now, value_of c.in-Some.array.now) mid after c.arrays.invariant.2
     (stored_at (format_of c.args.version) entries c.arrays.place c.in-Some.name.now c.in-Some.array.now c.in-Some.ensures.entry) c.in_err-write_array.ensures))
 
 pub arrays-preserved : goal.arrays-preserved
@@ -40,10 +42,12 @@ arrays-preserved g c =
     let counted = lists_counted entries c.arrays.place (c.in-Some.name.now, c.in-Some.array.now) at in
     let so_far = c.arrays.invariant.0 in
     let few = c.arrays.invariant.1 in (
-      ap (λ n. n + c.list_count-listed.result) so_far ∙ ap (λ n. length (sorted_lists (take c.arrays.place entries)) + n) c.list_count-listed.ensures.count ∙ sym counted ∙ ap (λ n. length (sorted_lists (take n entries))) (sym (add-one c.arrays.place)),
+      ap (λ n. n + c.list_count-listed.result) so_far ∙ ap (λ n. length (sorted_lists (take c.arrays.place entries)) + n) c.list_count-listed.ensures.count ∙
+          sym counted ∙ ap (λ n. length (sorted_lists (take n entries))) (sym (add-one c.arrays.place)),
       omega (arith, few, c.list_count-listed.ensures.most),
       subst (λ place. Written (array_text (format_of c.args.version)) (store_of entries) (headed (format_of c.args.version) entries before) place after) (sym (add-one c.arrays.place))
-          (written_more (array_text (format_of c.args.version)) (store_of entries) (headed (format_of c.args.version) entries before) c.arrays.place (c.in-Some.name.now, value_of c.in-Some.array.now) mid after c.arrays.invariant.2
+          (written_more (array_text (format_of c.args.version)) (store_of entries) (headed (format_of c.args.version) entries before) c.arrays.place
+          (c.in-Some.name.now, value_of c.in-Some.array.now) mid after c.arrays.invariant.2
           (stored_at (format_of c.args.version) entries c.arrays.place c.in-Some.name.now c.in-Some.array.now c.in-Some.ensures.entry) c.in_ok-write_array.ensures),
     )
 
@@ -70,7 +74,8 @@ returns g c =
     let entries = c.args.shelf.now in
     let before = sunk (g.W.Sink.taken c.args.sink.now) (g.W.Sink.tally c.args.sink.now).failures in
     let now = sunk (g.W.Sink.taken c.arrays.sink) (g.W.Sink.tally c.arrays.sink).failures in
-    dump_done (format_of c.args.version) entries before now (written_all (array_text (format_of c.args.version)) (store_of entries) (headed (format_of c.args.version) entries before) c.arrays.place now c.arrays.invariant.2 (not_stored_at (format_of c.args.version) entries c.arrays.place c.in_default.ensures.entry))
+    dump_done (format_of c.args.version) entries before now (written_all (array_text (format_of c.args.version)) (store_of entries)
+    (headed (format_of c.args.version) entries before) c.arrays.place now c.arrays.invariant.2 (not_stored_at (format_of c.args.version) entries c.arrays.place c.in_default.ensures.entry))
 
 pub arrays-init : goal.arrays-init
 arrays-init g c = search rules

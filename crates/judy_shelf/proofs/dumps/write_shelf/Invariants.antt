@@ -12,7 +12,8 @@ use Rattle.judy_shelf.proofs.dumps.write_shelf.Given as goal
 abbrev pub invariant-arrays : goal.invariant-arrays
 invariant-arrays g l =
     (l.listed ≡ length (sorted_lists (take l.place l.shelf))) × (l.listed ≤ l.place)
-    × Written (array_text (format_of l.version)) (store_of l.shelf) (headed (format_of l.version) l.shelf (sunk (g.W.Sink.taken l.fn.sink) (g.W.Sink.tally l.fn.sink).failures)) l.place (sunk (g.W.Sink.taken l.sink) (g.W.Sink.tally l.sink).failures)
+    × Written (array_text (format_of l.version)) (store_of l.shelf) (headed (format_of l.version) l.shelf (sunk (g.W.Sink.taken l.fn.sink) (g.W.Sink.tally l.fn.sink).failures)) l.place
+    (sunk (g.W.Sink.taken l.sink) (g.W.Sink.tally l.sink).failures)
 
 abbrev pub decreases-arrays : goal.decreases-arrays
 decreases-arrays g l = length l.shelf - l.place

@@ -22,7 +22,9 @@ keys-init g c =
     let m = c.args.strings.now.map in
     let old = c.cursor-cursor.result.key in (
       0,
-      is_at m 0 old c.first-next.new.self.key (first m old) c.first-next.result (ap (first m) c.cursor-cursor.ensures.key ∙ walk_first_string m) (c.first-next.ensures.key ∙ ap (λ (map : FinMap byte_order ℕ). unwrap_or (first map old) old) c.cursor-cursor.ensures.map) (c.first-next.ensures.value ∙ ap (λ (map : FinMap byte_order ℕ). value_found map (first map old)) c.cursor-cursor.ensures.map),
+      is_at m 0 old c.first-next.new.self.key (first m old) c.first-next.result (ap (first m) c.cursor-cursor.ensures.key ∙ walk_first_string m)
+          (c.first-next.ensures.key ∙ ap (λ (map : FinMap byte_order ℕ). unwrap_or (first map old) old) c.cursor-cursor.ensures.map)
+          (c.first-next.ensures.value ∙ ap (λ (map : FinMap byte_order ℕ). value_found map (first map old)) c.cursor-cursor.ensures.map),
       written_none (entry_text (format_of c.args.version)) (beside_before [] (entries m)) (sunk (g.W.Sink.taken c.args.sink.now) (g.W.Sink.tally c.args.sink.now).failures),
       ap (λ last. unwrap_or last []) c.new-last.ensures ∙ sym (key_before_first [] (entries m)),
       c.first-next.ensures.map ∙ c.cursor-cursor.ensures.map,
@@ -84,7 +86,9 @@ keys-preserved g c =
     let keyed = text.string_key version earlier key in
     let told = ap (λ b. text.string_key version b c.key.result.now) (c.front.ensures.bytes ∙ c.keys.invariant.3) ∙ ap (text.string_key version earlier) c.key.ensures.key in (
       suc place,
-      is_at m (suc place) key c.next-next.new.self.key (next m key) c.next-next.result (walk_on_string m place key here.0) (c.next-next.ensures.key ∙ ap (λ (map : FinMap byte_order ℕ). unwrap_or (next map key) key) c.keys.invariant.4) (c.next-next.ensures.value ∙ ap (λ (map : FinMap byte_order ℕ). value_found map (next map key)) c.keys.invariant.4),
+      is_at m (suc place) key c.next-next.new.self.key (next m key) c.next-next.result (walk_on_string m place key here.0)
+          (c.next-next.ensures.key ∙ ap (λ (map : FinMap byte_order ℕ). unwrap_or (next map key) key) c.keys.invariant.4)
+          (c.next-next.ensures.value ∙ ap (λ (map : FinMap byte_order ℕ). value_found map (next map key)) c.keys.invariant.4),
       written_more (entry_text version) (beside_before [] (entries m)) before place (earlier, (key, value)) mid after c.keys.invariant.2 (beside_at [] (entries m) place (key, value) at)
           (wrote_both keyed (text.word value) mid half after (subst (λ t. WroteAll t mid half) told c.in_ok-put_string_after.ensures) c.in_ok-put_word.ensures),
       ap (λ last. unwrap_or last []) c.keep.ensures ∙ c.key-in-Some.ensures.key ∙ sym (key_before_next [] (entries m) place (key, value) at),
@@ -99,7 +103,9 @@ keys-smaller g c =
     let place = c.keys.invariant.0 in
     let here = subst (λ o. IsAt m place key o) c.in-Some.is c.keys.invariant.1 in
     let after = c.next-next.new.self.key in
-    let there = is_at m (suc place) key after (next m key) c.next-next.result (walk_on_string m place key here.0) (c.next-next.ensures.key ∙ ap (λ (map : FinMap byte_order ℕ). unwrap_or (next map key) key) c.keys.invariant.4) (c.next-next.ensures.value ∙ ap (λ (map : FinMap byte_order ℕ). value_found map (next map key)) c.keys.invariant.4) in
+    let there = is_at m (suc place) key after (next m key) c.next-next.result (walk_on_string m place key here.0)
+    (c.next-next.ensures.key ∙ ap (λ (map : FinMap byte_order ℕ). unwrap_or (next map key) key) c.keys.invariant.4)
+    (c.next-next.ensures.value ∙ ap (λ (map : FinMap byte_order ℕ). value_found map (next map key)) c.keys.invariant.4) in
     subst (λ o. to_come m after c.next-next.result < to_come m key o) (sym c.in-Some.is) (falls m place key after value c.next-next.result here there)
 
 pub returns : goal.returns

@@ -13,7 +13,8 @@ use Rattle.judy_shelf.proofs.dumps.write_strings.Given as goal
 abbrev pub invariant-keys : goal.invariant-keys
 invariant-keys g l =
     (place : ℕ) × IsAt l.strings.map place l.cursor.key l.next
-    × Written (λ beside. text.string_key (format_of l.version) beside.0 beside.1.0 ++ text.word beside.1.1) (beside_before [] (entries l.strings.map)) (sunk (g.W.Sink.taken l.fn.sink) (g.W.Sink.tally l.fn.sink).failures) place (sunk (g.W.Sink.taken l.sink) (g.W.Sink.tally l.sink).failures)
+    × Written (λ beside. text.string_key (format_of l.version) beside.0 beside.1.0 ++ text.word beside.1.1) (beside_before [] (entries l.strings.map))
+    (sunk (g.W.Sink.taken l.fn.sink) (g.W.Sink.tally l.fn.sink).failures) place (sunk (g.W.Sink.taken l.sink) (g.W.Sink.tally l.sink).failures)
     × (unwrap_or (last_key l.last) [] ≡ key_before [] (entries l.strings.map) place)
     × (l.cursor.map ≡ l.strings.map)
 

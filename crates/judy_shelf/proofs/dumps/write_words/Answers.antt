@@ -9,8 +9,10 @@ use Rattle.judy_shelf.proofs.WalkLemmas.{wrote_nothing, wrote_more, wrote_part}
 use Rattle.judy_shelf.proofs.dumps.write_words.Goals as goal
 
 pub entries-init : goal.entries-init
-entries-init g c =
-    (sym c.into_iter-key-iterator.ensures.into_iter_gives, wrote_nothing (λ (entry : ℕ × ℕ). text.word entry.0 ++ text.word entry.1) (sunk (g.W.Sink.taken c.args.sink.now) (g.W.Sink.tally c.args.sink.now).failures))
+entries-init g c = (
+  sym c.into_iter-key-iterator.ensures.into_iter_gives,
+  wrote_nothing (λ (entry : ℕ × ℕ). text.word entry.0 ++ text.word entry.1) (sunk (g.W.Sink.taken c.args.sink.now) (g.W.Sink.tally c.args.sink.now).failures),
+)
 
 pub returns-in_err-put_entry : goal.returns-in_err-put_entry
 returns-in_err-put_entry g c =

@@ -9,4 +9,5 @@ use Rattle.judy_shelf.proofs.dumps.write_words.Given as goal
 abbrev pub invariant-entries : goal.invariant-entries
 invariant-entries g l =
     (entries l.words.map ≡ l.yielded ++ l.key-iterator)
-    × WroteAll (flat_map (λ entry. text.word entry.0 ++ text.word entry.1) l.yielded) (sunk (g.W.Sink.taken l.fn.sink) (g.W.Sink.tally l.fn.sink).failures) (sunk (g.W.Sink.taken l.sink) (g.W.Sink.tally l.sink).failures)
+    × WroteAll (flat_map (λ entry. text.word entry.0 ++ text.word entry.1) l.yielded) (sunk (g.W.Sink.taken l.fn.sink) (g.W.Sink.tally l.fn.sink).failures)
+    (sunk (g.W.Sink.taken l.sink) (g.W.Sink.tally l.sink).failures)

@@ -26,7 +26,8 @@ returns-in_default-clause-read g c =
     let after = drawn (g.R.Source.given c.read_some.new.source) (g.R.Source.ended c.read_some.new.source) (g.R.Source.tally c.read_some.new.source).failures in
     let all : c.in_ok-count.count ≡ length room = c.if-count-room.true in
     let full : take c.in_ok-count.count room ≡ room = take_all c.in_ok-count.count room (omega arith) in
-    room_full room (length c.args.room.now) before after (c.in_ok-count.ensures.given ∙ ap (grown (g.R.Source.given c.args.source.now)) full) (bytes_from_each room (λ i. let f = c.type_inv.room i in omega (arith, f))) c.read_some.auto.room c.in_ok-count.ensures.failures
+    room_full room (length c.args.room.now) before after (c.in_ok-count.ensures.given ∙ ap (grown (g.R.Source.given c.args.source.now)) full)
+    (bytes_from_each room (λ i. let f = c.type_inv.room i in omega (arith, f))) c.read_some.auto.room c.in_ok-count.ensures.failures
 
 pub returns-in_default-2-clause-read : goal.returns-in_default-2-clause-read
 returns-in_default-2-clause-read g c =
@@ -45,8 +46,10 @@ returns-in_default-2-clause-read g c =
     let total : count + left ≡ length c.args.room.now = omega arith in
     let filled = end_filled count room piece within long in
     let all = bytes_from_each (put_mid count left room piece) (λ i. let f = c.type_inv.room i in omega (arith, f)) in
-    let are = subst (All (λ byte. byte < 256)) (take_at (take count room) piece count front) (All-take (λ byte. byte < 256) count (take count room ++ piece) (subst (All (λ byte. byte < 256)) filled all)) in
+    let are = subst (All (λ byte. byte < 256)) (take_at (take count room) piece count front) (All-take (λ byte. byte < 256) count (take count room ++ piece)
+    (subst (All (λ byte. byte < 256)) filled all)) in
     let far = piece_read (take count room) count left front before mid c.in_ok-count.ensures.given are c.in_ok-count.ensures.failures in
-    let read = left_read (take count room) count left front piece before mid after c.read_pieces.result far (subst (λ n. Reads (λ _. piece) (bytes n) mid c.read_pieces.result after) rest c.read_pieces.ensures.read) in
+    let read = left_read (take count room) count left front piece before mid after c.read_pieces.result far
+    (subst (λ n. Reads (λ _. piece) (bytes n) mid c.read_pieces.result after) rest c.read_pieces.ensures.read) in
     subst (λ n. Reads (λ _. put_mid count left room piece) (bytes n) before c.read_pieces.result after) total
     (subst (λ r. Reads (λ _. r) (bytes (count + left)) before c.read_pieces.result after) (sym filled) read)

@@ -41,7 +41,8 @@ returns-in-0-clause-read g c =
     let end : gave_end {E = PipeFailed} (Ok c.in_ok-count.count) (length (take (length room - filled) (drop filled room))) ≡ true =
     (λ t. (count t == 0) && nat_lt 0 (length (take (length room - filled) (drop filled room)))) ∙ lt-ltb 0 (length (take (length room - filled) (drop filled room))) some in
     room_cut room filled before after given c.loop-filled.invariant.bytes (g.R.Source.ended c.loop-filled.source) (length c.args.room.now)
-    (subst (λ n. filled < n) c.loop-filled.invariant.long inside) c.loop-filled.invariant.within (c.in_ok-count.ensures.ended ∙ ap (told (g.R.Source.ended c.loop-filled.source)) end) (c.in_ok-count.ensures.failures ∙ c.loop-filled.invariant.failures)
+    (subst (λ n. filled < n) c.loop-filled.invariant.long inside) c.loop-filled.invariant.within (c.in_ok-count.ensures.ended ∙ ap (told (g.R.Source.ended c.loop-filled.source)) end)
+    (c.in_ok-count.ensures.failures ∙ c.loop-filled.invariant.failures)
 
 pub loop-filled-preserved : goal.loop-filled-preserved
 loop-filled-preserved g c =
@@ -56,7 +57,10 @@ loop-filled-preserved g c =
     record {
       within = within_room filled c.in_ok-count.count room piece inside long few;
       long = filled_long filled c.in_ok-count.count room piece inside long ∙ c.loop-filled.invariant.long;
-      given = c.in_ok-count.ensures.given ∙ ap (λ known. grown known (take c.in_ok-count.count piece)) c.loop-filled.invariant.given ∙ grown-grown (g.R.Source.given c.args.source.now) (take filled room) (take c.in_ok-count.count piece) ∙ ap (grown (g.R.Source.given c.args.source.now)) (sym (filled_more filled c.in_ok-count.count room piece inside long few));
+      given =
+          c.in_ok-count.ensures.given ∙ ap (λ known. grown known (take c.in_ok-count.count piece)) c.loop-filled.invariant.given ∙
+          grown-grown (g.R.Source.given c.args.source.now) (take filled room) (take c.in_ok-count.count piece) ∙
+          ap (grown (g.R.Source.given c.args.source.now)) (sym (filled_more filled c.in_ok-count.count room piece inside long few));
       bytes = All-take (λ byte. byte < 256) (filled + c.in_ok-count.count) all (bytes_from_each all (λ i. let f = c.type_inv.room i in omega (arith, f)));
       failures = c.in_ok-count.ensures.failures ∙ c.loop-filled.invariant.failures;
     }
@@ -66,8 +70,10 @@ returns-in_err-count-clause-read g c =
     let before = drawn (g.R.Source.given c.args.source.now) (g.R.Source.ended c.args.source.now) (g.R.Source.tally c.args.source.now).failures in
     let after = drawn (g.R.Source.given c.read_some.new.source) (g.R.Source.ended c.read_some.new.source) (g.R.Source.tally c.read_some.new.source).failures in
     reads_err _ (bytes (length c.args.room.now)) before after Read c.from_residual.result c.from_residual.ensures.1 (
-    room_broken c.loop-filled.room c.loop-filled.filled before after (c.in_err-count.ensures.given ∙ grown_nothing (g.R.Source.given c.loop-filled.source) ∙ c.loop-filled.invariant.given) c.loop-filled.invariant.bytes (length c.args.room.now)
-    (subst (λ n. c.loop-filled.filled < n) c.loop-filled.invariant.long c.loop-filled-test.true) c.loop-filled.invariant.within (c.in_err-count.ensures.failures ∙ ap (λ n. n + 1) c.loop-filled.invariant.failures)
+    room_broken c.loop-filled.room c.loop-filled.filled before after (c.in_err-count.ensures.given ∙ grown_nothing (g.R.Source.given c.loop-filled.source) ∙ c.loop-filled.invariant.given)
+    c.loop-filled.invariant.bytes (length c.args.room.now)
+    (subst (λ n. c.loop-filled.filled < n) c.loop-filled.invariant.long c.loop-filled-test.true) c.loop-filled.invariant.within
+    (c.in_err-count.ensures.failures ∙ ap (λ n. n + 1) c.loop-filled.invariant.failures)
     )
 
 pub returns-clause-read : goal.returns-clause-read
@@ -76,4 +82,5 @@ returns-clause-read g c =
     let before = drawn (g.R.Source.given c.args.source.now) (g.R.Source.ended c.args.source.now) (g.R.Source.tally c.args.source.now).failures in
     let after = drawn (g.R.Source.given c.loop-filled.source) (g.R.Source.ended c.loop-filled.source) (g.R.Source.tally c.loop-filled.source).failures in
     let full : take c.loop-filled.filled room ≡ room = take_all c.loop-filled.filled room (omega arith) in
-    room_full room (length c.args.room.now) before after (c.loop-filled.invariant.given ∙ ap (grown (g.R.Source.given c.args.source.now)) full) (subst (All (λ byte. byte < 256)) full c.loop-filled.invariant.bytes) c.loop-filled.invariant.long c.loop-filled.invariant.failures
+    room_full room (length c.args.room.now) before after (c.loop-filled.invariant.given ∙ ap (grown (g.R.Source.given c.args.source.now)) full)
+    (subst (All (λ byte. byte < 256)) full c.loop-filled.invariant.bytes) c.loop-filled.invariant.long c.loop-filled.invariant.failures

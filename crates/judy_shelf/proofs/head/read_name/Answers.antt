@@ -15,5 +15,6 @@ returns-clause-read g c =
     let len = c.in_ok-len.field-0 in
     let zeros : List ℕ = replicate 32 0 in
     let most = c.in_ok-len.ensures.most in
-    reads_then (field (number 1) ((is_name_length, bad_name) ∷ [])) (λ length. field (bytes length) (name_checks (store_of c.args.shelf.now))) len before mid c.in_ok-len.ensures.read (λ name. name) after c.read_name_text.result
+    reads_then (field (number 1) ((is_name_length, bad_name) ∷ [])) (λ length. field (bytes length) (name_checks (store_of c.args.shelf.now))) len before mid c.in_ok-len.ensures.read
+    (λ name. name) after c.read_name_text.result
     (subst (λ n. Reads (λ name. name) (field (bytes n) (name_checks (store_of c.args.shelf.now))) mid c.read_name_text.result after) (length-take-le len zeros most) c.read_name_text.ensures.read)

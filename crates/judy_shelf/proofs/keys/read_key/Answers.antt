@@ -35,4 +35,5 @@ returns-clause-read g c =
     let same : length piece ≡ len = c.in_ok-read_bytes.ensures.len ∙ long in
     let shown : piece ≡ take len (piece ++ drop len c.args.room.now) = sym (take_at piece (drop len c.args.room.now) len same) in
     subst (λ key. ReadsValue grammar.string key before after) shown
-    (value_then (field (number 2) checks) (λ length. bytes length) len before mid c.in_ok-len.ensures.read piece after (subst (λ n. ReadsValue (bytes n) piece mid after) long c.in_ok-read_bytes.ensures.read))
+    (value_then (field (number 2) checks) (λ length. bytes length) len before mid c.in_ok-len.ensures.read piece after
+    (subst (λ n. ReadsValue (bytes n) piece mid after) long c.in_ok-read_bytes.ensures.read))

@@ -15,9 +15,11 @@ returns-in_err-array-clause-read g c =
     let fault = c.in_err-array.field-0.0 in
     let earlier = store_of c.args.shelf.now in
     reads_err (λ made. (made.0, value_of made.1)) (grammar.array (format_of c.args.version) earlier) before two fault c.from_residual-in_err-array.result c.from_residual-in_err-array.ensures.1
-    (fault_behind (grammar.name earlier) (λ name. grammar.body (format_of c.args.version) >>= λ held. done (name, held)) c.in_ok-name.name before one c.in_ok-name.ensures.read (InBody (format_of c.args.version)) (InArray (format_of c.args.version) earlier)
+    (fault_behind (grammar.name earlier) (λ name. grammar.body (format_of c.args.version) >>= λ held. done (name, held)) c.in_ok-name.name before one c.in_ok-name.ensures.read
+    (InBody (format_of c.args.version)) (InArray (format_of c.args.version) earlier)
     (begins_then (grammar.name earlier) c.in_ok-name.name before one c.in_ok-name.ensures.read (λ _. InBody (format_of c.args.version))) (cause_of fault) two
-    (fault_within (grammar.body (format_of c.args.version)) (λ held. done (c.in_ok-name.name, held)) (InBody (format_of c.args.version)) (InBody (format_of c.args.version)) (λ input inside. inside) (cause_of fault) one two c.in_err-array.ensures))
+    (fault_within (grammar.body (format_of c.args.version)) (λ held. done (c.in_ok-name.name, held)) (InBody (format_of c.args.version)) (InBody (format_of c.args.version))
+    (λ input inside. inside) (cause_of fault) one two c.in_err-array.ensures))
 
 pub returns-clause-read : goal.returns-clause-read
 returns-clause-read g c =

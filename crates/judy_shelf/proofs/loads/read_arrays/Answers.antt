@@ -31,7 +31,8 @@ returns-in-Err g c =
     let mid = drawn (g.R.Source.given c.arrays.source) (g.R.Source.ended c.arrays.source) (g.R.Source.tally c.arrays.source).failures in
     let after = drawn (g.R.Source.given c.read_array.new.source) (g.R.Source.ended c.read_array.new.source) (g.R.Source.tally c.read_array.new.source).failures in
     let some : c.arrays.counter < c.args.count = omega arith in
-    arrays_memory (format_of c.args.version) c.arrays.counter (store_of c.arrays.shelf) before mid c.arrays.invariant.1 after c.args.count some c.in_ok-name.name (value_of c.in_ok-name.array) c.in_ok-name.ensures.read
+    arrays_memory (format_of c.args.version) c.arrays.counter (store_of c.arrays.shelf) before mid c.arrays.invariant.1 after c.args.count some c.in_ok-name.name
+    (value_of c.in_ok-name.array) c.in_ok-name.ensures.read
 
 pub arrays-preserved : goal.arrays-preserved
 arrays-preserved g c =
@@ -53,4 +54,5 @@ returns g c =
     let before = drawn (g.R.Source.given c.args.source.now) (g.R.Source.ended c.args.source.now) (g.R.Source.tally c.args.source.now).failures in
     let now = drawn (g.R.Source.given c.arrays.source) (g.R.Source.ended c.arrays.source) (g.R.Source.tally c.arrays.source).failures in
     let all : c.arrays.counter ≡ c.args.count = omega arith in
-    subst (λ n. ReadsValue (grammar.arrays (format_of c.args.version) [] n) (store_of c.arrays.shelf) before now) all (arrays_whole (format_of c.args.version) c.arrays.counter (store_of c.arrays.shelf) before now c.arrays.invariant.1)
+    subst (λ n. ReadsValue (grammar.arrays (format_of c.args.version) [] n) (store_of c.arrays.shelf) before now) all
+    (arrays_whole (format_of c.args.version) c.arrays.counter (store_of c.arrays.shelf) before now c.arrays.invariant.1)

@@ -9,4 +9,5 @@ use Rattle.judy_shelf.proofs.loads.read_arrays.Given as goal
 abbrev pub invariant-arrays : goal.invariant-arrays
 invariant-arrays g l =
     (length l.shelf ≤ l.counter)
-    × ArraysRead (format_of l.version) l.counter (store_of l.shelf) (drawn (g.R.Source.given l.fn.source) (g.R.Source.ended l.fn.source) (g.R.Source.tally l.fn.source).failures) (drawn (g.R.Source.given l.source) (g.R.Source.ended l.source) (g.R.Source.tally l.source).failures)
+    × ArraysRead (format_of l.version) l.counter (store_of l.shelf) (drawn (g.R.Source.given l.fn.source) (g.R.Source.ended l.fn.source) (g.R.Source.tally l.fn.source).failures)
+    (drawn (g.R.Source.given l.source) (g.R.Source.ended l.source) (g.R.Source.tally l.source).failures)

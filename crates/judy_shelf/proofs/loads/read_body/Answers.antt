@@ -15,7 +15,8 @@ returns-in_err-limit g c =
     let fault = c.in_err-limit.field-0.0 in
     let kind = kind_number c.in_ok-kind.kind in
     reads_err value_of (grammar.body (format_of c.args.version)) before two fault c.from_residual-in_err-limit.result c.from_residual-in_err-limit.ensures.1
-    (fault_then grammar.kind (λ kind. grammar.limit >>= λ limit. grammar.key_count limit >>= λ count. grammar.contents (format_of c.args.version) kind limit count) kind before one c.in_ok-kind.ensures (cause_of fault) two
+    (fault_then grammar.kind (λ kind. grammar.limit >>= λ limit. grammar.key_count limit >>= λ count. grammar.contents (format_of c.args.version) kind limit count)
+    kind before one c.in_ok-kind.ensures (cause_of fault) two
     (fault_first grammar.limit (λ limit. grammar.key_count limit >>= λ count. grammar.contents (format_of c.args.version) kind limit count) (cause_of fault) one two c.in_err-limit.ensures.read))
 
 pub returns-in_err-count : goal.returns-in_err-count
@@ -28,8 +29,10 @@ returns-in_err-count g c =
     let kind = kind_number c.in_ok-kind.kind in
     let limit = c.in_ok-limit.limit in
     reads_err value_of (grammar.body (format_of c.args.version)) before three fault c.from_residual-in_err-count.result c.from_residual-in_err-count.ensures.1
-    (fault_then grammar.kind (λ kind. grammar.limit >>= λ limit. grammar.key_count limit >>= λ count. grammar.contents (format_of c.args.version) kind limit count) kind before one c.in_ok-kind.ensures (cause_of fault) three
-    (fault_then grammar.limit (λ limit. grammar.key_count limit >>= λ count. grammar.contents (format_of c.args.version) kind limit count) limit one two c.in_ok-limit.ensures.read (cause_of fault) three
+    (fault_then grammar.kind (λ kind. grammar.limit >>= λ limit. grammar.key_count limit >>= λ count. grammar.contents (format_of c.args.version) kind limit count)
+    kind before one c.in_ok-kind.ensures (cause_of fault) three
+    (fault_then grammar.limit (λ limit. grammar.key_count limit >>= λ count. grammar.contents (format_of c.args.version) kind limit count) limit one two c.in_ok-limit.ensures.read
+    (cause_of fault) three
     (fault_first (grammar.key_count limit) (λ count. grammar.contents (format_of c.args.version) kind limit count) (cause_of fault) two three c.in_err-count.ensures)))
 
 pub returns : goal.returns
@@ -42,8 +45,10 @@ returns g c =
     let kind = kind_number c.in_ok-kind.kind in
     let limit = c.in_ok-limit.limit in
     let count = c.in_ok-count.count in
-    reads_behind grammar.kind (λ kind. grammar.limit >>= λ limit. grammar.key_count limit >>= λ count. grammar.contents (format_of c.args.version) kind limit count) kind before one c.in_ok-kind.ensures
+    reads_behind grammar.kind (λ kind. grammar.limit >>= λ limit. grammar.key_count limit >>= λ count. grammar.contents (format_of c.args.version) kind limit count)
+    kind before one c.in_ok-kind.ensures
     (λ kind. Begins grammar.limit (λ limit. Begins (grammar.key_count limit) (λ count. AtSome (grammar.contents (format_of c.args.version) kind limit) count))) value_of four c.read_contents.result
     (reads_behind grammar.limit (λ limit. grammar.key_count limit >>= λ count. grammar.contents (format_of c.args.version) kind limit count) limit one two c.in_ok-limit.ensures.read
     (λ limit. Begins (grammar.key_count limit) (λ count. AtSome (grammar.contents (format_of c.args.version) kind limit) count)) value_of four c.read_contents.result
-    (reads_behind (grammar.key_count limit) (λ count. grammar.contents (format_of c.args.version) kind limit count) count two three c.in_ok-count.ensures (AtSome (grammar.contents (format_of c.args.version) kind limit)) value_of four c.read_contents.result c.read_contents.ensures))
+    (reads_behind (grammar.key_count limit) (λ count. grammar.contents (format_of c.args.version) kind limit count) count two three c.in_ok-count.ensures
+    (AtSome (grammar.contents (format_of c.args.version) kind limit)) value_of four c.read_contents.result c.read_contents.ensures))

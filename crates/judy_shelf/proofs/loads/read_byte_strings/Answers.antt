@@ -23,7 +23,8 @@ returns-in_err-value g c =
 
 pub returns-in-Err : goal.returns-in-Err
 returns-in-Err g c =
-    one_not_filled c.keys.invariant (take c.in_ok-len.len c.read_bytes_after.new.room) c.in_ok-len.ensures.above _ c.in_ok-len.ensures.read c.in_ok-value.value _ c.in_ok-value.ensures judyhs c.args.count (omega arith)
+    one_not_filled c.keys.invariant (take c.in_ok-len.len c.read_bytes_after.new.room) c.in_ok-len.ensures.above _ c.in_ok-len.ensures.read c.in_ok-value.value
+    _ c.in_ok-value.ensures judyhs c.args.count (omega arith)
 
 pub keys-preserved : goal.keys-preserved
 keys-preserved g c =

@@ -7,4 +7,5 @@ use Rattle.judy_shelf.proofs.loads.read_set.Given as goal
 abbrev pub invariant-keys : goal.invariant-keys
 invariant-keys g l =
     Filling word_keys (λ before. grammar.word) grammar.no_value l.fn.set.limit l.counter l.before l.set
-    (drawn (g.R.Source.given l.fn.source) (g.R.Source.ended l.fn.source) (g.R.Source.tally l.fn.source).failures) (drawn (g.R.Source.given l.source) (g.R.Source.ended l.source) (g.R.Source.tally l.source).failures)
+    (drawn (g.R.Source.given l.fn.source) (g.R.Source.ended l.fn.source) (g.R.Source.tally l.fn.source).failures)
+    (drawn (g.R.Source.given l.source) (g.R.Source.ended l.source) (g.R.Source.tally l.source).failures)

@@ -12,4 +12,5 @@ returns g c =
     let one = drawn (g.R.Source.given c.read_array_count.new.source) (g.R.Source.ended c.read_array_count.new.source) (g.R.Source.tally c.read_array_count.new.source).failures in
     let two = drawn (g.R.Source.given c.read_arrays.new.source) (g.R.Source.ended c.read_arrays.new.source) (g.R.Source.tally c.read_arrays.new.source).failures in
     let version = format_of c.args.version in
-    reads_behind grammar.array_count (λ count. grammar.arrays version [] count) c.in_ok-count.count before one c.in_ok-count.ensures.read (InArrays version) store_of two c.read_arrays.result c.read_arrays.ensures
+    reads_behind grammar.array_count (λ count. grammar.arrays version [] count) c.in_ok-count.count before one c.in_ok-count.ensures.read
+    (InArrays version) store_of two c.read_arrays.result c.read_arrays.ensures

@@ -12,7 +12,8 @@ pub keys-init : goal.keys-init
 keys-init g c =
     let before = drawn (g.R.Source.given c.args.source.now) (g.R.Source.ended c.args.source.now) (g.R.Source.tally c.args.source.now).failures in
     let array = c.args.strings in
-    subst (λ last. Filling string_keys (grammar.string_key (format_of c.args.version)) grammar.word array.limit 0 last array before before) (sym c.new-last.ensures) (none_filled array c.requires.empty before)
+    subst (λ last. Filling string_keys (grammar.string_key (format_of c.args.version)) grammar.word array.limit 0 last array before before) (sym c.new-last.ensures)
+    (none_filled array c.requires.empty before)
 
 pub returns-in_err-len : goal.returns-in_err-len
 returns-in_err-len g c = key_stopped c.keys.invariant judysl c.args.count (omega arith) judysl _ c.in_err-len.field-0.0 c.from_residual.result c.from_residual.ensures.1 c.in_err-len.ensures.read
@@ -24,7 +25,8 @@ returns-in_err-value g c =
 
 pub returns-in-Err : goal.returns-in-Err
 returns-in-Err g c =
-    one_not_filled c.keys.invariant (take c.in_ok-len.len c.read_string_after.new.room) c.in_ok-len.ensures.above _ c.in_ok-len.ensures.read c.in_ok-value.value _ c.in_ok-value.ensures judysl c.args.count (omega arith)
+    one_not_filled c.keys.invariant (take c.in_ok-len.len c.read_string_after.new.room) c.in_ok-len.ensures.above _ c.in_ok-len.ensures.read c.in_ok-value.value
+    _ c.in_ok-value.ensures judysl c.args.count (omega arith)
 
 pub keys-preserved : goal.keys-preserved
 keys-preserved g c =

@@ -9,4 +9,5 @@ use Rattle.judy_shelf.proofs.loads.read_strings.Given as goal
 abbrev pub invariant-keys : goal.invariant-keys
 invariant-keys g l =
     Filling string_keys (grammar.string_key (format_of l.version)) grammar.word l.fn.strings.limit l.counter (last_key l.last) l.strings
-    (drawn (g.R.Source.given l.fn.source) (g.R.Source.ended l.fn.source) (g.R.Source.tally l.fn.source).failures) (drawn (g.R.Source.given l.source) (g.R.Source.ended l.source) (g.R.Source.tally l.source).failures)
+    (drawn (g.R.Source.given l.fn.source) (g.R.Source.ended l.fn.source) (g.R.Source.tally l.fn.source).failures)
+    (drawn (g.R.Source.given l.source) (g.R.Source.ended l.source) (g.R.Source.tally l.source).failures)

@@ -7,27 +7,30 @@ use Rattle.judy_shelf.proofs.loads.read_words.Goals as goal
 pub keys-init : goal.keys-init
 keys-init g c = none_filled c.args.words c.requires.empty _
 
-pub returns-in_err-key : goal.returns-in_err-key
-returns-in_err-key g c =
+pub returns-in_err-key-clause-read : goal.returns-in_err-key-clause-read
+returns-in_err-key-clause-read g c =
     key_stopped c.keys.invariant judyl c.args.count (omega arith) (λ made. judyl (array_of made)) _ c.in_err-key.field-0.0 c.from_residual.result c.from_residual.ensures.1
     c.in_err-key.ensures.read
 
-pub returns-in_err-value : goal.returns-in_err-value
-returns-in_err-value g c =
-    value_stopped c.keys.invariant judyl c.args.count (omega arith) (λ made. judyl (array_of made)) _ c.in_err-value.field-0.0 c.from_residual-in_err-value.result c.from_residual-in_err-value.ensures.1
+pub returns-in_err-value-clause-read : goal.returns-in_err-value-clause-read
+returns-in_err-value-clause-read g c =
+    value_stopped c.keys.invariant judyl c.args.count (omega arith) (λ made. judyl (array_of made)) _ c.in_err-value.field-0.0 c.from_residual-in_err-value.result
+    c.from_residual-in_err-value.ensures.1
     c.in_ok-key.key _ c.in_ok-key.ensures.read c.in_err-value.ensures
 
-pub returns-in-Err : goal.returns-in-Err
-returns-in-Err g c = one_not_filled c.keys.invariant c.in_ok-key.key c.in_ok-key.ensures.above _ c.in_ok-key.ensures.read c.in_ok-value.value _ c.in_ok-value.ensures judyl c.args.count (omega arith)
+pub returns-in-Err-clause-read : goal.returns-in-Err-clause-read
+returns-in-Err-clause-read g c = one_not_filled c.keys.invariant c.in_ok-key.key c.in_ok-key.ensures.above _ c.in_ok-key.ensures.read c.in_ok-value.value _ c.in_ok-value.ensures judyl
+    c.args.count (omega arith)
 
 pub keys-preserved : goal.keys-preserved
 keys-preserved g c =
     let key = c.in_ok-key.key in
     let above = c.in_ok-key.ensures.above in
-    one_filled c.keys.invariant key above _ c.in_ok-key.ensures.read c.in_ok-value.value _ c.in_ok-value.ensures c.put.new.self (ap (λ a. a.limit) c.in-Ok.ensures) (ap (λ a. a.map) c.in-Ok.ensures ∙ put_is_insert c.keys.invariant key above c.in_ok-value.value)
+    one_filled c.keys.invariant key above _ c.in_ok-key.ensures.read c.in_ok-value.value _ c.in_ok-value.ensures c.put.new.self (ap (λ a. a.limit) c.in-Ok.ensures.put)
+    (ap (λ a. a.map) c.in-Ok.ensures.put ∙ put_is_insert c.keys.invariant key above c.in_ok-value.value)
 
-pub returns-in-Err-into_map : goal.returns-in-Err-into_map
-returns-in-Err-into_map g c = not_filled c.keys.invariant judyl c.args.count (omega arith)
+pub returns-in-Err-into_map-clause-read : goal.returns-in-Err-into_map-clause-read
+returns-in-Err-into_map-clause-read g c = not_filled c.keys.invariant judyl c.args.count (omega arith)
 
-pub returns-in-Ok-into_map : goal.returns-in-Ok-into_map
-returns-in-Ok-into_map g c = all_filled c.keys.invariant judyl c.args.count (omega arith) (array_of c.in-Ok-into_map.filled) c.in-Ok-into_map.ensures.array
+pub returns-in-Ok-into_map-clause-read : goal.returns-in-Ok-into_map-clause-read
+returns-in-Ok-into_map-clause-read g c = all_filled c.keys.invariant judyl c.args.count (omega arith) (array_of c.in-Ok-into_map.filled) c.in-Ok-into_map.ensures.array

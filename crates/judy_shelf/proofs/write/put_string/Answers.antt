@@ -9,7 +9,8 @@ returns-in_err-put g c =
     let before = sunk (g.W.Sink.taken c.args.sink.now) (g.W.Sink.tally c.args.sink.now).failures in
     let after = sunk (g.W.Sink.taken c.put.new.sink) (g.W.Sink.tally c.put.new.sink).failures in
     let long = low_bytes 2 (length c.args.key.now) in
-    wrote_err _ before after _ c.from_residual.result c.from_residual.ensures.1 (wrote_first long c.args.key.now before after (subst (λ p. WroteFront p before after) c.len_bytes.ensures c.in_err-put.ensures))
+    wrote_err _ before after _ c.from_residual.result c.from_residual.ensures.1 (wrote_first long c.args.key.now before after
+    (subst (λ p. WroteFront p before after) c.len_bytes.ensures c.in_err-put.ensures))
 
 pub returns : goal.returns
 returns g c =

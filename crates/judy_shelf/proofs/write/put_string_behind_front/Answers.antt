@@ -13,7 +13,8 @@ returns-in_err-put g c =
     let after = sunk (g.W.Sink.taken c.put.new.sink) (g.W.Sink.tally c.put.new.sink).failures in
     let shared = shared_length c.args.before.now c.args.key.now in
     let told = c.len_bytes.ensures ∙ ap (low_bytes 2) c.shared_len-shared.ensures.shared in
-    wrote_err _ before after _ c.from_residual.result c.from_residual.ensures.1 (wrote_first (low_bytes 2 shared) (text.string (drop shared c.args.key.now)) before after (subst (λ p. WroteFront p before after) told c.in_err-put.ensures))
+    wrote_err _ before after _ c.from_residual.result c.from_residual.ensures.1 (wrote_first (low_bytes 2 shared) (text.string (drop shared c.args.key.now)) before after
+    (subst (λ p. WroteFront p before after) told c.in_err-put.ensures))
 
 pub returns : goal.returns
 returns g c =
@@ -23,4 +24,5 @@ returns g c =
     let shared = shared_length c.args.before.now c.args.key.now in
     let told = c.len_bytes.ensures ∙ ap (low_bytes 2) c.shared_len-shared.ensures.shared in
     wrote_then (low_bytes 2 shared) (text.string (drop shared c.args.key.now)) before mid after c.put_string.result (subst (λ p. WroteAll p before mid) told c.in_ok-put.ensures)
-    (subst (λ key. Wrote (text.string key) mid c.put_string.result after) (take_rest c.args.key.now c.shared_len-shared.result ∙ ap (λ n. drop n c.args.key.now) c.shared_len-shared.ensures.shared) c.put_string.ensures)
+    (subst (λ key. Wrote (text.string key) mid c.put_string.result after) (take_rest c.args.key.now c.shared_len-shared.result ∙
+    ap (λ n. drop n c.args.key.now) c.shared_len-shared.ensures.shared) c.put_string.ensures)

@@ -1,0 +1,4 @@
+pub mod RoomLemmas
+pub mod DumpLemmas
+pub mod LoadLemmas
+pub mod EntryLemmas

@@ -1,0 +1,4 @@
+pub mod Rooms
+pub mod Sources
+pub mod Dumps
+pub mod Loads

@@ -1,0 +1,302 @@
+//! One array as the dump of a store that has it alone, written to the front of a room.
+
+ghost use Rattle.std.specs.Prelude.{◌≡◌, ◌<◌, ◌≤◌, ◌+◌, ◌^◌, ◌++◌, length, true, nat_le, IfOk, IfErr};
+ghost use Rattle.std.specs.FinMap as map;
+ghost use Rattle.std.specs.List.{flat_map, list_all};
+ghost use Rattle.judy_model.specs.Arrays.{judy1, judyl, judysl, judyhs};
+ghost use Rattle.judy_model.specs.DumpText as text;
+ghost use Rattle.judy_model.specs.DumpText.{jdy1};
+ghost use Rattle.judy_model.specs.WordBytes.{low_bytes};
+ghost use Rattle.judy_hs.specs.Listed.{entries_in};
+ghost use Rattle.judy_model.specs.declared.keys.TheConstants.{LONGEST_KEY};
+ghost use Rattle.judy_shelf.specs.Versions.{format_of};
+ghost use Rattle.judy_shelf.specs.Writes.{kind_number};
+ghost use Rattle.judy_saved.specs.Dumps.{head_text, set_text, map_text, strings_text, bytes_text, entry_text, is_short, IsUnsaid};
+ghost use Rattle.judy_saved.specs.Rooms.{Adds, IsSaved};
+
+use crate::room::put;
+use judy_hs::{ByteHash, HsEntry, JudyHs};
+use judy_model::keys::LONGEST_KEY;
+use judy_shelf::{Kind, LastKey, MAX_LIMIT, Name, Version, head_of, heading_of, shared_len};
+use judy_sl::JudySl;
+use judy_word::{Judy1, JudyL};
+use thiserror::Error;
+
+/// Why an array of byte strings isn't dumped. Nothing was written.
+#[derive(Clone, Copy, Debug, PartialEq, Eq, Error)]
+pub enum SaveError {
+    /// There is no memory to sort its keys.
+    #[error("out of memory")]
+    NoMemory,
+    /// A key has more than 1,024 bytes, which no dump can say.
+    #[error("a key is too long for a dump")]
+    LongKey,
+}
+
+/// Writes the dump of a set under a name to the front of a room where it fits, and answers how many bytes it has,
+/// whether it fits or not; where it doesn't, the room is as it was. So an empty room asks for the size alone, which
+/// takes no walk.
+///
+/// The dump is that of the store that has a set of these keys alone, with the limit 4,294,967,295, the most that a dump
+/// says: so the set has no more keys than that.
+pub fn dump_set(version: Version, name: &Name, set: &Judy1, room: &mut [u8]) -> usize
+    requires { map.len set.now.map ≤ 4294967295 }
+    ensures { IsSaved (set_text (format_of version) name.now set.now.map) room.old result room.new }
+{
+    let count = set.len();
+    let mut none = [];
+    let head = put_head(version, name, Kind::Judy1, count, &mut none);
+    let size = head + 8 * count as usize;
+    if size > room.len() {
+        return size;
+    }
+    write_set(version, name, set, room);
+    size
+}
+
+/// Writes the dump of a map from words under a name, as [`dump_set`] writes that of a set.
+pub fn dump_map(version: Version, name: &Name, words: &JudyL, room: &mut [u8]) -> usize
+    requires { map.len words.now.map ≤ 4294967295 }
+    ensures { IsSaved (map_text (format_of version) name.now words.now.map) room.old result
+        room.new }
+{
+    let count = words.len();
+    let mut none = [];
+    let head = put_head(version, name, Kind::JudyL, count, &mut none);
+    let size = head + 16 * count as usize;
+    if size > room.len() {
+        return size;
+    }
+    write_map(version, name, words, room);
+    size
+}
+
+/// Writes the dump of a map from strings under a name, as [`dump_set`] writes that of a set. Its size takes a walk
+/// through the keys, so two walks are made where it is written.
+pub fn dump_strings(version: Version, name: &Name, strings: &JudySl, room: &mut [u8]) -> usize
+    requires { map.len strings.now.map ≤ 4294967295 }
+    ensures { IsSaved (strings_text (format_of version) name.now strings.now.map) room.old result
+        room.new }
+{
+    let mut none = [];
+    let size = write_strings(version, name, strings, &mut none);
+    if size > room.len() {
+        return size;
+    }
+    write_strings(version, name, strings, room)
+}
+
+/// Writes the dump of a map from byte strings under a name, as [`dump_set`] writes that of a set. The keys are sorted
+/// first, also where the size alone is asked for: `NoMemory` where there is none for that. `LongKey` where a key has
+/// more than 1,024 bytes. The room is as it was then.
+pub fn dump_byte_strings<H: ByteHash + Drop>(
+    version: Version,
+    name: &Name,
+    bytes: &JudyHs<H>,
+    room: &mut [u8],
+) -> Result<usize, SaveError>
+    requires { map.len bytes.now.map ≤ 4294967295 }
+    ensures said { IfOk result (λ size.
+        IsSaved (bytes_text (format_of version) name.now bytes.now.map) room.old size room.new) }
+    ensures short { IfOk result (λ _. is_short bytes.now.map ≡ true) }
+    ensures refused { IfErr result (λ fault.
+        IsUnsaid bytes.now.map fault × (room.new ≡ room.old)) }
+{
+    let Ok(entries) = bytes.sorted() else {
+        return Err(SaveError::NoMemory);
+    };
+    if !are_short(&entries) {
+        return Err(SaveError::LongKey);
+    }
+    let mut none = [];
+    let count = bytes.len();
+    let size = write_byte_strings(version, name, count, &entries, &mut none);
+    if size > room.len() {
+        return Ok(size);
+    }
+    Ok(write_byte_strings(version, name, count, &entries, room))
+}
+
+// Writes what stands before the keys of one array.
+fn put_head(version: Version, name: &Name, kind: Kind, count: u64, room: &mut [u8]) -> usize
+    ensures few { result ≤ 58 }
+    ensures len { length room.new ≡ length room.old }
+    ensures adds { Adds (head_text (format_of version) name.now (kind_number kind) count) 0 room.old
+        result room.new }
+{
+    let end = put(room, 0, &heading_of(version, 1));
+    put(room, end, &head_of(name, kind, MAX_LIMIT, count))
+}
+
+// Writes a set's dump.
+fn write_set(version: Version, name: &Name, set: &Judy1, room: &mut [u8]) -> usize
+    requires { map.len set.now.map ≤ 4294967295 }
+    ensures { Adds (set_text (format_of version) name.now set.now.map) 0 room.old result
+        room.new }
+{
+    let head = put_head(version, name, Kind::Judy1, set.len(), room);
+    put_keys(set, room, head)
+}
+
+// Writes the keys of a set.
+fn put_keys(set: &Judy1, room: &mut [u8], at: usize) -> usize
+    requires few { map.len set.now.map ≤ 4294967295 }
+    requires early { at ≤ 58 }
+    ensures { Adds (text.contents jdy1 (judy1 (record { limit = 4294967295; map = set.now.map })))
+        at room.old result room.new }
+{
+    let mut end = at;
+    'keys: for key in set {
+        end = put(room, end, &word_bytes(key));
+    }
+    end
+}
+
+// Writes a map's dump.
+fn write_map(version: Version, name: &Name, words: &JudyL, room: &mut [u8]) -> usize
+    requires { map.len words.now.map ≤ 4294967295 }
+    ensures { Adds (map_text (format_of version) name.now words.now.map) 0 room.old result
+        room.new }
+{
+    let head = put_head(version, name, Kind::JudyL, words.len(), room);
+    put_entries(words, room, head)
+}
+
+// Writes the keys of a map, and the value of each behind it.
+fn put_entries(words: &JudyL, room: &mut [u8], at: usize) -> usize
+    requires few { map.len words.now.map ≤ 4294967295 }
+    requires early { at ≤ 58 }
+    ensures { Adds (text.contents jdy1 (judyl (record { limit = 4294967295; map = words.now.map })))
+        at room.old result room.new }
+{
+    let mut end = at;
+    'entries: for (key, value) in words {
+        end = put(room, end, &word_bytes(key));
+        end = put(room, end, &word_bytes(value));
+    }
+    end
+}
+
+// Writes the dump of a map from strings.
+fn write_strings(version: Version, name: &Name, strings: &JudySl, room: &mut [u8]) -> usize
+    requires { map.len strings.now.map ≤ 4294967295 }
+    ensures { Adds (strings_text (format_of version) name.now strings.now.map) 0 room.old result
+        room.new }
+{
+    let head = put_head(version, name, Kind::JudySl, strings.len(), room);
+    put_strings(version, strings, room, head)
+}
+
+// Writes the keys of a map from strings, each by the one before, and the value of each behind it.
+fn put_strings(version: Version, strings: &JudySl, room: &mut [u8], at: usize) -> usize
+    requires few { map.len strings.now.map ≤ 4294967295 }
+    requires early { at ≤ 58 }
+    ensures { Adds (text.contents (format_of version)
+        (judysl (record { limit = 4294967295; map = strings.now.map }))) at room.old result
+        room.new }
+{
+    let mut last = LastKey::new();
+    let mut cursor = strings.cursor(&[]);
+    let mut next = cursor.first();
+    let mut end = at;
+    'keys: while let Some(value) = next {
+        end = put_key(version, last.front(), cursor.key(), room, end);
+        end = put(room, end, &word_bytes(value));
+        last.keep(cursor.key());
+        next = cursor.next();
+    }
+    end
+}
+
+// Writes a key of a map from strings, by the key before it.
+fn put_key(version: Version, before: &[u8], key: &[u8], room: &mut [u8], at: usize) -> usize
+    requires early { at < 2 ^ 62 }
+    requires short { length key.now ≤ LONGEST_KEY }
+    ensures most { result ≤ at + 1028 }
+    ensures len { length room.new ≡ length room.old }
+    ensures adds { Adds (text.string_key (format_of version) before.now key.now) at room.old result
+        room.new }
+{
+    match version {
+        Version::First => put_string(key, room, at),
+        Version::Second => {
+            let shared = shared_len(before, key);
+            let end = put(room, at, &len_bytes(shared));
+            put_string(&key[shared..], room, end)
+        }
+    }
+}
+
+// The bytes of a length.
+fn len_bytes(len: usize) -> [u8; 2]
+    requires { len ≤ LONGEST_KEY }
+    ensures { result ≡ low_bytes 2 len }
+{
+    (len as u16).to_be_bytes()
+}
+
+// The bytes of a word.
+fn word_bytes(word: u64) -> [u8; 8]
+    ensures { result ≡ text.word word }
+{
+    word.to_be_bytes()
+}
+
+// Writes a byte string behind its length.
+fn put_string(key: &[u8], room: &mut [u8], at: usize) -> usize
+    requires early { at < 2 ^ 62 + 2 }
+    requires short { length key.now ≤ LONGEST_KEY }
+    ensures most { result ≤ at + 2 + length key.now }
+    ensures len { length room.new ≡ length room.old }
+    ensures adds { Adds (text.string key.now) at room.old result room.new }
+{
+    let end = put(room, at, &len_bytes(key.len()));
+    put(room, end, key)
+}
+
+// Whether no key has more bytes than a dump can say.
+fn are_short(entries: &[HsEntry<'_>]) -> bool
+    ensures { result
+        ≡ list_all (λ entry. nat_le (length entry.0) LONGEST_KEY) (entries_in entries.now) }
+{
+    'entries: for entry in entries {
+        if entry.key.bytes().len() > LONGEST_KEY {
+            return false;
+        }
+    }
+    true
+}
+
+// Writes the dump of a map from byte strings, of which these are the entries.
+fn write_byte_strings(
+    version: Version,
+    name: &Name,
+    count: u64,
+    entries: &[HsEntry<'_>],
+    room: &mut [u8],
+) -> usize
+    requires few { length entries.now ≤ 4294967295 }
+    requires short { list_all (λ entry. nat_le (length entry.0) LONGEST_KEY)
+        (entries_in entries.now) ≡ true }
+    ensures { Adds (head_text (format_of version) name.now 4 count
+        ++ flat_map entry_text (entries_in entries.now)) 0 room.old result room.new }
+{
+    let head = put_head(version, name, Kind::JudyHs, count, room);
+    put_byte_strings(entries, room, head)
+}
+
+// Writes byte strings, each behind its length, and the value of each behind it.
+fn put_byte_strings(entries: &[HsEntry<'_>], room: &mut [u8], at: usize) -> usize
+    requires few { length entries.now ≤ 4294967295 }
+    requires short { list_all (λ entry. nat_le (length entry.0) LONGEST_KEY)
+        (entries_in entries.now) ≡ true }
+    requires early { at ≤ 58 }
+    ensures { Adds (flat_map entry_text (entries_in entries.now)) at room.old result room.new }
+{
+    let mut end = at;
+    'entries: for entry in entries {
+        end = put_string(entry.key.bytes(), room, end);
+        end = put(room, end, &word_bytes(entry.value));
+    }
+    end
+}

@@ -1,0 +1,84 @@
+use Rattle.std.proofs.Common.{[], ◌∷◌, None, refl, ap, ◌∙◌}
+use Rattle.judy_model.specs.Keys.{word_order, byte_order}
+use Rattle.judy_model.specs.Arrays.{ArrayOf, judysl}
+use Rattle.judy_model.specs.DumpText.{length_order}
+use Rattle.judy_model.specs.DumpGrammar.{entries, word, no_value, string, string_key}
+use Rattle.judy_word.specs.WordArrays.{array_of}
+use Rattle.judy_shelf.specs.declared.one.OneFault.TheVariants.{Load}
+use Rattle.judy_shelf.specs.Ones.{strings_with}
+use Rattle.judy_shelf.specs.Versions.{format_of}
+use Rattle.judy_shelf.specs.Reads.{drawn, cause_of}
+use Rattle.judy_shelf.proofs.ArrayReads.{loads_fault, loads_whole}
+use Rattle.judy_shelf.proofs.OneReads.{one_err, keys_stopped, keys_read, keys_end, made_limit, strings_back}
+use Rattle.judy_shelf.proofs.one.load_one_strings.Goals as goal
+
+pub returns-in_err-head-clause-read : goal.returns-in_err-head-clause-read
+returns-in_err-head-clause-read g c =
+    let before = drawn (g.R.Source.given c.args.source.now) (g.R.Source.ended c.args.source.now) (g.R.Source.tally c.args.source.now).failures in
+    let one = drawn (g.R.Source.given c.read_head.new.source) (g.R.Source.ended c.read_head.new.source) (g.R.Source.tally c.read_head.new.source).failures in
+    one_err 3 strings_with before one c.in_err-head.field-0.0 c.from_residual.result c.from_residual.ensures.1 c.in_err-head.ensures
+
+pub returns-in_err-strings-clause-read : goal.returns-in_err-strings-clause-read
+returns-in_err-strings-clause-read g c =
+    let before = drawn (g.R.Source.given c.args.source.now) (g.R.Source.ended c.args.source.now) (g.R.Source.tally c.args.source.now).failures in
+    let one = drawn (g.R.Source.given c.read_head.new.source) (g.R.Source.ended c.read_head.new.source) (g.R.Source.tally c.read_head.new.source).failures in
+    let two = drawn (g.R.Source.given c.read_strings.new.source) (g.R.Source.ended c.read_strings.new.source) (g.R.Source.tally c.read_strings.new.source).failures in
+    let version = format_of c.in_ok-head.head.version in
+    let count = c.in_ok-head.head.count in
+    let name = c.in_ok-head.ensures.0 in
+    let limit = c.in_ok-head.ensures.1 in
+    let told = c.new-empty.result.limit in
+    let fault = c.in_err-strings.field-0.0 in
+    one_err 3 strings_with before two (Load fault) c.from_residual-in_err-strings.result c.from_residual-in_err-strings.ensures.1
+    (keys_stopped judysl strings_back (λ array. refl) told limit (entries byte_order (string_key (format_of c.in_ok-head.head.version)) word None) count one two version name before
+    c.in_ok-head.ensures.2 (cause_of fault) c.in_err-strings.ensures)
+
+pub returns-in_err-read_end-clause-read : goal.returns-in_err-read_end-clause-read
+returns-in_err-read_end-clause-read g c =
+    let before = drawn (g.R.Source.given c.args.source.now) (g.R.Source.ended c.args.source.now) (g.R.Source.tally c.args.source.now).failures in
+    let one = drawn (g.R.Source.given c.read_head.new.source) (g.R.Source.ended c.read_head.new.source) (g.R.Source.tally c.read_head.new.source).failures in
+    let two = drawn (g.R.Source.given c.read_strings.new.source) (g.R.Source.ended c.read_strings.new.source) (g.R.Source.tally c.read_strings.new.source).failures in
+    let three = drawn (g.R.Source.given c.read_end.new.source) (g.R.Source.ended c.read_end.new.source) (g.R.Source.tally c.read_end.new.source).failures in
+    let version = format_of c.in_ok-head.head.version in
+    let count = c.in_ok-head.head.count in
+    let name = c.in_ok-head.ensures.0 in
+    let limit = c.in_ok-head.ensures.1 in
+    let told = c.new-empty.result.limit in
+    let whole = keys_read judysl strings_back (λ array. refl) told limit (entries byte_order (string_key (format_of c.in_ok-head.head.version)) word None) count one two version name before
+    c.in_ok-head.ensures.2 c.in_ok-strings.strings c.in_ok-strings.ensures in
+    let store = (name, strings_with limit c.in_ok-strings.strings) ∷ [] in
+    let fault = c.in_err-read_end.field-0.0 in
+    one_err 3 strings_with before three (Load fault) c.from_residual-in_err-read_end.result c.from_residual-in_err-read_end.ensures.1
+    (loads_fault version store before two three whole (cause_of fault) c.in_err-read_end.ensures)
+
+pub returns-clause-limit : goal.returns-clause-limit
+returns-clause-limit g c =
+    let before = drawn (g.R.Source.given c.args.source.now) (g.R.Source.ended c.args.source.now) (g.R.Source.tally c.args.source.now).failures in
+    let one = drawn (g.R.Source.given c.read_head.new.source) (g.R.Source.ended c.read_head.new.source) (g.R.Source.tally c.read_head.new.source).failures in
+    let two = drawn (g.R.Source.given c.read_strings.new.source) (g.R.Source.ended c.read_strings.new.source) (g.R.Source.tally c.read_strings.new.source).failures in
+    let version = format_of c.in_ok-head.head.version in
+    let count = c.in_ok-head.head.count in
+    let name = c.in_ok-head.ensures.0 in
+    let limit = c.in_ok-head.ensures.1 in
+    let told = c.new-empty.result.limit in
+    made_limit judysl strings_back (λ array. refl) told limit (entries byte_order (string_key (format_of c.in_ok-head.head.version)) word None) count one two c.in_ok-strings.strings
+    c.in_ok-strings.ensures ∙ ap (λ (array : ArrayOf byte_order). array.limit) c.new-empty.ensures
+
+pub returns-clause-read : goal.returns-clause-read
+returns-clause-read g c =
+    let before = drawn (g.R.Source.given c.args.source.now) (g.R.Source.ended c.args.source.now) (g.R.Source.tally c.args.source.now).failures in
+    let one = drawn (g.R.Source.given c.read_head.new.source) (g.R.Source.ended c.read_head.new.source) (g.R.Source.tally c.read_head.new.source).failures in
+    let two = drawn (g.R.Source.given c.read_strings.new.source) (g.R.Source.ended c.read_strings.new.source) (g.R.Source.tally c.read_strings.new.source).failures in
+    let three = drawn (g.R.Source.given c.read_end.new.source) (g.R.Source.ended c.read_end.new.source) (g.R.Source.tally c.read_end.new.source).failures in
+    let version = format_of c.in_ok-head.head.version in
+    let count = c.in_ok-head.head.count in
+    let name = c.in_ok-head.ensures.0 in
+    let limit = c.in_ok-head.ensures.1 in
+    let told = c.new-empty.result.limit in
+    let whole = keys_read judysl strings_back (λ array. refl) told limit (entries byte_order (string_key (format_of c.in_ok-head.head.version)) word None) count one two version name before
+    c.in_ok-head.ensures.2 c.in_ok-strings.strings c.in_ok-strings.ensures in
+    let store = (name, strings_with limit c.in_ok-strings.strings) ∷ [] in
+    let ends = keys_end judysl strings_back (λ array. refl) told limit (entries byte_order (string_key (format_of c.in_ok-head.head.version)) word None) count one two version name before
+    c.in_ok-head.ensures.2 c.in_ok-strings.strings c.in_ok-strings.ensures in
+    let end = c.in_ok-read_end.ensures in
+    (name, limit, loads_whole version store before two three whole end.0 end.1 end.2, (ends.0, end.0 ∙ ends.1, ends.2))
