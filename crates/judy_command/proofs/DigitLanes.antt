@@ -92,8 +92,10 @@ pub sixteen : (digits : List ℕ) → length digits ≡ 16 → list_all is_ascii
 sixteen = by_four (λ digits. value (number digits) ≡ digits_value_after 10 0 digits) 12 (λ a b c d rest xa xb xc xd.
     by_four (λ rest. value (number (a ∷ b ∷ c ∷ d ∷ rest)) ≡ digits_value_after 10 0 (a ∷ b ∷ c ∷ d ∷ rest)) 8 (λ e f g h rest xe xf xg xh.
     by_four (λ rest. value (number (a ∷ b ∷ c ∷ d ∷ e ∷ f ∷ g ∷ h ∷ rest)) ≡ digits_value_after 10 0 (a ∷ b ∷ c ∷ d ∷ e ∷ f ∷ g ∷ h ∷ rest)) 4 (λ i j k l rest xi xj xk xl.
-    by_four (λ rest. value (number (a ∷ b ∷ c ∷ d ∷ e ∷ f ∷ g ∷ h ∷ i ∷ j ∷ k ∷ l ∷ rest)) ≡ digits_value_after 10 0 (a ∷ b ∷ c ∷ d ∷ e ∷ f ∷ g ∷ h ∷ i ∷ j ∷ k ∷ l ∷ rest)) 0 (λ m n o p rest xm xn xo xp none are.
-    at_end (λ rest. value (number (a ∷ b ∷ c ∷ d ∷ e ∷ f ∷ g ∷ h ∷ i ∷ j ∷ k ∷ l ∷ m ∷ n ∷ o ∷ p ∷ rest)) ≡ digits_value_after 10 0 (a ∷ b ∷ c ∷ d ∷ e ∷ f ∷ g ∷ h ∷ i ∷ j ∷ k ∷ l ∷ m ∷ n ∷ o ∷ p ∷ rest))
+    by_four (λ rest. value (number (a ∷ b ∷ c ∷ d ∷ e ∷ f ∷ g ∷ h ∷ i ∷ j ∷ k ∷ l ∷ rest)) ≡ digits_value_after 10 0 (a ∷ b ∷ c ∷ d ∷ e ∷ f ∷ g ∷ h ∷ i ∷ j ∷ k ∷ l ∷ rest)) 0
+    (λ m n o p rest xm xn xo xp none are.
+    at_end (λ rest. value (number (a ∷ b ∷ c ∷ d ∷ e ∷ f ∷ g ∷ h ∷ i ∷ j ∷ k ∷ l ∷ m ∷ n ∷ o ∷ p ∷ rest)) ≡
+    digits_value_after 10 0 (a ∷ b ∷ c ∷ d ∷ e ∷ f ∷ g ∷ h ∷ i ∷ j ∷ k ∷ l ∷ m ∷ n ∷ o ∷ p ∷ rest))
     (let last = packed (m - 48) (n - 48) (o - 48) (p - 48) 0 in
     let third = packed (i - 48) (j - 48) (k - 48) (l - 48) last in
     let second = packed (e - 48) (f - 48) (g - 48) (h - 48) third in

@@ -16,11 +16,13 @@ after-append number [] back = refl
 after-append number (byte ∷ front) back = after-append (number * 10 + digit_value byte) front back
 
 -- One digit more.
-pub after_more : (number : ℕ) (bytes : List ℕ) (i : ℕ) → i < length bytes → digits_value_after 10 number (take (i + 1) bytes) ≡ digits_value_after 10 number (take i bytes) * 10 + digit_value (get_or bytes i 0)
+pub after_more : (number : ℕ) (bytes : List ℕ) (i : ℕ) → i < length bytes → digits_value_after 10 number (take (i + 1) bytes) ≡
+    digits_value_after 10 number (take i bytes) * 10 + digit_value (get_or bytes i 0)
 after_more number [] i here = absurd (omega arith)
 after_more number (byte ∷ bytes) zero here = refl
 after_more number (byte ∷ bytes) (suc i) here =
-    ap (λ n. digits_value_after 10 number (take n (byte ∷ bytes))) (add-one (suc i)) ∙ ap (λ n. digits_value_after 10 (number * 10 + digit_value byte) (take n bytes)) (sym (add-one i)) ∙ after_more (number * 10 + digit_value byte) bytes i (omega arith)
+    ap (λ n. digits_value_after 10 number (take n (byte ∷ bytes))) (add-one (suc i)) ∙ ap (λ n. digits_value_after 10 (number * 10 + digit_value byte) (take n bytes)) (sym (add-one i)) ∙
+    after_more (number * 10 + digit_value byte) bytes i (omega arith)
 
 -- Digits behind a number below a power of ten.
 pub digit_is_small : (byte : ℕ) → is_ascii_digit byte ≡ true → digit_value byte < 10

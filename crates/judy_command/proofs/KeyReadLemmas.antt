@@ -1,5 +1,6 @@
 -- Key tokens by `hex` and by the definitions.
-use Rattle.std.proofs.Common.{◌≡◌, ℕ, ◌+◌, ◌*◌, ◌-◌, ◌/◌, ◌%◌, ◌<◌, ◌≤◌, ◌==◌, Bool, true, false, cond, not, nat_le, List, [], ◌∷◌, length, Option, Some, None, Result, Ok, Err, ok_or, suc, refl, sym, ap, ◌∙◌, arith, IfSome, take, drop}
+use Rattle.std.proofs.Common.{◌≡◌, ℕ, ◌+◌, ◌*◌, ◌-◌, ◌/◌, ◌%◌, ◌<◌, ◌≤◌, ◌==◌, Bool, true, false, cond, not, nat_le, List, [], ◌∷◌, length, Option, Some, None, Result, Ok, Err}
+use Rattle.std.proofs.Common.{ok_or, suc, refl, sym, ap, ◌∙◌, arith, IfSome, take, drop}
 use Rattle.std.specs.Prelude.{MatchResult, ◌&&◌, IfOk}
 use Rattle.std.proofs.lemmas.Bool.{and_parts, eqb-true, false≢true}
 use Rattle.std.proofs.lemmas.List.{take-append-drop, drop-drop}
@@ -24,7 +25,8 @@ without_zero key = list_all (λ byte. not (byte == 0)) key
 abbrev string_key : Option (List ℕ) → Result (List ℕ) Refusal
 string_key said = ok_or (passing is_string_key said) bad_key
 
-string_by : (short : Bool) (said key : List ℕ) (whole : Bool) → without_zero key ≡ whole → ok_or (cond short (Some said) None) bad_key ≡ Ok key → ok_or (cond (short && without_zero said) (Some said) None) bad_key ≡ cond whole (Ok key) (Err bad_key)
+string_by : (short : Bool) (said key : List ℕ) (whole : Bool) → without_zero key ≡ whole → ok_or (cond short (Some said) None) bad_key ≡ Ok key →
+    ok_or (cond (short && without_zero said) (Some said) None) bad_key ≡ cond whole (Ok key) (Err bad_key)
 string_by true said key true e h = let same : said ≡ key = cc in rw (same, e) refl
 string_by true said key false e h = let same : said ≡ key = cc in rw (same, e) refl
 string_by false said key whole e h = absurd (cc)
@@ -105,7 +107,8 @@ digit_value-hex : (sign : ℕ) → digit_value sign ≡ hex_digit_value sign
 digit_value-hex sign = grind (arith)
 
 by_pair : (i high low : ℕ) (h l : Option ℕ) (rest : Result (List ℕ) FromHexError)
-    → with_byte h l (result_ok rest) ≡ result_ok ((digit_or_error high i h >>= (λ one. digit_or_error low (i + 1) l >>= (λ two. Ok (one * 16 + two)))) >>= (λ byte. rest >>= (λ bytes. Ok (byte ∷ bytes))))
+    → with_byte h l (result_ok rest) ≡ result_ok ((digit_or_error high i h >>= (λ one. digit_or_error low (i + 1) l >>= (λ two. Ok (one * 16 + two)))) >>=
+    (λ byte. rest >>= (λ bytes. Ok (byte ∷ bytes))))
 by_pair i high low (Some one) (Some two) (Ok bytes) = refl
 by_pair i high low (Some one) (Some two) (Err error) = refl
 by_pair i high low (Some one) None rest = refl

@@ -42,13 +42,15 @@ first_refusal in_range there room =
     cond (not in_range) (Some make.BadLimit) (cond (is_some there) (Some make.Exists) (cond (not room) (Some make.TooMany) None))
 
 -- the checks refuse as the shelf does, and pass where it refuses nothing
-alike : (in_range : Bool) (there : Option Array) (room : Bool) (outcome : Outcome Store) → MatchOption (first_refusal in_range there room) (checks in_range (option_map value_of there) room outcome ≡ Ok outcome) (λ error. checks in_range (option_map value_of there) room outcome ≡ Err (refusal_of (refusal_of_make error)))
+alike : (in_range : Bool) (there : Option Array) (room : Bool) (outcome : Outcome Store) → MatchOption (first_refusal in_range there room)
+    (checks in_range (option_map value_of there) room outcome ≡ Ok outcome) (λ error. checks in_range (option_map value_of there) room outcome ≡ Err (refusal_of (refusal_of_make error)))
 alike false there room outcome = refl
 alike true (Some array) room outcome = refl
 alike true None false outcome = refl
 alike true None true outcome = refl
 
-module _ (entries : Entries) (token kind_token : List ℕ) (given : Option (List ℕ)) (name : List ℕ) (kind : Kind) (limit : ℕ) (named : name_at token ≡ Ok name) (kinded : kind_named kind_token ≡ Some (empty_of_kind kind)) (limited : limit_at given ≡ Ok limit) where
+module _ (entries : Entries) (token kind_token : List ℕ) (given : Option (List ℕ)) (name : List ℕ) (kind : Kind) (limit : ℕ) (named : name_at token ≡ Ok name)
+    (kinded : kind_named kind_token ≡ Some (empty_of_kind kind)) (limited : limit_at given ≡ Ok limit) where
   abbrev in_range : Bool
   in_range = nat_lt 0 limit && nat_le limit 4294967295
 
@@ -58,7 +60,8 @@ module _ (entries : Entries) (token kind_token : List ℕ) (given : Option (List
   made-checks : made (store_of entries) token kind_token given ≡ checks in_range (option_map value_of (array_named entries name)) (nat_lt (length entries) 64) outcome
   made-checks = rw (named, kinded, limited, array_named-store_of entries name, length-store_of entries) refl
 
-  matched : MatchOption (make_refusal entries name limit) (made (store_of entries) token kind_token given ≡ Ok outcome) (λ error. made (store_of entries) token kind_token given ≡ Err (refusal_of (refusal_of_make error)))
+  matched : MatchOption (make_refusal entries name limit) (made (store_of entries) token kind_token given ≡ Ok outcome)
+      (λ error. made (store_of entries) token kind_token given ≡ Err (refusal_of (refusal_of_make error)))
   matched = rw made-checks (alike in_range (array_named entries name) (nat_lt (length entries) 64) outcome)
 
   value_of-new_array : (k : Kind) → empty_of_kind k limit ≡ value_of (new_array k limit)
@@ -68,13 +71,15 @@ module _ (entries : Entries) (token kind_token : List ℕ) (given : Option (List
   value_of-new_array JudyHs = refl
 
   -- an array that the shelf made is the one that the definitions make
-  pub Follows-made : (after : Entries) → make_refusal entries name limit ≡ None → after ≡ with_new_array entries name (new_array kind limit) → Follows (store_of entries) (made (store_of entries) token kind_token given) (Ok model.done) (store_of after)
+  pub Follows-made : (after : Entries) → make_refusal entries name limit ≡ None → after ≡ with_new_array entries name (new_array kind limit) →
+      Follows (store_of entries) (made (store_of entries) token kind_token given) (Ok model.done) (store_of after)
   Follows-made after none same =
       let is : made (store_of entries) token kind_token given ≡ Ok outcome = rw none at matched in
       rw (is, same) (refl, sym (with_new_array-store_of entries name (new_array kind limit)) ∙ ap (with_new_array (store_of entries) name) (sym (value_of-new_array kind)))
 
   -- an array that the shelf refused is refused, or wants memory
-  pub Follows-not_made : (after : Entries) (error : MakeError) → IsMakeRefusal (make_refusal entries name limit) error → after ≡ entries → Follows (store_of entries) (made (store_of entries) token kind_token given) (Err (refusal_of (refusal_of_make error))) (store_of after)
+  pub Follows-not_made : (after : Entries) (error : MakeError) → IsMakeRefusal (make_refusal entries name limit) error → after ≡ entries →
+      Follows (store_of entries) (made (store_of entries) token kind_token given) (Err (refusal_of (refusal_of_make error))) (store_of after)
   Follows-not_made after make.BadLimit first same = let is : made (store_of entries) token kind_token given ≡ Err model.bad_limit = rw first at matched in rw (is, same) (refl, refl)
   Follows-not_made after make.Exists first same = let is : made (store_of entries) token kind_token given ≡ Err model.exists = rw first at matched in rw (is, same) (refl, refl)
   Follows-not_made after make.TooMany first same = let is : made (store_of entries) token kind_token given ≡ Err model.too_many_arrays = rw first at matched in rw (is, same) (refl, refl)

@@ -64,18 +64,22 @@ module _ (token : List ℕ) (i : ℕ) (here : i < length token) where
 
   -- a byte that is no digit, or one too many, leaves no word
   by_tests : (is_digit fits : Bool) → is_ascii_digit (get_or token i 0) ≡ is_digit → nat_lt longer (2 ^ 64) ≡ fits → (is_digit && fits) ≡ false → word_of token ≡ None
-  by_tests false fits digit_is fits_is h = says_nothing token (fails_third (nat_lt 0 (length token)) (nat_le (length token) 20) (list_all is_ascii_digit token) (nat_lt (digits_value 10 token) (2 ^ 64)) (list_all_at is_ascii_digit token i 0 here digit_is))
+  by_tests false fits digit_is fits_is h =
+      says_nothing token (fails_third (nat_lt 0 (length token)) (nat_le (length token) 20) (list_all is_ascii_digit token) (nat_lt (digits_value 10 token) (2 ^ 64))
+      (list_all_at is_ascii_digit token i 0 here digit_is))
   by_tests true false digit_is fits_is h =
       let most : longer ≤ digits_value 10 token = rw (← longer_is) (digits_value-take-le 10 token (i + 1) (omega arith)) in
       let above : 2 ^ 64 ≤ longer = ltb-false longer (2 ^ 64) fits_is in
-      says_nothing token (fails_fourth (nat_lt 0 (length token)) (nat_le (length token) 20) (list_all is_ascii_digit token) (nat_lt (digits_value 10 token) (2 ^ 64)) (le-ltb (digits_value 10 token) (2 ^ 64) (omega arith)))
+      says_nothing token (fails_fourth (nat_lt 0 (length token)) (nat_le (length token) 20) (list_all is_ascii_digit token) (nat_lt (digits_value 10 token) (2 ^ 64))
+      (le-ltb (digits_value 10 token) (2 ^ 64) (omega arith)))
   by_tests true true digit_is fits_is h = absurd (search rules)
 
   pub refused : (is_ascii_digit (get_or token i 0) && nat_lt longer (2 ^ 64)) ≡ false → word_of token ≡ None
   refused h = by_tests (is_ascii_digit (get_or token i 0)) (nat_lt longer (2 ^ 64)) refl refl h
 
 -- a token whose bytes are all digits, as many as word tokens have, of a number below 2^64 says that number
-pub says_number : (token : List ℕ) (i : ℕ) → i ≡ length token → 0 < length token → length token ≤ 20 → list_all is_ascii_digit (take i token) ≡ true → digits_value 10 (take i token) < 2 ^ 64 → word_of token ≡ Some (digits_value 10 (take i token))
+pub says_number : (token : List ℕ) (i : ℕ) → i ≡ length token → 0 < length token → length token ≤ 20 → list_all is_ascii_digit (take i token) ≡ true →
+    digits_value 10 (take i token) < 2 ^ 64 → word_of token ≡ Some (digits_value 10 (take i token))
 says_number token i end some few digits fits =
     let whole : take i token ≡ token = ap (λ n. take n token) end ∙ take-length token in
     let all : list_all is_ascii_digit token ≡ true = ap (list_all is_ascii_digit) (sym whole) ∙ digits in

@@ -26,7 +26,8 @@ module _ (map : FinMap byte_order ℕ) (from : List ℕ) where
   held key None there some = absurd (cc)
 
   -- a key that is found is a key of the map, so that its value is there
-  found : (order : List ℕ → List ℕ → Ordering) (side : List ℕ → Bool) (answer : Option (List ℕ)) → IsLeast order (λ key. contains_key map key && side key) answer → found_entry (value_found map answer) (unwrap_or answer from) ≡ entry_or_nothing string_entry map answer
+  found : (order : List ℕ → List ℕ → Ordering) (side : List ℕ → Bool) (answer : Option (List ℕ)) → IsLeast order (λ key. contains_key map key && side key) answer →
+      found_entry (value_found map answer) (unwrap_or answer from) ≡ entry_or_nothing string_entry map answer
   found order side None least = refl
   found order side (Some key) least = held key (get map key) refl (and_parts (contains_key map key) (side key) least.0).0
 
@@ -50,9 +51,11 @@ module _ (map : FinMap byte_order ℕ) (from : List ℕ) where
       by (Some key) is = held key (get map key) refl (by_count_found nat_list_cmp_total (slice_cmp-IsAntisymmetric nat_cmp-IsAntisymmetric) map n key is).0
 
 -- the n-th key, found in the buffer
-pub Follows-nth : (array : ArrayOf byte_order) (token : List ℕ) (n : ℕ) (answer : Answer) → word_at token ≡ Ok n → answer ≡ entry_or_nothing string_entry array.map (by_count array.map n) → Follows (judysl array) (strings_on_key command.by_count array token) (Ok answer) (judysl array)
+pub Follows-nth : (array : ArrayOf byte_order) (token : List ℕ) (n : ℕ) (answer : Answer) → word_at token ≡ Ok n → answer ≡ entry_or_nothing string_entry array.map (by_count array.map n) →
+    Follows (judysl array) (strings_on_key command.by_count array token) (Ok answer) (judysl array)
 Follows-nth array token n answer said is = rw said (is, refl)
 
 -- a neighbour that was found in the buffer of its key
-pub Follows-found : (side : Neighbour) (array : ArrayOf byte_order) (token key : List ℕ) (answer : Answer) → string_key_at token ≡ Ok key → answer ≡ entry_or_nothing string_entry array.map (neighbour_of side array.map key) → Follows (judysl array) (strings_on_key (command.neighbour side) array token) (Ok answer) (judysl array)
+pub Follows-found : (side : Neighbour) (array : ArrayOf byte_order) (token key : List ℕ) (answer : Answer) → string_key_at token ≡ Ok key →
+    answer ≡ entry_or_nothing string_entry array.map (neighbour_of side array.map key) → Follows (judysl array) (strings_on_key (command.neighbour side) array token) (Ok answer) (judysl array)
 Follows-found side array token key answer said is = rw said (is, refl)

@@ -5,7 +5,8 @@ use Rattle.judy_model.specs.Replies as model
 use Rattle.judy_command.specs.declared.reply.Answer.{Answer}
 use Rattle.judy_command.specs.declared.reply.Answer.TheVariants.{Done, Was, Flag, Number, Entry, StringEntry, Freed, Nothing}
 use Rattle.judy_command.specs.declared.reply.Refusal.{Refusal}
-use Rattle.judy_command.specs.declared.reply.Refusal.TheVariants.{LineTooLong, UnknownCommand, ArgumentCount, BadName, NoSuchArray, WrongKind, BadWord, BadKey, BadLimit, Exists, TooManyArrays, Full, NoMemory}
+use Rattle.judy_command.specs.declared.reply.Refusal.TheVariants.{LineTooLong, UnknownCommand, ArgumentCount, BadName, NoSuchArray, WrongKind, BadWord, BadKey, BadLimit, Exists}
+use Rattle.judy_command.specs.declared.reply.Refusal.TheVariants.{TooManyArrays, Full, NoMemory}
 use Rattle.judy_command.specs.declared.reply.LineReply.{LineReply}
 use Rattle.judy_command.specs.declared.reply.LineReply.TheVariants.{Silent, Listed, Said}
 

@@ -36,8 +36,8 @@ pub(crate) fn read_string_key(token: &[u8], key: &mut KeyBuf) -> Result<(), Refu
     Ok(())
 }
 
-/// The key of a judyhs array that a token says. Where its bytes stand for themselves it is the token's, else it is put into the
-/// buffer.
+/// The key of a judyhs array that a token says. Where its bytes stand for themselves it is the token's, else it is put
+/// into the buffer.
 pub(crate) fn bytes_key<'k>(token: &'k [u8], key: &'k mut KeyBuf) -> Result<&'k [u8], Refusal>
     ensures said { said (λ bytes. bytes.now) result ≡ bytes_key_at token.now }
     ensures key { IfOk result (λ bytes. IsBytesKey bytes.now) }
@@ -119,8 +119,8 @@ pub fn are_shown(signs: &[u8]) -> bool
     }
 }
 
-// The same, tested so many at once: a length that the compiler knows needs no test behind each byte. Of those at the end some are
-// tested twice, so that none is left to be tested alone.
+// The same, tested so many at once: a length that the compiler knows needs no test behind each byte. Of those at the
+// end some are tested twice, so that none is left to be tested alone.
 #[inline(always)]
 fn are_shown_by<const N: usize>(signs: &[u8]) -> bool
     requires some { 0 < N }

@@ -43,8 +43,8 @@ pub(crate) trait ValueMap<K> {
     // The array with a value written at a key that is there.
     ghost written: { Self → K → ℕ → Self };
 
-    /// Gives the key a value, and answers the value that it had, 0 where it was absent. `Full` or `NoMemory`, only where it is absent,
-    /// and then the array is as it was.
+    /// Gives the key a value, and answers the value that it had, 0 where it was absent. `Full` or `NoMemory`, only
+    /// where it is absent, and then the array is as it was.
     fn insert(&mut self, key: K, value: u64) -> Result<u64, Refusal>
         requires { IsKey (key_of key) }
         ensures was { IfOk result

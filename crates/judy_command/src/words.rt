@@ -25,8 +25,8 @@ pub(crate) fn word(token: &[u8]) -> Result<u64, Refusal>
     number(token).ok_or(Refusal::BadWord)
 }
 
-// The number of 1 to 20 decimal digits, where it is below 2^64. It is answered in registers, as a refusal beside it wouldn't be, and stands once: compiled
-// into its callers it would make them too large to be compiled into theirs.
+// The number of 1 to 20 decimal digits, where it is below 2^64. It is answered in registers, as a refusal beside it
+// wouldn't be, and stands once: compiled into its callers it would make them too large to be compiled into theirs.
 #[inline(never)]
 fn number(token: &[u8]) -> Option<u64>
     ensures { result ≡ word_of token.now }
@@ -39,8 +39,8 @@ fn number(token: &[u8]) -> Option<u64>
     }
 }
 
-// The number of at most 19 decimal digits. Sixteen at the front are read at once, or eight where there are fewer: a length that the
-// compiler knows needs no test behind each digit.
+// The number of at most 19 decimal digits. Sixteen at the front are read at once, or eight where there are fewer: a
+// length that the compiler knows needs no test behind each digit.
 #[inline(always)]
 fn short_number(digits: &[u8]) -> Option<u64>
     requires { length digits.now ≤ 19 }
@@ -73,8 +73,8 @@ fn are_digits(bytes: &[u8]) -> bool
     are
 }
 
-// The number that sixteen decimal digits write. Two stand in each lane of 16 bits, the second in the upper half: the product adds ten times the
-// first to it. Then each lane takes the next, and fours are left in every other lane.
+// The number that sixteen decimal digits write. Two stand in each lane of 16 bits, the second in the upper half: the
+// product adds ten times the first to it. Then each lane takes the next, and fours are left in every other lane.
 #[inline(always)]
 fn value_of_sixteen(digits: u8x16) -> u64
     requires sixteen { length digits ≡ 16 }

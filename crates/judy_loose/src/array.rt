@@ -11,7 +11,7 @@ use std::alloc::AllocError;
 
 /// An array of words.
 #[derive(Drop)]
-pub enum Array {
+pub enum PlayedArray {
     /// A set.
     Set(Judy1),
     /// A map, in which each key has a value of its own.
@@ -22,8 +22,8 @@ pub enum Array {
 macro_rules! of_either {
     ($array:expr, $words:ident => $call:expr) => {
         match $array {
-            Array::Set($words) => $call,
-            Array::Map($words) => $call,
+            PlayedArray::Set($words) => $call,
+            PlayedArray::Map($words) => $call,
         }
     };
 }
@@ -35,7 +35,7 @@ fn value_of(word: u64) -> u64
     u64::MAX - word
 }
 
-impl Array {
+impl PlayedArray {
     /// Puts a key in, and answers whether it was absent.
     pub fn put(&mut self, word: u64) -> Result<bool, InsertError>
         ensures put { OnOk result
@@ -44,8 +44,8 @@ impl Array {
         ensures unchanged { OnErr result (self.new ≡ self.old) }
     {
         match self {
-            Array::Set(set) => set.set(word),
-            Array::Map(words) => words.put(word, value_of(word)),
+            PlayedArray::Set(set) => set.set(word),
+            PlayedArray::Map(words) => words.put(word, value_of(word)),
         }
     }
 
@@ -55,8 +55,8 @@ impl Array {
             ≡ array.with_map (array_of (seen self.old)) (array.del (seen self.old).map word) }
     {
         match self {
-            Array::Set(set) => set.unset(word),
-            Array::Map(words) => words.del(word),
+            PlayedArray::Set(set) => set.unset(word),
+            PlayedArray::Map(words) => words.del(word),
         }
     }
 
@@ -85,8 +85,8 @@ impl Array {
     /// Whether a key is there.
     pub fn has(&self, word: u64) -> bool {
         match self {
-            Array::Set(set) => set.test(word),
-            Array::Map(words) => words.get(word).is_some(),
+            PlayedArray::Set(set) => set.test(word),
+            PlayedArray::Map(words) => words.get(word).is_some(),
         }
     }
 
@@ -100,8 +100,8 @@ impl Array {
         of_either!(self, words => words.by_count(n))
     }
 
-    /// The keys nearest to a word: the first from it on, the first above it, the last up to it, and the last below it. Then the words
-    /// nearest to it that are no keys, in the same order.
+    /// The keys nearest to a word: the first from it on, the first above it, the last up to it, and the last below it.
+    /// Then the words nearest to it that are no keys, in the same order.
     pub fn near(&self, word: u64) -> [Option<u64>; 8] {
         of_either!(self, words => [
             words.first(word),

@@ -3,10 +3,11 @@
 ghost use Rattle.std.specs.Prelude.{◌≡◌, ◌≤◌, ℕ, List, [], IfOk, IfErr, OnOk, codes, map, option_map, string_bytes, false};
 ghost use Rattle.clap.specs.Words.{FailsBy, HasKind, Kinds, app_of, first_value, found_of, kind_of, rule_of};
 ghost use Rattle.judy_options.specs.CommandLines.{IsRefused, command_line, file_options, format_given, format_of_text, format_parser, format_rule, option_rule, refusals, script_rule, value_of};
-ghost use Rattle.judy_options.specs.declared.refusal.Refusal.TheVariants.{NoMemory};
+ghost use Rattle.judy_options.specs.declared.not_taken.NotTaken.TheVariants.{NoMemory};
 
-use crate::refusal::Refusal;
+use crate::not_taken::NotTaken;
 use crate::request::Options;
+use crate::version::VERSION;
 use clap::builder::ValueParser;
 use clap::error::ErrorKind;
 use clap::{Arg, ArgMatches, Command, Error};
@@ -47,9 +48,10 @@ judystore(1) tells more.";
 
 /// Reads the words of a command line, the program's name first, by the meaning that `clap` gives them.
 ///
-/// At Ok the words are taken, and these are the files and the format that they name. Else the error is `Help` where they ask for
-/// help, `BadWords` where something is wrong with them, each with clap's text, or `NoMemory`.
-pub fn options(alloc: Global, words: &[String]) -> Result<Options, Refusal>
+/// At Ok the words are taken, and these are the files and the format that they name. Else the error is `Help` where
+/// they ask for help, `BadWords` where something is wrong with them, each with clap's text, `Version` where they ask
+/// for the version, or `NoMemory`.
+pub fn options(alloc: Global, words: &[String]) -> Result<Options, NotTaken>
     ensures load { IfOk result
         (λ options. option_map string_bytes options.load
         ≡ value_of (codes "load") (map string_bytes words.now)) }
@@ -101,6 +103,7 @@ fn make_file_options<'a>(alloc: Global) -> Result<Command<'a>, AllocError>
     ensures app { IfOk result (λ command. app_of command ≡ file_options) }
 {
     Command::new(alloc, "judystore")
+        .version(VERSION)
         .about(ABOUT)
         .after_help(COMMANDS)
         .arg(load_argument(alloc))?
@@ -175,7 +178,7 @@ fn format_of_text(text: &str) -> u64
 }
 
 // The value of an argument, in memory of its own.
-fn value(alloc: Global, matches: &ArgMatches<'_>, id: &str) -> Result<Option<String>, Refusal>
+fn value(alloc: Global, matches: &ArgMatches<'_>, id: &str) -> Result<Option<String>, NotTaken>
     ensures given { IfOk result
         (λ value. option_map string_bytes value ≡ first_value (found_of matches.now) id.now) }
     ensures refused { IfErr result (λ refusal. refusal ≡ NoMemory) }
@@ -184,22 +187,25 @@ fn value(alloc: Global, matches: &ArgMatches<'_>, id: &str) -> Result<Option<Str
         None => Ok(None),
         Some(text) => match String::from_str(alloc, text) {
             Ok(text) => Ok(Some(text)),
-            Err(_) => Err(Refusal::NoMemory),
+            Err(_) => Err(NotTaken::NoMemory),
         },
     }
 }
 
 // What is told where `clap` doesn't take the words.
-fn refused(alloc: Global, error: Error) -> Refusal
+fn refused(alloc: Global, error: Error) -> NotTaken
     ensures { (kinds : Kinds) → HasKind kinds error → IsRefused kinds result }
 {
     let kind = error.kind();
     if kind == ErrorKind::OutOfMemory {
-        return Refusal::NoMemory;
+        return NotTaken::NoMemory;
+    }
+    if kind == ErrorKind::DisplayVersion {
+        return NotTaken::Version;
     }
     match format!(in alloc; "{error}") {
-        Err(_) => Refusal::NoMemory,
-        Ok(text) if kind == ErrorKind::DisplayHelp => Refusal::Help(text),
-        Ok(text) => Refusal::BadWords(text),
+        Err(_) => NotTaken::NoMemory,
+        Ok(text) if kind == ErrorKind::DisplayHelp => NotTaken::Help(text),
+        Ok(text) => NotTaken::BadWords(text),
     }
 }

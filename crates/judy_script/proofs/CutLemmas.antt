@@ -52,7 +52,8 @@ module _ (byte : ℕ) (text rest : List ℕ) (count : ℕ) (rest_is : rest ≡ d
   module _ (size : ℕ) (chunk : List ℕ) (is : chunk ≡ take size rest) (long : size ≤ length rest) (here : ℕ) (first : (at : ℕ) → at < size → at < here → get_or chunk at 0 ≢ byte) where
     pub chunk_without : (some : ℕ) → some ≤ size → some ≤ here → is_without byte (take some rest) ≡ true
     chunk_without some within before =
-        take-is_without byte rest some (λ at lt same. first at (omega arith) (omega arith) (ap (λ t. get_or t at 0) is ∙ get_or-take size rest at 0 (omega arith) ∙ eqb-true (get_or rest at 0) byte same)) (omega arith)
+        take-is_without byte rest some (λ at lt same. first at (omega arith) (omega arith) (ap (λ t. get_or t at 0) is ∙ get_or-take size rest at 0 (omega arith) ∙
+        eqb-true (get_or rest at 0) byte same)) (omega arith)
 
     pub chunk_at : here < size → get_or chunk here 0 ≡ get_or text (count + here) 0
     chunk_at inside = ap (λ t. get_or t here 0) is ∙ get_or-take size rest here 0 inside ∙ rest_at here

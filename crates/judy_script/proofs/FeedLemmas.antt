@@ -55,7 +55,8 @@ module _ (first : Store) (fed : List ℕ) (before : Option (List ℕ)) (buffer :
       ∙ ap (λ lines. lines_of so_far.front ++ lines) (lines_of-ended (so_far.rest ++ head) more (without_more 10 so_far.rest head so_far.goes_on without))
 
   -- the line that goes on is ended, executed and answered
-  pub Fed-line : (head : List ℕ) (cleared : LineBuffer) (taken_after : Option (List ℕ)) (after : Store) → is_without 10 head ≡ true → Holds cleared [] → Served now (ended_line head) taken taken_after after → Fed first (fed ++ (head ++ 10 ∷ [])) before cleared taken_after after
+  pub Fed-line : (head : List ℕ) (cleared : LineBuffer) (taken_after : Option (List ℕ)) (after : Store) → is_without 10 head ≡ true → Holds cleared [] →
+      Served now (ended_line head) taken taken_after after → Fed first (fed ++ (head ++ 10 ∷ [])) before cleared taken_after after
   Fed-line head cleared taken_after after without holds served = record {
     front = so_far.front ++ ((so_far.rest ++ head) ++ 10 ∷ []);
     rest = [];
@@ -65,11 +66,14 @@ module _ (first : Store) (fed : List ℕ) (before : Option (List ℕ)) (buffer :
     holds = holds;
     replies = so_far.replies ++ served.reply ∷ [];
     steps = rw (lines_to_here head [] without) (Steps-push first now after (lines_of so_far.front) so_far.replies (ended_line head) served.reply so_far.steps served.step);
-    written = served.written ∙ ap (λ known. grown known (output_of served.reply)) so_far.written ∙ grown-grown before (flat_map output_of so_far.replies) (output_of served.reply) ∙ ap (grown before) (sym (output-push so_far.replies served.reply));
+    written =
+        served.written ∙ ap (λ known. grown known (output_of served.reply)) so_far.written ∙ grown-grown before (flat_map output_of so_far.replies) (output_of served.reply) ∙
+        ap (grown before) (sym (output-push so_far.replies served.reply));
   }
 
   -- more bytes came of the line that goes on
-  pub Fed-more : (more : List ℕ) (filled : LineBuffer) → is_without 10 more ≡ true → ((bytes : List ℕ) → Holds buffer bytes → Holds filled (bytes ++ more)) → Fed first (fed ++ more) before filled taken now
+  pub Fed-more : (more : List ℕ) (filled : LineBuffer) → is_without 10 more ≡ true → ((bytes : List ℕ) → Holds buffer bytes → Holds filled (bytes ++ more)) →
+      Fed first (fed ++ more) before filled taken now
   Fed-more more filled without pushed = record {
     front = so_far.front;
     rest = so_far.rest ++ more;
@@ -82,10 +86,12 @@ module _ (first : Store) (fed : List ℕ) (before : Option (List ℕ)) (buffer :
     written = so_far.written;
   }
 
-  in_part : (script : List ℕ) (line : Line) (later : List Line) (taken_after : Option (List ℕ)) (after : Store) → lines_of script ≡ lines_of so_far.front ++ line ∷ later → ServedInPart now line taken taken_after after → RanInPart first script before taken_after after
+  in_part : (script : List ℕ) (line : Line) (later : List Line) (taken_after : Option (List ℕ)) (after : Store) → lines_of script ≡ lines_of so_far.front ++ line ∷ later →
+      ServedInPart now line taken taken_after after → RanInPart first script before taken_after after
   in_part script line later taken_after after lines served = (
     flat_map output_of so_far.replies ++ take served.written.0 (output_of served.reply),
-    served.written.2 ∙ ap (λ known. grown known (take served.written.0 (output_of served.reply))) so_far.written ∙ grown-grown before (flat_map output_of so_far.replies) (take served.written.0 (output_of served.reply)),
+    served.written.2 ∙ ap (λ known. grown known (take served.written.0 (output_of served.reply))) so_far.written ∙
+        grown-grown before (flat_map output_of so_far.replies) (take served.written.0 (output_of served.reply)),
     record {
       earlier = lines_of so_far.front;
       line = line;
@@ -102,7 +108,8 @@ module _ (first : Store) (fed : List ℕ) (before : Option (List ℕ)) (buffer :
   )
 
   -- the writer failed at the line that goes on, once it was ended
-  pub RanInWholeLines-line : (head more : List ℕ) (taken_after : Option (List ℕ)) (after : Store) → is_without 10 head ≡ true → ServedInPart now (ended_line head) taken taken_after after → RanInWholeLines first (fed ++ (head ++ 10 ∷ more)) before taken_after after
+  pub RanInWholeLines-line : (head more : List ℕ) (taken_after : Option (List ℕ)) (after : Store) → is_without 10 head ≡ true → ServedInPart now (ended_line head) taken taken_after after →
+      RanInWholeLines first (fed ++ (head ++ 10 ∷ more)) before taken_after after
   RanInWholeLines-line head more taken_after after without served =
       let lines : lines_of (fed ++ (head ++ 10 ∷ [])) ≡ lines_of so_far.front ++ ended_line head ∷ [] = ap lines_of (cut_script head []) ∙ lines_to_here head [] without in (
         fed ++ (head ++ 10 ∷ []),
@@ -115,7 +122,8 @@ module _ (first : Store) (fed : List ℕ) (before : Option (List ℕ)) (buffer :
   -- what was fed, up to its last LF, was run
   pub Ran-whole_lines : Ran first (whole_lines fed) before taken now
   Ran-whole_lines =
-      let front : whole_lines fed ≡ so_far.front = ap whole_lines so_far.split ∙ whole_lines-append so_far.front so_far.rest so_far.ended (lines_of-whole_lines so_far.front so_far.rest so_far.ended) so_far.goes_on in
+      let front : whole_lines fed ≡ so_far.front = ap whole_lines so_far.split ∙ whole_lines-append so_far.front so_far.rest so_far.ended
+      (lines_of-whole_lines so_far.front so_far.rest so_far.ended) so_far.goes_on in
       (flat_map output_of so_far.replies, so_far.written, (so_far.replies, rw front so_far.steps, refl))
 
   abbrev pub last_line : Line
@@ -129,7 +137,8 @@ module _ (first : Store) (fed : List ℕ) (before : Option (List ℕ)) (buffer :
   pub Ran-last : (taken_after : Option (List ℕ)) (after : Store) → 0 < length so_far.rest → Served now last_line taken taken_after after → Ran first fed before taken_after after
   Ran-last taken_after after some served = (
     flat_map output_of (so_far.replies ++ served.reply ∷ []),
-    served.written ∙ ap (λ known. grown known (output_of served.reply)) so_far.written ∙ grown-grown before (flat_map output_of so_far.replies) (output_of served.reply) ∙ ap (grown before) (sym (output-push so_far.replies served.reply)),
+    served.written ∙ ap (λ known. grown known (output_of served.reply)) so_far.written ∙ grown-grown before (flat_map output_of so_far.replies) (output_of served.reply) ∙
+        ap (grown before) (sym (output-push so_far.replies served.reply)),
     (so_far.replies ++ served.reply ∷ [], rw (lines_with_last some) (Steps-push first now after (lines_of so_far.front) so_far.replies last_line served.reply so_far.steps served.step), refl),
   )
 
@@ -147,7 +156,8 @@ pub Feeding-nothing : (piece : List ℕ) (buffer : LineBuffer) (taken : Option (
 Feeding-nothing piece buffer taken store =
     record { done = []; split = refl; fed = λ first fed before so_far. rw (append-nil fed) so_far }
 
-module _ (piece rest : List ℕ) (buffer_before buffer : LineBuffer) (taken_before taken : Option (List ℕ)) (store_before store : Store) (feeding : Feeding piece rest buffer_before buffer taken_before taken store_before store) where
+module _ (piece rest : List ℕ) (buffer_before buffer : LineBuffer) (taken_before taken : Option (List ℕ)) (store_before store : Store)
+    (feeding : Feeding piece rest buffer_before buffer taken_before taken store_before store) where
   piece_is : (head after : List ℕ) → rest ≡ head ++ 10 ∷ after → piece ≡ feeding.done ++ (head ++ 10 ∷ after)
   piece_is head after cut = feeding.split ∙ ap (λ bytes. feeding.done ++ bytes) cut
 
@@ -157,7 +167,9 @@ module _ (piece rest : List ℕ) (buffer_before buffer : LineBuffer) (taken_befo
       omega (arith, ap length (piece_is head after cut), length-append feeding.done (head ++ 10 ∷ after), length-append head (10 ∷ after))
 
   -- one more line of the piece was fed
-  pub Feeding-line : (head after : List ℕ) (cleared : LineBuffer) (taken_after : Option (List ℕ)) (store_after : Store) → IsCutAt 10 rest head (Some after) → Holds cleared [] → ((kept : List ℕ) → Holds buffer kept → Served store (record { bytes = kept ++ head; ended = true }) taken taken_after store_after) → Feeding piece after buffer_before cleared taken_before taken_after store_before store_after
+  pub Feeding-line : (head after : List ℕ) (cleared : LineBuffer) (taken_after : Option (List ℕ)) (store_after : Store) → IsCutAt 10 rest head (Some after) →
+      Holds cleared [] → ((kept : List ℕ) → Holds buffer kept → Served store (record { bytes = kept ++ head; ended = true }) taken taken_after store_after) →
+      Feeding piece after buffer_before cleared taken_before taken_after store_before store_after
   Feeding-line head after cleared taken_after store_after cut holds served = record {
     done = feeding.done ++ (head ++ 10 ∷ []);
     split = piece_is head after cut.0 ∙ sym (append_assoc feeding.done (head ++ 10 ∷ []) after ∙ ap (λ bytes. feeding.done ++ bytes) (append_assoc head (10 ∷ []) after));
@@ -168,26 +180,31 @@ module _ (piece rest : List ℕ) (buffer_before buffer : LineBuffer) (taken_befo
   }
 
   -- what is left of the piece has no LF
-  pub Feeding-rest : (head : List ℕ) (filled : LineBuffer) → IsCutAt 10 rest head None → ((bytes : List ℕ) → Holds buffer bytes → Holds filled (bytes ++ head)) → (first : Store) (fed : List ℕ) (before : Option (List ℕ)) → Fed first fed before buffer_before taken_before store_before → Fed first (fed ++ piece) before filled taken store
+  pub Feeding-rest : (head : List ℕ) (filled : LineBuffer) → IsCutAt 10 rest head None → ((bytes : List ℕ) → Holds buffer bytes → Holds filled (bytes ++ head)) →
+      (first : Store) (fed : List ℕ) (before : Option (List ℕ)) → Fed first fed before buffer_before taken_before store_before → Fed first (fed ++ piece) before filled taken store
   Feeding-rest head filled cut pushed first fed before so_far =
       rw (feeding.split, cut.0, ← append_assoc fed feeding.done head)
       (Fed-more first (fed ++ feeding.done) before buffer taken store (feeding.fed first fed before so_far) head filled cut.1 pushed)
 
   -- the writer failed at a line of the piece
-  pub Feeding-cut : (head after : List ℕ) (taken_after : Option (List ℕ)) (store_after : Store) → IsCutAt 10 rest head (Some after) → ((kept : List ℕ) → Holds buffer kept → ServedInPart store (record { bytes = kept ++ head; ended = true }) taken taken_after store_after) → (first : Store) (fed : List ℕ) (before : Option (List ℕ)) → Fed first fed before buffer_before taken_before store_before → RanInWholeLines first (fed ++ piece) before taken_after store_after
+  pub Feeding-cut : (head after : List ℕ) (taken_after : Option (List ℕ)) (store_after : Store) → IsCutAt 10 rest head (Some after) →
+      ((kept : List ℕ) → Holds buffer kept → ServedInPart store (record { bytes = kept ++ head; ended = true }) taken taken_after store_after) →
+      (first : Store) (fed : List ℕ) (before : Option (List ℕ)) → Fed first fed before buffer_before taken_before store_before → RanInWholeLines first (fed ++ piece) before taken_after store_after
   Feeding-cut head after taken_after store_after cut served first fed before so_far =
       let here = feeding.fed first fed before so_far in
       rw (piece_is head after cut.0, ← append_assoc fed feeding.done (head ++ 10 ∷ after))
       (RanInWholeLines-line first (fed ++ feeding.done) before buffer taken store here head after taken_after store_after cut.1 (served here.rest here.holds))
 
 -- a line whose answer was written whole was answered in part, by all of it
-pub Served-in_part : (before : Store) (line : Line) (taken_before taken_after : Option (List ℕ)) (after : Store) → Served before line taken_before taken_after after → ServedInPart before line taken_before taken_after after
+pub Served-in_part : (before : Store) (line : Line) (taken_before taken_after : Option (List ℕ)) (after : Store) → Served before line taken_before taken_after after →
+    ServedInPart before line taken_before taken_after after
 Served-in_part before line taken_before taken_after after served =
     let output = output_of served.reply in
     record { reply = served.reply; step = served.step; written = (length output, omega arith, rw (take-length output) served.written) }
 
 -- a run that was cut off in whole lines was cut off in any script that begins with them
-pub RanInPart-longer : (first : Store) (closed later : List ℕ) (before taken : Option (List ℕ)) (now : Store) → are_whole_lines closed ≡ true → RanInPart first closed before taken now → RanInPart first (closed ++ later) before taken now
+pub RanInPart-longer : (first : Store) (closed later : List ℕ) (before taken : Option (List ℕ)) (now : Store) → are_whole_lines closed ≡ true →
+    RanInPart first closed before taken now → RanInPart first (closed ++ later) before taken now
 RanInPart-longer first closed later before taken now ended ran =
     let cut = ran.2 in (
       ran.0,

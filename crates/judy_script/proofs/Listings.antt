@@ -23,7 +23,8 @@ taken entries place name array there =
     ∙ ap (λ entry. take place entries ++ entry ∷ []) (get_or_from_slice_get entries place (name, array) (name, array) there)
 
 -- the next array comes behind
-pub listed_of-next : (entries : Entries) (place : ℕ) (name : List ℕ) (array : Array) → Some (name, array) ≡ slice_get entries place → listed_of (place + 1) entries ≡ listed_of place entries ++ listing_text (name, value_of array)
+pub listed_of-next : (entries : Entries) (place : ℕ) (name : List ℕ) (array : Array) → Some (name, array) ≡ slice_get entries place →
+    listed_of (place + 1) entries ≡ listed_of place entries ++ listing_text (name, value_of array)
 listed_of-next entries place name array there =
     ap (λ front. flat_map listing_text (store_of front)) (taken entries place name array (sym there))
     ∙ ap (flat_map listing_text) (map-append _ (take place entries) ((name, array) ∷ []))

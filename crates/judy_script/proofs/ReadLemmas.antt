@@ -1,5 +1,6 @@
 -- A run whose script is read piece by piece.
-use Rattle.std.proofs.Common.{◌≡◌, ℕ, ◌+◌, ◌-◌, ◌<◌, ◌≤◌, Bool, true, inl, inr, List, [], ◌++◌, length, take, drop, Option, Some, None, refl, sym, ap, ◌∙◌, arith, append_assoc, append-nil, length-append, subst}
+use Rattle.std.proofs.Common.{◌≡◌, ℕ, ◌+◌, ◌-◌, ◌<◌, ◌≤◌, Bool, true, inl, inr, List, [], ◌++◌, length, take, drop, Option, Some, None, refl, sym, ap, ◌∙◌, arith, append_assoc}
+use Rattle.std.proofs.Common.{append-nil, length-append, subst}
 use Rattle.std.specs.Prelude.{unwrap_or, false}
 use Rattle.std.proofs.lemmas.List.{length-take-le, take-append-drop, take-take}
 use Rattle.std.proofs.Math.Seq.{take-append-add}
@@ -15,7 +16,8 @@ use Rattle.judy_script.specs.RunEnds.{Since}
 use Rattle.judy_script.specs.Feeds.{Fed, Ran, RanInPart, RanInWholeLines}
 
 -- So many bytes were given and fed, and so many more may come.
-pub record Reading (first : Store) (most left : ℕ) (given_before given : Option (List ℕ)) (ended_before ended : Option Bool) (buffer : LineBuffer) (taken_before taken : Option (List ℕ)) (now : Store) : Type 0 where
+pub record Reading (first : Store) (most left : ℕ) (given_before given : Option (List ℕ)) (ended_before ended : Option Bool) (buffer : LineBuffer)
+    (taken_before taken : Option (List ℕ)) (now : Store) : Type 0 where
   pub bytes : List ℕ
   pub given_is : given ≡ grown given_before bytes
   pub fits : length bytes + left ≡ most
@@ -28,12 +30,14 @@ told-told None first second = refl
 told-told (Some before) first second = refl
 
 -- nothing was read yet
-pub Reading-nothing : (first : Store) (most : ℕ) (given : Option (List ℕ)) (ended : Option Bool) (buffer : LineBuffer) (taken : Option (List ℕ)) → Holds buffer [] → Reading first most most given given ended ended buffer taken taken first
+pub Reading-nothing : (first : Store) (most : ℕ) (given : Option (List ℕ)) (ended : Option Bool) (buffer : LineBuffer) (taken : Option (List ℕ)) → Holds buffer [] →
+    Reading first most most given given ended ended buffer taken taken first
 Reading-nothing first most given ended buffer taken holds =
     record { bytes = []; given_is = grown-nothing given; fits = omega arith; ended_is = refl; fed = Fed-nothing first taken buffer holds }
 
 -- the writer failed in whole lines of what was read
-CutAtWrite-within : (first : Store) (most : ℕ) (taken_before taken : Option (List ℕ)) (now : Store) (AtEnd : Type 0) (fed rest : List ℕ) → length fed ≤ most → RanInWholeLines first fed taken_before taken now
+CutAtWrite-within : (first : Store) (most : ℕ) (taken_before taken : Option (List ℕ)) (now : Store) (AtEnd : Type 0) (fed rest : List ℕ) → length fed ≤ most →
+    RanInWholeLines first fed taken_before taken now
     → Since taken_before taken (λ output. CutAtWrite first most (fed ++ rest) AtEnd output now)
 CutAtWrite-within first most taken_before taken now AtEnd fed rest fits (closed, later, split, whole, ran) = (
   ran.0,
@@ -48,7 +52,8 @@ CutAtWrite-within first most taken_before taken now AtEnd fed rest fits (closed,
   },
 )
 
-module _ (first : Store) (most left : ℕ) (given_before given : Option (List ℕ)) (ended_before ended : Option Bool) (buffer : LineBuffer) (taken_before taken : Option (List ℕ)) (now : Store) (reading : Reading first most left given_before given ended_before ended buffer taken_before taken now) where
+module _ (first : Store) (most left : ℕ) (given_before given : Option (List ℕ)) (ended_before ended : Option Bool) (buffer : LineBuffer) (taken_before taken : Option (List ℕ))
+    (now : Store) (reading : Reading first most left given_before given ended_before ended buffer taken_before taken now) where
   -- what the reader gave, once a read gave more
   pub given_more : (piece : List ℕ) (given_after : Option (List ℕ)) → given_after ≡ grown given piece → given_after ≡ grown given_before (reading.bytes ++ piece)
   given_more piece given_after is =
@@ -58,7 +63,8 @@ module _ (first : Store) (most left : ℕ) (given_before given : Option (List �
   given_nothing given_after is = given_more [] given_after is ∙ ap (grown given_before) (append-nil reading.bytes)
 
   -- a read that failed
-  pub CutAtRead-here : (AtEnd : Type 0) (given_after : Option (List ℕ)) → given_after ≡ grown given [] → Since given_before given_after (λ bytes. Since taken_before taken (λ output. CutAtRead first most bytes AtEnd output now))
+  pub CutAtRead-here : (AtEnd : Type 0) (given_after : Option (List ℕ)) → given_after ≡ grown given [] →
+      Since given_before given_after (λ bytes. Since taken_before taken (λ output. CutAtRead first most bytes AtEnd output now))
   CutAtRead-here AtEnd given_after is =
       let ran = Ran-whole_lines first reading.bytes taken_before buffer taken now reading.fed in
       (reading.bytes, given_nothing given_after is, (ran.0, ran.1, record { fits = omega (arith, reading.fits); ran = ran.2 }))
@@ -120,7 +126,8 @@ module _ (first : Store) (most left : ℕ) (given_before given : Option (List �
       reading.bytes ++ take count room,
       given_more (take count room) given_after is,
       subst (λ bytes. Since taken_before taken_after (λ output. CutAtWrite first most bytes AtEnd output after)) (append-nil (reading.bytes ++ take count room))
-          (CutAtWrite-within first most taken_before taken_after after AtEnd (reading.bytes ++ take count room) [] (omega (arith, length-append reading.bytes (take count room), long, reading.fits)) (cut first reading.bytes taken_before reading.fed)),
+          (CutAtWrite-within first most taken_before taken_after after AtEnd (reading.bytes ++ take count room) []
+          (omega (arith, length-append reading.bytes (take count room), long, reading.fits)) (cut first reading.bytes taken_before reading.fed)),
     )
 
     -- the piece has more bytes than may come
@@ -136,8 +143,10 @@ module _ (first : Store) (most left : ℕ) (given_before given : Option (List �
           → Since given_before given_after (λ bytes. Since taken_before taken_after (λ output. CutAtWrite first most bytes AtEnd output after))
       CutAtWrite-most AtEnd taken_after after cut = (
         (reading.bytes ++ take left room) ++ drop left (take count room),
-        given_more (take count room) given_after is ∙ ap (grown given_before) (ap (λ piece. reading.bytes ++ piece) piece_is ∙ sym (append_assoc reading.bytes (take left room) (drop left (take count room)))),
-        CutAtWrite-within first most taken_before taken_after after AtEnd (reading.bytes ++ take left room) (drop left (take count room)) within_most (cut first reading.bytes taken_before reading.fed),
+        given_more (take count room) given_after is ∙ ap (grown given_before) (ap (λ piece. reading.bytes ++ piece) piece_is ∙
+            sym (append_assoc reading.bytes (take left room) (drop left (take count room)))),
+        CutAtWrite-within first most taken_before taken_after after AtEnd (reading.bytes ++ take left room) (drop left (take count room)) within_most
+            (cut first reading.bytes taken_before reading.fed),
       )
 
       -- where it has one more, that is all that was given
@@ -162,7 +171,8 @@ module _ (first : Store) (most left : ℕ) (given_before given : Option (List �
 
 -- a run that the writer cut off, over a source that gives a script in order, was cut off in that script
 pub RanInPart-script : (first : Store) (most : ℕ) (taken_before taken : Option (List ℕ)) (now : Store) (script : List ℕ) (ended_before ended : Option Bool) (bytes : List ℕ)
-    → GivesInOrder script (Some bytes) ended → ended_before ≡ Some false → Since taken_before taken (λ output. CutAtWrite first most bytes (ended ≡ told ended_before true) output now) → RanInPart first script taken_before taken now
+    → GivesInOrder script (Some bytes) ended → ended_before ≡ Some false → Since taken_before taken (λ output. CutAtWrite first most bytes (ended ≡ told ended_before true) output now) →
+    RanInPart first script taken_before taken now
 RanInPart-script first most taken_before taken now script ended_before ended bytes order fresh since =
     elim since.2.line_end [
       | inl whole ↦ subst (λ whole. RanInPart first whole taken_before taken now) (sym split) (RanInPart-longer first since.2.closed (since.2.later ++ order.front.0) taken_before taken now whole ran)

@@ -12,7 +12,8 @@ use Rattle.judy_model.specs.Steps.{Step, outcome_grows, outcome_of, outcome_of_t
 use Rattle.judy_command.specs.Follows.{Follows}
 
 -- what follows an outcome is what the line relation allows
-Step-by : (before after : Store) (outcome : Result (Outcome Store) Refusal) (line : Line) (reply : Reply) → outcome_of before line ≡ outcome → Follows before outcome reply after → Step before line reply after
+Step-by : (before after : Store) (outcome : Result (Outcome Store) Refusal) (line : Line) (reply : Reply) → outcome_of before line ≡ outcome →
+    Follows before outcome reply after → Step before line reply after
 Step-by before after (Ok outcome) line (Ok answer) is h = inl (rw (is, h.0, h.1) refl)
 Step-by before after (Ok outcome) line (Err refusal) is h = inr (ap outcome_grows is ∙ h.0, ap Err h.1, h.2)
 Step-by before after (Err first) line (Ok answer) is h = absurd h
@@ -34,7 +35,8 @@ carried_out-take store free (a ∷ b ∷ c ∷ d ∷ more) = refl
 carried_out-take store (on_key command) (a ∷ b ∷ c ∷ d ∷ more) = refl
 carried_out-take store (on_pair command) (a ∷ b ∷ c ∷ d ∷ more) = refl
 
-found-take : (store : Store) (found : Option Command) (arguments : List (List ℕ)) → (ok_or found unknown_command >>= (λ command. carried_out store command (take 4 arguments))) ≡ (ok_or found unknown_command >>= (λ command. carried_out store command arguments))
+found-take : (store : Store) (found : Option Command) (arguments : List (List ℕ)) → (ok_or found unknown_command >>= (λ command. carried_out store command (take 4 arguments))) ≡
+    (ok_or found unknown_command >>= (λ command. carried_out store command arguments))
 found-take store None arguments = refl
 found-take store (Some command) arguments = carried_out-take store command arguments
 
@@ -45,5 +47,6 @@ outcome_of_tokens-take store (word ∷ arguments) =
     ap (λ carried. cond (starts_with nat_eq word (59 ∷ [])) (Ok (unchanged store silent)) carried) (found-take store (command_named word) arguments)
 
 -- a line of at most 4,096 bytes does what its first five tokens do
-pub outcome_of-tokens : (store : Store) (line : Line) (tokens : List (List ℕ)) → is_too_long line ≡ false → tokens ≡ take 5 (tokens_of (text_of line)) → outcome_of store line ≡ outcome_of_tokens store tokens
+pub outcome_of-tokens : (store : Store) (line : Line) (tokens : List (List ℕ)) → is_too_long line ≡ false → tokens ≡ take 5 (tokens_of (text_of line)) →
+    outcome_of store line ≡ outcome_of_tokens store tokens
 outcome_of-tokens store line tokens fits same = rw (fits, same) (sym (outcome_of_tokens-take store (tokens_of (text_of line))))

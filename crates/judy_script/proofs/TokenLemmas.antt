@@ -1,5 +1,6 @@
 -- The tokens of a text by its first space.
-use Rattle.std.proofs.Common.{◌≡◌, ◌≢◌, ℕ, ◌<◌, Bool, true, false, cond, not, ◌&&◌, ◌==◌, nat_lt, List, [], ◌∷◌, ◌++◌, length, Option, Some, None, refl, sym, ap, arith, take, drop, get_or, zero, suc, ◌∙◌, ◌≤◌}
+use Rattle.std.proofs.Common.{◌≡◌, ◌≢◌, ℕ, ◌<◌, Bool, true, false, cond, not, ◌&&◌, ◌==◌, nat_lt, List, [], ◌∷◌, ◌++◌, length, Option, Some, None, refl, sym, ap, arith, take, drop}
+use Rattle.std.proofs.Common.{get_or, zero, suc, ◌∙◌, ◌≤◌}
 use Rattle.std.specs.Prelude.{filter, unwrap_or}
 use Rattle.std.specs.List.{slice_split, onto_first}
 use Rattle.std.proofs.Common.{◌+◌, add-one, drop-cons}
@@ -22,7 +23,8 @@ not_true : (b : Bool) → not b ≡ true → b ≡ false
 not_true true h = sym h
 not_true false h = refl
 
-slice_split-at : (byte : ℕ) (front rest : List ℕ) → is_without byte front ≡ true → (byte == byte) ≡ true → slice_split (λ b. b == byte) (front ++ byte ∷ rest) ≡ front ∷ slice_split (λ b. b == byte) rest
+slice_split-at : (byte : ℕ) (front rest : List ℕ) → is_without byte front ≡ true → (byte == byte) ≡ true →
+    slice_split (λ b. b == byte) (front ++ byte ∷ rest) ≡ front ∷ slice_split (λ b. b == byte) rest
 slice_split-at byte [] rest h same = rw same refl
 slice_split-at byte (x ∷ front) rest h same =
     rw (not_true (x == byte) (first_of_both _ _ h)) (ap (onto_first x) (slice_split-at byte front rest (second_of_both _ _ h) same))

@@ -17,8 +17,8 @@ pub(crate) fn cut_at(text: &[u8], byte: u8) -> (&[u8], Option<&[u8]>)
     (&text[..place], Some(&text[place + 1..]))
 }
 
-/// How many bytes of the text stand before the first `byte`, all where it isn't there. Several are compared at once, with no branch
-/// on where it stands among them: sixteen, eight or four, as many as there are.
+/// How many bytes of the text stand before the first `byte`, all where it isn't there. Several are compared at once,
+/// with no branch on where it stands among them: sixteen, eight or four, as many as there are.
 #[inline(always)]
 pub(crate) fn len_before(text: &[u8], byte: u8) -> usize
     ensures within { result ≤ length text.now }
@@ -34,7 +34,8 @@ pub(crate) fn len_before(text: &[u8], byte: u8) -> usize
     }
 }
 
-// The same, so many compared at once. Of those at the end some are compared twice, so that none is left to be compared alone.
+// The same, so many compared at once. Of those at the end some are compared twice, so that none is left to be compared
+// alone.
 #[inline(always)]
 fn len_before_by<const N: usize>(text: &[u8], byte: u8) -> usize
     requires some { 0 < N }

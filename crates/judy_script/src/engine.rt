@@ -87,7 +87,7 @@ pub(crate) fn feed<W: Sink>(
 ///
 /// The error is that the sink failed: the shelf is then as after the line whose answer was being written, which
 /// is the last one where the answers couldn't be handed on.
-pub(crate) fn serve<W: Sink>(
+pub(crate) fn feed_and_flush<W: Sink>(
     piece: &[u8],
     buffers: &mut Buffers,
     shelf: &mut Shelf,

@@ -15,8 +15,8 @@ use judy_model::keys::LONGEST_KEY;
 use judy_shelf::{Array, Name, Shelf};
 use judy_sl::KeyBuf;
 
-/// The reply as text, in the buffer in the place of what it held, where it isn't the same always. The shelf is as the line left
-/// it.
+/// The reply as text, in the buffer in the place of what it held, where it isn't the same always. The shelf is as the
+/// line left it.
 #[inline(always)]
 pub(crate) fn print<'t>(reply: LineReply<'_>, shelf: &Shelf, text: &'t mut Text) -> Line<'t>
     ensures text { bytes_of result ≡ output_of (line_reply_of (store_of shelf.now) reply.entry) }

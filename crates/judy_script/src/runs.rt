@@ -8,7 +8,7 @@ ghost use Rattle.judy_shelf.specs.Shelves.{store_of};
 ghost use Rattle.judy_script.specs.declared.fault.RunFault.TheVariants.{Read, TooLong, Write};
 ghost use Rattle.judy_script.specs.RunEnds.{Since, fault_of, read_failures, write_failures};
 
-use crate::engine::{Buffers, feed, finish, serve};
+use crate::engine::{Buffers, feed, feed_and_flush, finish};
 use crate::fault::RunFault;
 use judy_pipe::{MemSource, Sink, Source, SourceTrouble, read_some};
 use judy_shelf::Shelf;
@@ -85,7 +85,7 @@ pub fn run<R: Source, W: Sink>(
                 Err(_) => Err(RunFault::Write),
             };
         }
-        match serve(&piece[..count], &mut buffers, shelf, sink) {
+        match feed_and_flush(&piece[..count], &mut buffers, shelf, sink) {
             Ok(()) => left -= count as u64,
             Err(_) => return Err(RunFault::Write),
         }

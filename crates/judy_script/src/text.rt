@@ -76,7 +76,8 @@ impl Text {
         self.len = end;
     }
 
-    /// A line of a head, the number in decimal and an LF, beside the bytes. It is written from its end on, where it stays.
+    /// A line of a head, the number in decimal and an LF, beside the bytes. It is written from its end on, where it
+    /// stays.
     #[inline(always)]
     pub(crate) fn number_line(&mut self, head: &[u8], number: u64) -> Line<'_>
         requires { length head.now ≤ 8 }

@@ -1,7 +1,9 @@
 -- How an end of the program shows.
 use Rattle.std.specs.Prelude.{◌≡◌, ℕ, ◌+◌, ◌⊎◌, List, [], ◌∷◌, ◌++◌, codes, string_bytes, Result, Ok, Err}
-use Rattle.judy_options.specs.declared.refusal.Refusal.{Refusal}
-use Rattle.judy_options.specs.declared.refusal.Refusal.TheVariants as refusal
+use Rattle.judy_options.specs.declared.not_taken.NotTaken.{NotTaken}
+use Rattle.judy_options.specs.declared.not_taken.NotTaken.TheVariants as refusal
+use Rattle.judy_options.specs.declared.version.TheConstants.{VERSION}
+use Rattle.judy_options.specs.CommandLines.{IsRefused, refusals}
 use Rattle.judy_script.specs.declared.fault.RunFault.{RunFault}
 use Rattle.judy_script.specs.declared.fault.RunFault.TheVariants.{Read, Write, TooLong}
 use Rattle.judy_script.specs.Faults.{fault_word}
@@ -10,15 +12,21 @@ use Rattle.judy_store.specs.declared.end.End.{End}
 use Rattle.judy_store.specs.declared.end.End.TheVariants as end
 
 -- The end where the words of the command line aren't taken.
-abbrev pub end_of : Refusal → End
+abbrev pub end_of : NotTaken → End
 end_of (refusal.Help text) = end.Help text
+end_of refusal.Version = end.Version
 end_of (refusal.BadWords text) = end.BadWords text
 end_of refusal.NoMemory = end.NoMemory
+
+-- An end for a reason why these words aren't taken.
+abbrev pub EndsRefused : List (List ℕ) → End → Type 0
+EndsRefused words told = (why : NotTaken) × IsRefused (refusals words) why × (told ≡ end_of why)
 
 -- The exit status: 0 where the program did what it was asked, 2 where the command line was refused, else 1.
 abbrev pub status_of : End → ℕ
 status_of end.Done = 0
 status_of (end.Help text) = 0
+status_of end.Version = 0
 status_of (end.BadWords text) = 2
 status_of end.NoMemory = 1
 status_of (end.Open name) = 1
@@ -31,6 +39,7 @@ status_of (end.Dump fault) = 1
 abbrev pub line_of : End → List ℕ
 line_of end.Done = []
 line_of (end.Help text) = string_bytes text
+line_of end.Version = codes "judystore " ++ VERSION.now ++ 10 ∷ []
 line_of (end.BadWords text) = string_bytes text
 line_of end.NoMemory = codes "judystore: no-memory" ++ 10 ∷ []
 line_of (end.Open name) = codes "judystore: open: " ++ string_bytes name ++ 10 ∷ []

@@ -36,9 +36,9 @@ impl DumpFile {
         }
     }
 
-    /// Has the system keep what was written, so that it outlasts a loss of power, and closes the file. Some file systems
-    /// tell only here that they couldn't keep it, which is the one error. A terminal or a pipe keeps nothing, which
-    /// `InvalidInput` tells.
+    /// Has the system keep what was written, so that it outlasts a loss of power, and closes the file. Some file
+    /// systems tell only here that they couldn't keep it, which is the one error. A terminal or a pipe keeps nothing,
+    /// which `InvalidInput` tells.
     pub fn keep(self) -> Result<(), PipeFailed> {
         match self.file.sync_data() {
             Err(error) if error.kind() != ErrorKind::InvalidInput => Err(PipeFailed),

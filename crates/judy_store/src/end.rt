@@ -5,7 +5,7 @@ ghost use Rattle.judy_pipe.specs.Pipe.{grown, GrewByFront};
 ghost use Rattle.judy_script.specs.declared.fault.RunFault.TheVariants.{Write};
 ghost use Rattle.judy_store.specs.Ends.{status_of, line_of};
 
-use judy_options::Refusal;
+use judy_options::{NotTaken, VERSION};
 use judy_pipe::{PipeFailed, Sink, write_all};
 use judy_script::RunFault;
 use judy_shelf::{DumpFault, LoadFault};
@@ -17,6 +17,8 @@ pub enum End {
     Done,
     /// The command line asked for help, which is the text.
     Help(String),
+    /// The command line asked for the version.
+    Version,
     /// The command line was refused; the text says why.
     BadWords(String),
     /// There is no memory to read the command line, or for the name of a file that couldn't be opened.
@@ -31,17 +33,18 @@ pub enum End {
     Dump(DumpFault),
 }
 
-impl From<Refusal> for End {
+impl From<NotTaken> for End {
     ghost use Rattle.std.specs.Prelude.{◌≡◌};
     ghost use Rattle.judy_store.specs.Ends.{end_of};
 
     ghost from_gives = { λ refusal end. end ≡ end_of refusal };
 
-    fn from(refusal: Refusal) -> End {
+    fn from(refusal: NotTaken) -> End {
         match refusal {
-            Refusal::Help(text) => End::Help(text),
-            Refusal::BadWords(text) => End::BadWords(text),
-            Refusal::NoMemory => End::NoMemory,
+            NotTaken::Help(text) => End::Help(text),
+            NotTaken::Version => End::Version,
+            NotTaken::BadWords(text) => End::BadWords(text),
+            NotTaken::NoMemory => End::NoMemory,
         }
     }
 }
@@ -52,13 +55,13 @@ pub fn status(end: &End) -> u8
     ensures { result ≡ status_of end.now }
 {
     match end {
-        End::Done | End::Help(_) => 0,
+        End::Done | End::Help(_) | End::Version => 0,
         End::BadWords(_) => 2,
         _ => 1,
     }
 }
 
-/// Writes what the program says of its end: for `Help` and `BadWords` their text, for every other fault one
+/// Writes what the program says of its end: for `Help` and `BadWords` their text, for `Version` and every fault one
 /// line, and nothing where the program is done.
 ///
 /// The one fault is `Write`, where the sink failed: a front of it was written then.
@@ -82,6 +85,7 @@ fn line(end: &End) -> (&[u8], &[u8], &[u8])
     match end {
         End::Done => (b"", b"", b""),
         End::Help(text) => (b"", text.as_bytes(), b""),
+        End::Version => (b"judystore ", VERSION.as_bytes(), b"\n"),
         End::BadWords(text) => (b"", text.as_bytes(), b""),
         End::NoMemory => (b"judystore: no-memory", b"", b"\n"),
         End::Open(name) => (b"judystore: open: ", name.as_bytes(), b"\n"),

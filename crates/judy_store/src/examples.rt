@@ -44,6 +44,7 @@ pub fn other_faults_have_their_words()
 pub fn ends_have_their_status(text: &String)
     ensures done { status_of end.Done ≡ 0 }
     ensures help { status_of (end.Help text.now) ≡ 0 }
+    ensures version { status_of end.Version ≡ 0 }
     ensures bad_words { status_of (end.BadWords text.now) ≡ 2 }
     ensures no_memory { status_of end.NoMemory ≡ 1 }
     ensures open { status_of (end.Open text.now) ≡ 1 }
@@ -63,6 +64,7 @@ pub fn ends_with_a_text_are_told(text: &String)
 /// And where it has none, or a fault.
 pub fn ends_are_told()
     ensures done { line_of end.Done ≡ [] }
+    ensures version { line_of end.Version ≡ codes "judystore 1.0.0-dev" ++ 10 ∷ [] }
     ensures no_memory { line_of end.NoMemory ≡ codes "judystore: no-memory" ++ 10 ∷ [] }
     ensures load_cut { line_of (end.Load load.Truncated)
         ≡ codes "judystore: load: truncated" ++ 10 ∷ [] }

@@ -8,11 +8,13 @@
 //! tell no bytes.
 //!
 //! work.rt does what the words ask, in the program's order:
-//! files.rt opens the files, dump_file.rt has the one that is written, pipes.rt has the pipes over them, and store.rt what is done with these. end.rt tells how
-//! the program ends, and examples.rt has what is printed of each end.
+//! files.rt opens the files, dump_file.rt has the one that is written, pipes.rt has the pipes over them, and store.rt
+//! what is done with these. end.rt tells how the program ends, and examples.rt has what is printed of each end.
 #![tactic(auto)]
 
-ghost use Rattle.std.specs.Prelude.{◌<◌, ◌-◌, ◌^◌};
+ghost use Rattle.std.specs.Prelude.{◌<◌, ◌-◌, ◌^◌, ◌≢◌, [], IsErrAnd, map, string_bytes};
+ghost use Rattle.judy_options.specs.CommandLines.{refusals};
+ghost use Rattle.judy_store.specs.Ends.{EndsRefused};
 
 mod dump_file;
 mod end;
@@ -36,7 +38,7 @@ use std::process::ExitCode;
 const LINE_LEN: usize = 4096;
 
 fn main(rt: HostRuntime) -> ExitCode {
-    let end = match carry_out(&rt) {
+    let end = match run_program(&rt) {
         Ok(()) => End::Done,
         Err(end) => end,
     };
@@ -44,9 +46,17 @@ fn main(rt: HostRuntime) -> ExitCode {
 }
 
 // Does what the command line asks.
-fn carry_out(rt: &HostRuntime) -> Result<(), End> {
+fn run_program(rt: &HostRuntime) -> Result<(), End> {
     let words = words(rt)?;
-    let options = options(rt.alloc(), words.as_slice())?;
+    serve_words(rt, words.as_slice())
+}
+
+// Does what words ask. Where they aren't taken, as where they ask for help or the version, no file is opened.
+fn serve_words(rt: &HostRuntime, words: &[String]) -> Result<(), End>
+    ensures refused { refusals (map string_bytes words.now) ≢ []
+        → IsErrAnd result (EndsRefused (map string_bytes words.now)) }
+{
+    let options = options(rt.alloc(), words)?;
     serve(rt, &options)
 }
 
@@ -59,12 +69,12 @@ fn words(rt: &HostRuntime) -> Result<Vec<String>, End> {
     }
 }
 
-// Tells the user of the end: help on standard output, all else on standard error. Help that can't be written ends
-// the program as answers do that can't. What is said is written in one piece where it fits, so that no other
-// program's words come between.
+// Tells the user of the end: help and the version on standard output, all else on standard error. Where these can't be
+// written, the program ends as where answers can't. What is said is written in one piece where it fits, so that no
+// other program's words come between.
 fn report(rt: &HostRuntime, end: End) -> End {
     let mut end = end;
-    if let End::Help(_) = end {
+    if let End::Help(_) | End::Version = end {
         let mut output = BufferedSink::<_, LINE_LEN>::new(WriteSink::new(rt.stdout()));
         match say(&end, &mut output) {
             Ok(()) => return end,

@@ -74,6 +74,8 @@ impl<W: Write> Sink for WriteSink<W> {
 
     ghost tally = { λ sink. sink.tally };
 
+    ghost keeps_last = { λ _. tt };
+
     fn write(&mut self, piece: &[u8]) -> Result<usize, Stop> {
         let answer = self.inner.write(piece).map_err(stop_of);
         self.tally.count_write(piece, &answer);

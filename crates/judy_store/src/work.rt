@@ -20,8 +20,8 @@ const BUFFER_LEN: usize = 65536;
 /// Begins with an empty store, or the one that it loads; runs the script, and hands its answers on; then dumps the
 /// store where it is asked to. The first fault ends it, and nothing later is done.
 ///
-/// Where all is done, the arrays are not let go, since the system takes the memory of a program that ends at once, and each block by itself takes
-/// longer.
+/// Where all is done, the arrays are not let go, since the system takes the memory of a program that ends at once, and
+/// each block by itself takes longer.
 pub fn serve(rt: &HostRuntime, options: &Options) -> Result<(), End> {
     let mut shelf = match &options.load {
         Some(name) => loaded(rt, name.as_str())?,

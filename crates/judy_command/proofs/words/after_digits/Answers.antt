@@ -11,7 +11,8 @@ overflow_mul-number c =
 
 pub overflow_add-number : goal.overflow_add-number
 overflow_add-number c =
-    let fits = fits_word c.loop-byte.number c.in-Some.digit (19 - length c.args.digits.now + c.loop-byte.byte-index) c.loop-byte.invariant.small c.in-Some.ensures.small (omega (arith, c.loop-byte-test.true)) in omega arith
+    let fits = fits_word c.loop-byte.number c.in-Some.digit (19 - length c.args.digits.now + c.loop-byte.byte-index) c.loop-byte.invariant.small c.in-Some.ensures.small
+    (omega (arith, c.loop-byte-test.true)) in omega arith
 
 pub loop-byte-preserved : goal.loop-byte-preserved
 loop-byte-preserved c =
@@ -23,7 +24,9 @@ loop-byte-preserved c =
       within = omega arith;
       digits = one_more digits i here c.loop-byte.invariant.digits is.0;
       number = rw (c.loop-byte.invariant.number, is.1) (sym (after_more c.args.number digits i here));
-      small = subst (λ n. c.loop-byte.number * 10 + c.in-Some.digit < 10 ^ n) (omega arith) (next_power c.loop-byte.number c.in-Some.digit (19 - length digits + i) c.loop-byte.invariant.small c.in-Some.ensures.small);
+      small =
+          subst (λ n. c.loop-byte.number * 10 + c.in-Some.digit < 10 ^ n) (omega arith) (next_power c.loop-byte.number c.in-Some.digit
+          (19 - length digits + i) c.loop-byte.invariant.small c.in-Some.ensures.small);
     }
 
 pub returns-in_default : goal.returns-in_default

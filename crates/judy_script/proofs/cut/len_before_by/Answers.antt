@@ -16,7 +16,8 @@ returns-then-here-clause-front g c =
     let cut = c.in-Some.ensures.cases in
     let inside = c.if-here.true in
     front_longer c.args.byte c.args.text.now rest c.chunks.count c.chunks.invariant.rest here c.chunks.invariant.front
-    (chunk_without c.args.byte c.args.text.now rest c.chunks.count c.chunks.invariant.rest g.row.N c.in-Some.chunk.now cut.0 (omega (arith, cut.2)) here c.first_place-here.ensures.first here (omega arith) (omega arith))
+    (chunk_without c.args.byte c.args.text.now rest c.chunks.count c.chunks.invariant.rest g.row.N c.in-Some.chunk.now cut.0 (omega (arith, cut.2)) here c.first_place-here.ensures.first here
+    (omega arith) (omega arith))
 
 pub returns-then-here-clause-end : goal.returns-then-here-clause-end
 returns-then-here-clause-end g c = λ _.
@@ -37,7 +38,8 @@ chunks-preserved g c =
       rest = cut.1 ∙ rest_behind c.args.byte c.args.text.now rest c.chunks.count c.chunks.invariant.rest g.row.N;
       front =
           front_longer c.args.byte c.args.text.now rest c.chunks.count c.chunks.invariant.rest g.row.N c.chunks.invariant.front
-          (chunk_without c.args.byte c.args.text.now rest c.chunks.count c.chunks.invariant.rest g.row.N c.in-Some.chunk.now cut.0 (omega (arith, cut.2)) here c.first_place-here.ensures.first g.row.N (omega arith) (omega arith));
+          (chunk_without c.args.byte c.args.text.now rest c.chunks.count c.chunks.invariant.rest g.row.N c.in-Some.chunk.now cut.0
+          (omega (arith, cut.2)) here c.first_place-here.ensures.first g.row.N (omega arith) (omega arith));
     }
 
 pub returns-in-Some-split_last_chunk-clause-front : goal.returns-in-Some-split_last_chunk-clause-front

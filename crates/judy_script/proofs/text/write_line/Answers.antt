@@ -8,7 +8,8 @@ short : (n : ℕ) → n < 2 ^ 64 → length (decimal n) ≤ 20
 short n fits = search (rules, length-decimal-le 20)
 
 -- what is written from the end on stands there in order, with other bytes behind it
-line_written : (room head digits written : List ℕ) (at : ℕ) → length room ≡ 64 → length head ≤ at → at + length digits ≡ 31 → length written ≡ 64 → drop at written ≡ digits ++ drop 31 (slice_set room 31 10)
+line_written : (room head digits written : List ℕ) (at : ℕ) → length room ≡ 64 → length head ≤ at → at + length digits ≡ 31 → length written ≡ 64 →
+    drop at written ≡ digits ++ drop 31 (slice_set room 31 10)
     → take (32 - (at - length head)) (take 32 (mid_of (at - length head) (64 - (at - length head)) (put_mid (at - length head) (at - (at - length head)) written head))) ≡ head ++ digits ++ 10 ∷ []
 line_written room head digits written at long fits start same there =
     let from : ℕ = at - length head in

@@ -1,5 +1,5 @@
 use Rattle.std.specs.Prelude.{Result, Ok, Err, OnErr}
-use Rattle.judy_script.proofs.engine.serve.Goals as goal
+use Rattle.judy_script.proofs.engine.feed_and_flush.Goals as goal
 
 -- What holds at any end holds at an error.
 at_error : {A E : Type 0} (P : Type 0) → P → (result : Result A E) → OnErr result P
