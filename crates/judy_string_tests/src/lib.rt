@@ -1,0 +1,17 @@
+//! The worked rows of arrays over strings and byte strings, by their own calls, as tests by the rows' names.
+//!
+//! The crate stands on the arrays alone, so it is proved beside the program and not behind it. It has no code of its
+//! own.
+//!
+//! strings.rt has the rows of arrays over strings, cursors.rt those of walks over them, bytes.rt those of arrays over
+//! byte strings, and check.rt what rows compare.
+#![tactic(auto)]
+
+#[cfg(test)]
+mod bytes;
+#[cfg(test)]
+mod check;
+#[cfg(test)]
+mod cursors;
+#[cfg(test)]
+mod strings;
