@@ -9,6 +9,9 @@
  *   where FOR_PROGRAM        what the program alone asks for
  */
 #include <errno.h>
+#ifdef FOR_PROGRAM
+#include <malloc.h>
+#endif
 #include <stdbool.h>
 #include <stddef.h>
 #include <stdint.h>
@@ -43,19 +46,58 @@ static tried made(void *block) {
     return block ? (tried){true, block} : (tried){false, &nobodys};
 }
 
+#ifdef FOR_PROGRAM
+
+/* malloc keeps what is freed. Where half of the bytes went since the last time, and so many at least, the program has it give their pages back
+ * to the system: bytes halve so seldom that this costs a free next to nothing. The library leaves it to the program that it is in, whose malloc
+ * and whose threads it doesn't know. */
+enum { MANY_BYTES = 1 << 20 };
+
+static size_t bytes, most_bytes;
+
+static void count_made(void *block) {
+    bytes += malloc_usable_size(block);
+    if (bytes > most_bytes) most_bytes = bytes;
+}
+
+static void count_freed(void *block) { bytes -= malloc_usable_size(block); }
+
+static void give_back(void) {
+    if (bytes > most_bytes / 2 || most_bytes - bytes < MANY_BYTES) return;
+    malloc_trim(0);
+    most_bytes = bytes;
+}
+
+#else
+static void count_made(void *block) { (void)block; }
+static void count_freed(void *block) { (void)block; }
+static void give_back(void) {}
+#endif
+
 /* A block of so many bytes, fewer than 2^63, at a multiple of `alignment`, which divides 16, as each of malloc's blocks is. A block of no byte
  * is a block too, which is freed as any other; malloc may answer null where it is asked for none, so it is asked for some. (libc, heap.) */
-tried rattle_alloc(size_t size, size_t alignment) { return made(malloc(size ? size : alignment)); }
+tried rattle_alloc(size_t size, size_t alignment) {
+    void *block = malloc(size ? size : alignment);
+    count_made(block);
+    return made(block);
+}
 
 /* Makes the block at `at` one of so many bytes, which may move. Its first `kept` bytes, which both have, stay as they were. Where there is no
  * memory the block is left as it was. (libc, heap.) */
 tried rattle_realloc(void *at, size_t kept, size_t size, size_t alignment) {
     (void)kept;
-    return made(realloc(at, size ? size : alignment));
+    count_freed(at);
+    void *block = realloc(at, size ? size : alignment);
+    count_made(block ? block : at);
+    return made(block);
 }
 
 /* Frees a block that either of the two made. (libc, heap.) */
-void rattle_dealloc(void *at) { free(at); }
+void rattle_dealloc(void *at) {
+    count_freed(at);
+    free(at);
+    give_back();
+}
 
 #endif
 #ifdef FOR_PROGRAM
@@ -95,5 +137,21 @@ ptrdiff_t rattle_arg(size_t at, uint8_t *buffer, size_t length) {
 /* The number of the last error of a call of the C library, and a write of it. (os, c.) */
 int32_t rattle_errno(void) { return errno; }
 void rattle_set_errno(int32_t number) { errno = number; }
+
+/* Who asks the disk to keep a file asks again where that was interrupted, and without end. So the linker puts this in the call's place: the 1,000th
+ * interruption in a row is an error, as of reads and writes. (libc, fdatasync, which may answer any error.) */
+enum { INTERRUPTIONS = 1000 };
+
+int __real_fdatasync(int file);
+int __wrap_fdatasync(int file);
+
+int __wrap_fdatasync(int file) {
+    for (int n = 0; n < INTERRUPTIONS; n++) {
+        int told = __real_fdatasync(file);
+        if (told == 0 || errno != EINTR) return told;
+    }
+    errno = EIO;
+    return -1;
+}
 
 #endif

@@ -61,7 +61,7 @@ const char *sellumaq_version(void);
 /* What a call answers that has more to tell than yes and no. */
 enum {
     SELLUMAQ_PRESENT = 0,   /* of `set`, `put` and `insert`: the key was there */
-    SELLUMAQ_ADDED = 1,     /* of these: the key was absent, and is there now; of `from_sorted`: the array is made */
+    SELLUMAQ_ADDED = 1,     /* of these: the key was absent, and is there now; of `from_sorted`, `union` and fellows: the array is made */
     SELLUMAQ_NONE = 0,      /* of strings: there is no such key */
     SELLUMAQ_FOUND = 1,     /* of strings and byte strings: the key is there, and what was asked of it is told */
     SELLUMAQ_NO_MEMORY = 2, /* the key is absent, there is no memory for it, and nothing changed; of `from_sorted`: none for the keys */
@@ -126,6 +126,39 @@ uint64_t sellumaq_judy1_count(const sellumaq_judy1 *set, uint64_t from, uint64_t
 
 /* The n-th key, counted from 1; false for 0 and above the number of keys. */
 bool sellumaq_judy1_by_count(const sellumaq_judy1 *set, uint64_t n, uint64_t *key);
+
+/* How many words from one to another, both included, are no keys; 0 where the first is above the second. All 2^64 words are answered as
+ * 2^64 - 1. */
+uint64_t sellumaq_judy1_count_empty(const sellumaq_judy1 *set, uint64_t from, uint64_t to);
+
+/* Takes the keys from one word to another out, both included, and answers how many they were. It can't fail. Where more keys go than stay, the
+ * others are put into new nodes, if there is memory. */
+uint64_t sellumaq_judy1_remove_range(sellumaq_judy1 *set, uint64_t from, uint64_t to);
+
+/* Makes `made` a copy, with nodes as small as its keys allow, in place of what it held: SELLUMAQ_ADDED. Else it is as it was:
+ * SELLUMAQ_NO_MEMORY. The two handles are two. */
+uint32_t sellumaq_judy1_copy(sellumaq_judy1 *made, const sellumaq_judy1 *set);
+
+/* How many keys both have; the one or the other; the one and not the other; exactly one of them. All 2^64 words, which no memory holds, would be
+ * answered as 2^64 - 1. Neither set changes. It takes a walk over both, and no memory. */
+uint64_t sellumaq_judy1_intersection_count(const sellumaq_judy1 *one, const sellumaq_judy1 *other);
+uint64_t sellumaq_judy1_union_count(const sellumaq_judy1 *one, const sellumaq_judy1 *other);
+uint64_t sellumaq_judy1_difference_count(const sellumaq_judy1 *one, const sellumaq_judy1 *other);
+uint64_t sellumaq_judy1_symmetric_difference_count(const sellumaq_judy1 *one, const sellumaq_judy1 *other);
+
+/* Makes `made` the set of the keys that the one or the other has; that both have; that the one has and not the other; that exactly one of them
+ * has. What it held is given back: SELLUMAQ_ADDED. Else it is as it was: SELLUMAQ_NO_MEMORY, or SELLUMAQ_FULL for all 2^64 words. The two stay.
+ * The three handles are three: to make one of the two the result, make a new one, free the old one and copy the handle. */
+uint32_t sellumaq_judy1_union(sellumaq_judy1 *made, const sellumaq_judy1 *one, const sellumaq_judy1 *other);
+uint32_t sellumaq_judy1_intersection(sellumaq_judy1 *made, const sellumaq_judy1 *one, const sellumaq_judy1 *other);
+uint32_t sellumaq_judy1_difference(sellumaq_judy1 *made, const sellumaq_judy1 *one, const sellumaq_judy1 *other);
+uint32_t sellumaq_judy1_symmetric_difference(sellumaq_judy1 *made, const sellumaq_judy1 *one, const sellumaq_judy1 *other);
+
+/* Whether each key of the one is a key of the other; whether none is; whether both have the same keys. The walk ends where
+ * that is known. */
+bool sellumaq_judy1_is_subset(const sellumaq_judy1 *one, const sellumaq_judy1 *other);
+bool sellumaq_judy1_is_disjoint(const sellumaq_judy1 *one, const sellumaq_judy1 *other);
+bool sellumaq_judy1_has_same_keys(const sellumaq_judy1 *one, const sellumaq_judy1 *other);
 
 /* Gives all memory back, and answers how many keys there were. The handle is the empty array then. */
 uint64_t sellumaq_judy1_free(sellumaq_judy1 *set);
@@ -214,6 +247,40 @@ bool sellumaq_judyl_by_count(const sellumaq_judyl *map, uint64_t n, uint64_t *ke
 bool sellumaq_judyl_by_count_entry(const sellumaq_judyl *map, uint64_t n, uint64_t *key, uint64_t *value);
 bool sellumaq_judyl_by_count_slot(const sellumaq_judyl *map, uint64_t n, uint64_t *key, uint64_t **slot);
 
+/* How many words from one to another, both included, are no keys; 0 where the first is above the second. All 2^64 words are answered as
+ * 2^64 - 1. */
+uint64_t sellumaq_judyl_count_empty(const sellumaq_judyl *map, uint64_t from, uint64_t to);
+
+/* Takes the keys from one word to another out, both included, and answers how many they were. It can't fail. Where more keys go than stay, the
+ * others are put into new nodes, if there is memory. */
+uint64_t sellumaq_judyl_remove_range(sellumaq_judyl *map, uint64_t from, uint64_t to);
+
+/* Makes `made` a copy, with nodes as small as its keys allow, in place of what it held: SELLUMAQ_ADDED. Else it is as it was:
+ * SELLUMAQ_NO_MEMORY. The two handles are two. */
+uint32_t sellumaq_judyl_copy(sellumaq_judyl *made, const sellumaq_judyl *map);
+
+/* How many keys both have; the one or the other; the one and not the other; exactly one of them. All 2^64 words, which no memory holds, would be
+ * answered as 2^64 - 1. Neither map changes. It takes a walk over both, and no memory. */
+uint64_t sellumaq_judyl_intersection_count(const sellumaq_judyl *one, const sellumaq_judyl *other);
+uint64_t sellumaq_judyl_union_count(const sellumaq_judyl *one, const sellumaq_judyl *other);
+uint64_t sellumaq_judyl_difference_count(const sellumaq_judyl *one, const sellumaq_judyl *other);
+uint64_t sellumaq_judyl_symmetric_difference_count(const sellumaq_judyl *one, const sellumaq_judyl *other);
+
+/* Makes `made` the map of the keys that the one or the other has; that both have; that the one has and not the other; that exactly one of them
+ * has. What it held is given back: SELLUMAQ_ADDED. Else it is as it was: SELLUMAQ_NO_MEMORY, or SELLUMAQ_FULL for all 2^64 words. The two stay.
+ * The three handles are three: to make one of the two the result, make a new one, free the old one and copy the handle. The values are those of
+ * the one, but where it lacks the key. */
+uint32_t sellumaq_judyl_union(sellumaq_judyl *made, const sellumaq_judyl *one, const sellumaq_judyl *other);
+uint32_t sellumaq_judyl_intersection(sellumaq_judyl *made, const sellumaq_judyl *one, const sellumaq_judyl *other);
+uint32_t sellumaq_judyl_difference(sellumaq_judyl *made, const sellumaq_judyl *one, const sellumaq_judyl *other);
+uint32_t sellumaq_judyl_symmetric_difference(sellumaq_judyl *made, const sellumaq_judyl *one, const sellumaq_judyl *other);
+
+/* Whether each key of the one is a key of the other; whether none is; whether both have the same keys, whatever their values are. The walk ends where
+ * that is known. */
+bool sellumaq_judyl_is_subset(const sellumaq_judyl *one, const sellumaq_judyl *other);
+bool sellumaq_judyl_is_disjoint(const sellumaq_judyl *one, const sellumaq_judyl *other);
+bool sellumaq_judyl_has_same_keys(const sellumaq_judyl *one, const sellumaq_judyl *other);
+
 /* Gives all memory back, and answers how many keys there were. The handle is the empty array then. */
 uint64_t sellumaq_judyl_free(sellumaq_judyl *map);
 
@@ -286,7 +353,8 @@ size_t sellumaq_judysl_walk(const sellumaq_judysl *map, const uint8_t *from, siz
  * SELLUMAQ_ADDED. The strings stand one behind the other in the `room` bytes, and the length and the value of each in `entries`, as a walk
  * writes them. Else the map is as it was. SELLUMAQ_BAD_KEY: one goes beyond the bytes; or all are there, and one is no key or isn't above the
  * one before it. `*place` is the place of the first such one, counted from 0. SELLUMAQ_FULL: they are keys that ascend, and more than
- * 4,294,967,295. SELLUMAQ_NO_MEMORY: there is no memory for them. It takes 24 bytes more for each string while it is at work. */
+ * 4,294,967,295. SELLUMAQ_NO_MEMORY: they are keys that ascend, and there is no memory for them. It takes 24 bytes more for each string while
+ * it is at work. */
 uint32_t sellumaq_judysl_from_sorted(sellumaq_judysl *map, const uint8_t *bytes, size_t room, const sellumaq_entry *entries, size_t count,
                                      size_t *place);
 

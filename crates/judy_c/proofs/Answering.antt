@@ -75,5 +75,6 @@ module _ (E : RattleType) (E_laws : Laws E) (IsAnswered : Result (MutBor ℕ) E.
           calls_at t framing Teller met asked operands (λ u.
           use1 𝓛 (later (some (λ (told : ℕ). (tokens ⊛ ‵ (u32.own_val told (u ∷ []))) ⊛ some (λ (ws : Lasts asking asked.0.0 asked.0.3).
           ‵ (lasts asking asked.0.0 asked.0.3 ws) ⊛ raw (fact 𝓤 (IsAnswered made told slot.now ws.1.0)))))) (id⊢ 𝓤 _) $
-          await t tt $ pick t (λ told. split t $ split t $ move t (1 ∷ []) $ facts t u32 (Is u32) (shows 𝓛 u32) told (u ∷ []) (λ is. regoal t (λ (w : Val). lands C Λ E' d w rest post) (ap only is.0) refl $
+          await t tt $ pick t (λ told. split t $ split t $ move t (1 ∷ []) $ facts t u32 (Is u32) (shows 𝓛 u32) told (u ∷ [])
+          (λ is. regoal t (λ (w : Val). lands C Λ E' d w rest post) (ap only is.0) refl $
           move t (1 ∷ []) $ pick t (λ ws. split t $ move t (1 ∷ []) $ heard t _ (λ handed. fsplit t $ drop t $ fsplit t $ move t (1 ∷ []) $ drop t $ k told ws.1.0 is.1 handed)))))

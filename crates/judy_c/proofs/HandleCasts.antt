@@ -39,8 +39,12 @@ module _ (Handle handle Held held : Ty) where
     ty_params = [];
     givens = 0;
     params = 1;
-    locals = local (ty_ref (named 0) mut Held) value_local ∷ local (ty_ref (named 0) mut Handle) value_local ∷ local (ty_ref erased mut Held) value_local ∷ local ty_ptr value_local ∷ local ty_ptr value_local ∷ [];
-    body = seq (block (seq (assign (place 3 []) (addr_of (place 1 (deref handle ∷ [])))) (seq (assign (place 4 []) (rv_opd (copy (place 3 [])))) (assign (place 2 []) (addr_of (place 4 (deref held ∷ []))))))) turned;
+    locals =
+        local (ty_ref (named 0) mut Held) value_local ∷ local (ty_ref (named 0) mut Handle) value_local ∷ local
+        (ty_ref erased mut Held) value_local ∷ local ty_ptr value_local ∷ local ty_ptr value_local ∷ [];
+    body =
+        seq (block (seq (assign (place 3 []) (addr_of (place 1 (deref handle ∷ [])))) (seq (assign (place 4 []) (rv_opd (copy (place 3 []))))
+        (assign (place 2 []) (addr_of (place 4 (deref held ∷ []))))))) turned;
   }
 
 module _ (R J : RattleType) (one : One R.mir) where
@@ -70,7 +74,8 @@ module _ (R J : RattleType) (one : One R.mir) where
       ensures = λ g r e. sep 𝓤 (sem 𝓛 (Lends R S a.0 r A.back)) (fact 𝓤 (r.now ≡ A.cast a.0.now));
     }
 
-    pub casts : (Handle handle Held held : Ty) (𝓜 : Model 𝓤 𝓛.H) (𝓡 : Running 𝓤 𝓛.H 𝓜) (k : Callee) → let 𝓣 = tables 𝓤 𝓛.H 𝓜 𝓡 𝓡.env in Closed 𝓤 𝓛.H 𝓣.C 𝓣.Λ k (casting Handle handle Held held) → Meets 𝓛 ended.signature (𝓣.C k) (closing 𝓛 ended clauses)
+    pub casts : (Handle handle Held held : Ty) (𝓜 : Model 𝓤 𝓛.H) (𝓡 : Running 𝓤 𝓛.H 𝓜) (k : Callee) → let 𝓣 = tables 𝓤 𝓛.H 𝓜 𝓡 𝓡.env in
+        Closed 𝓤 𝓛.H 𝓣.C 𝓣.Λ k (casting Handle handle Held held) → Meets 𝓛 ended.signature (𝓣.C k) (closing 𝓛 ended clauses)
     casts Handle handle Held held 𝓜 𝓡 k closed =
         let fn = casting Handle handle Held held in let W = walk_of 𝓛 ended stayed clauses in let 𝓣 = tables 𝓤 𝓛.H 𝓜 𝓡 𝓡.env in
         proved 𝓛 ended stayed clauses 𝓜 𝓡 (Goes-spent_ref 𝓛 1 (0 ∷ []) tt (plain (λ _. R)), tt)
@@ -84,7 +89,8 @@ module _ (R J : RattleType) (one : One R.mir) where
         enter ! _ _ _ _ _ $ alloc_all ! (λ l. pass_all ! refl ((tt, tt), tt) $
         -- `&mut *(self as *mut Handle as *mut Held<Array>)`
         first ! $ blocks ! $ sets ! (addr ! (through ! refl (stop !))) refl (tt, tt) $ sets ! (of_opd ! (get ! refl)) refl (tt, tt) $
-        sets_last ! (addr ! (through ! refl (stop !))) refl (tt, tt) $ exec ! 𝓣.C 𝓣.Λ (env fn.locals l) (turned Handle handle Held held) (at_ret _ (W.post y)) $ sets ! (of_opd ! (get ! refl)) refl (tt, tt) $
+        sets_last ! (addr ! (through ! refl (stop !))) refl (tt, tt) $ exec ! 𝓣.C 𝓣.Λ (env fn.locals l) (turned Handle handle Held held) (at_ret _ (W.post y)) $ sets !
+        (of_opd ! (get ! refl)) refl (tt, tt) $
         recast A κ q rb ro γ a.0.now ! tt (λ δ.
         -- the return: [the reference; its token; that the handle follows]
         returns ! (look_at ! 0 refl) $ free_all ! refl $ keep ! (0 ∷ []) $ split3 ! $

@@ -5,7 +5,8 @@ use Rattle.std.proofs.raw_atomic.Walks.{proved}
 use seplogic.Ra.Ura.{Ura}
 use base.Logic.{sep, emp, id⊢}
 use base.Fml.{Lft, ftrue, flft}
-use mir.Syntax.{named, erased, mut, imm, Callee, Sym, Ty, ty_int, ty_ref, ty_struct, ty_enum, tnil, tcons, ttnil, ttcons, w8, w64, Fn, local, value_local, seq, assign, call, place, deref, addr_of, copy, return}
+use mir.Syntax.{named, erased, mut, imm, Callee, Sym, Ty, ty_int, ty_ref, ty_struct, ty_enum, tnil, tcons, ttnil, ttcons, w8, w64, Fn, local, value_local, seq, assign, call, place}
+use mir.Syntax.{deref, addr_of, copy, return}
 use mir.Val.{Val, vint}
 use contract.Monad.{fact, fact_i}
 use contract.Running.{Running, tables}
@@ -37,12 +38,12 @@ use Rattle.judy_model.specs.Arrays.{ArrayOf}
 use Rattle.judy_c.specs.Answers.{answered, IsHanded}
 use Rattle.judy_c.specs.KeyInserts.{IsMade, IsMadeAs}
 use Rattle.judy_c.specs.KeySlots.{LendsInsOf, LendsAnswered}
-use Rattle.judy_c.specs.declared.answers.Refusal.{Refusal}
-use Rattle.judy_c.specs.contracts.answers.Refusal.{the_row as Refused}
+use Rattle.judy_c.specs.declared.answers.InsertRefusal.{InsertRefusal}
+use Rattle.judy_c.specs.contracts.answers.InsertRefusal.{the_row as Refused}
 use Rattle.judy_c.specs.contracts.answers.answer_insert as teller
 use Rattle.judy_c.specs.contracts.strings.Strings.ins as lender
 use Rattle.judy_c.proofs.HandsOut.{Lent, Pointer, heap_typed}
-use Rattle.judy_c.proofs.answers.Refusal.TheLaws.{the_row_laws as refused_laws}
+use Rattle.judy_c.proofs.answers.InsertRefusal.TheLaws.{the_row_laws as refused_laws}
 use Rattle.judy_c.proofs.Answering as answering_made
 use Rattle.judy_c.specs.contracts.judysl.sellumaq_judysl_ins as f
 
@@ -50,7 +51,7 @@ abbrev Key : Slot 3
 Key = shr_slice_of (1 ∷ []) tt (plain (λ _. u8))
 
 -- what is said of an insert's answer
-abbrev IsAnswered : Result (MutBor ℕ) Refusal → ℕ → MutBor ℕ → MutBor ℕ → Type 0
+abbrev IsAnswered : Result (MutBor ℕ) InsertRefusal → ℕ → MutBor ℕ → MutBor ℕ → Type 0
 IsAnswered made told before after = (answered told after ≡ Some made) × IsHanded (Some made) before after
 
 abbrev Made : Lft → RattleType
@@ -131,13 +132,20 @@ module _ (R : RattleType) (one : One R.mir) (array_in : R.Denot → ArrayOf byte
         → Meets 𝓛 answered_by.signature (𝓣.C k) (closing 𝓛 answered_by answering)
     answers_slot Handle' handle' Slice Result' 𝓜 𝓡 k lends closed met told_met =
         let W = walk_of 𝓛 answered_by stayed answering in let framing = framed 𝓤 𝓛.H 𝓜 (tables 𝓤 𝓛.H 𝓜 𝓡 𝓡.env) in
-        proved 𝓛 answered_by stayed answering 𝓜 𝓡 (Goes-dropped 𝓛 3 (plain (λ _. Heap)) yes (λ κs x w. refl), (Goes-spent_ref 𝓛 3 (0 ∷ []) tt (plain (λ _. R)), (Goes-dropped 𝓛 3 Key yes (λ κs x w. refl), (Goes-gave_ref 𝓛 3 2 tt Pointed, tt))))
+        proved 𝓛 answered_by stayed answering 𝓜 𝓡 (
+          Goes-dropped 𝓛 3 (plain (λ _. Heap)) yes (λ κs x w. refl),
+          (Goes-spent_ref 𝓛 3 (0 ∷ []) tt (plain (λ _. R)), (Goes-dropped 𝓛 3 Key yes (λ κs x w. refl), (Goes-gave_ref 𝓛 3 2 tt Pointed, tt))),
+        )
         k (inserting Handle' handle' Slice Result' lends) closed
-        (λ κs. ((λ _. heap_val ∷ []), (mut_vals, (shr_slice_vals, (mut_vals, tt))))) (λ κs. (heap_Tells, (mut_Tells (named 0) κs.0 R, (shr_slice_Tells (named 1) κs.1.0 u8, (mut_Tells (named 2) κs.1.1.0 (Lent κs.0), tt))))) (λ κs qs bounds a _ are.
+        (λ κs. ((λ _. heap_val ∷ []), (mut_vals, (shr_slice_vals, (mut_vals, tt))))) (λ κs. (
+          heap_Tells,
+          (mut_Tells (named 0) κs.0 R, (shr_slice_Tells (named 1) κs.1.0 u8, (mut_Tells (named 2) κs.1.1.0 (Lent κs.0), tt))),
+        )) (λ κs qs bounds a _ are.
         let κ = κs.0 in let κ' = κs.1.1.0 in let q = qs.0 in let q' = qs.1.1.0 in let alloc = a.0 in let handle = a.1.0 in let key = a.1.1.0 in let slot = a.1.1.1.0 in
         let y : W.Ghost = ((κs, qs, bounds, a, (heap_val ∷ [], (mut_vals handle, (shr_slice_vals key, (mut_vals slot, tt))))), tt) in
         let token = ‵ (flft κ q) in let read = ‵ (flft κs.1.0 qs.1.0) in
-        qed 𝓛 (((token ⊛ read ⊛ ‵ (flft κ' q') ⊛ ‵ ftrue) ⊛ ‵ (Heap.own_val alloc (heap_val ∷ [])) ⊛ ‵ ((MutRef (named 0) κ R).own_val handle (mut_vals handle)) ⊛ ‵ ((ShrSlice (named 1) κs.1.0 u8).own_val key (shr_slice_vals key))
+        qed 𝓛 (((token ⊛ read ⊛ ‵ (flft κ' q') ⊛ ‵ ftrue) ⊛ ‵ (Heap.own_val alloc (heap_val ∷ [])) ⊛ ‵ ((MutRef (named 0) κ R).own_val handle (mut_vals handle)) ⊛ ‵
+        ((ShrSlice (named 1) κs.1.0 u8).own_val key (shr_slice_vals key))
         ⊛ ‵ ((Pointer κ κ').own_val slot (mut_vals slot)) ⊛ ‵ ftrue) ∷ ‵ ftrue ∷ []) ∵
         split ! $ split3 ! $ move ! (2 ∷ []) $ split ! $ move ! (4 ∷ []) $ split3 ! $ move ! (2 ∷ []) $ split3 ! $ keep ! (7 ∷ 8 ∷ 3 ∷ 4 ∷ 0 ∷ 5 ∷ 1 ∷ []) $
         -- [the handle's token; the key's token; the allocator; the handle; the key; the pointer's token; the pointer]
@@ -147,20 +155,22 @@ module _ (R : RattleType) (one : One R.mir) (array_in : R.Denot → ArrayOf byte
         let z : Lender.Ghost = (((κ, (κs.1.0, tt)), (q, (qs.1.0, tt)), tt, (handle, (alloc, (key, tt))), (mut_vals handle, (heap_val ∷ [], (shr_slice_vals key, tt)))), tt) in
         use2 𝓛 (raw (Lender.pre z)) (id⊢ 𝓤 _) $
         calls_at ! framing Lender met z (and_then ! (get ! refl) (and_then ! (get ! refl) (and_then ! (get ! refl) (no_more !)))) (λ v.
-        use1 𝓛 (later (some (λ (made : Result (MutBor ℕ) Refusal). ((token ⊛ read ⊛ ‵ ftrue) ⊛ ‵ ((Made κ).own_val made (v ∷ []))) ⊛ some (λ (ws : Lasts lent z.0.0 z.0.3).
+        use1 𝓛 (later (some (λ (made : Result (MutBor ℕ) InsertRefusal). ((token ⊛ read ⊛ ‵ ftrue) ⊛ ‵ ((Made κ).own_val made (v ∷ []))) ⊛ some (λ (ws : Lasts lent z.0.0 z.0.3).
         ‵ (lasts lent z.0.0 z.0.3 ws) ⊛ (‵ (LendsInsOf R array_in handle key.now made) ⊛ raw (fact 𝓤 (IsMade IsKey (array_in handle.now) key.now made))))))) (id⊢ 𝓤 _) $
         await ! tt $ pick ! (λ made. split ! $ split ! $ split3 ! $ move ! (4 ∷ []) $ pick ! (λ _. split ! $ drop ! $ split ! $ move ! (1 ∷ []) $ heard ! _ (λ value.
         -- [what the handle becomes; its token; the key's token; nothing; what the insert made; the pointer's token; the pointer]
         move ! (4 ∷ []) $ peeks ! (Made κ) (Is (Made κ)) (shows 𝓛 (Made κ)) made (v ∷ []) (λ is. lands_as ! refl refl (answering_made.made_typed Refused refused_laws IsAnswered 𝓛 κ made v is) $
         sets ! (addr ! (through ! refl (stop !))) refl (tt, tt) $
         move ! (2 ∷ 5 ∷ 4 ∷ []) $ group ! 3 $ move ! (1 ∷ 4 ∷ 0 ∷ []) $
-        answering_made.answers Refused refused_laws IsAnswered 𝓛 κ κ' q q' bounds.0 made v slot ! framing told_met (and_then ! (get ! refl) (and_then ! (get ! refl) (no_more !))) (λ told last fits handed.
+        answering_made.answers Refused refused_laws IsAnswered 𝓛 κ κ' q q' bounds.0 made v slot ! framing told_met (and_then ! (get ! refl) (and_then ! (get ! refl) (no_more !)))
+        (λ told last fits handed.
         lands_as ! refl refl (tt, record { fits = fits }) $ returns ! (look_at ! 0 refl) $ free_all ! refl $
         -- [what is left of the pointer; the tokens; what the handle becomes; the key's token]
-        rewrite ! 2 (λ (o : Option (Result (MutBor ℕ) Refusal)). ‵ (LendsAnswered R array_in handle key.now o)) (sym handed.0) refl $
+        rewrite ! 2 (λ (o : Option (Result (MutBor ℕ) InsertRefusal)). ‵ (LendsAnswered R array_in handle key.now o)) (sym handed.0) refl $
         move ! (1 ∷ []) $ split3 ! $ move ! (0 ∷ 5 ∷ 1 ∷ 2 ∷ []) $ group ! 4 $ move ! (1 ∷ 0 ∷ []) $
         suffices ! _ (ends_at 𝓛 answered_by stayed answering y (vint w32 told) told (tt, (tt, (tt, (last, tt)))) (tt, (tt, (tt, (tt, tt))))) $
         nothing ! $ move ! (1 ∷ 0 ∷ []) $ fjoin ! $ nothing ! $ fjoin ! $ nothing ! $ fjoin ! $ nothing ! $ fjoin ! $
         flt_i ! told (2 ^ 32) fits $ feq_i ! (List Val) (vint w32 told ∷ []) (vint w32 told ∷ []) refl $ fjoin ! $ move ! (2 ∷ 1 ∷ 0 ∷ []) $
-        group ! 3 $ frame ! $ frame ! $ says ! (subst (λ (o : Option (Result (MutBor ℕ) Refusal)). IsHanded o slot.now last) (sym handed.0) handed.1) $
-        use0 𝓛 (raw (fact 𝓤 (IsMadeAs IsKey (array_in handle.now) key.now (answered told last)))) (fact_i 𝓤 _ (emp 𝓤) (subst (IsMadeAs IsKey (array_in handle.now) key.now) (sym handed.0) value)) $ done !))))))))
+        group ! 3 $ frame ! $ frame ! $ says ! (subst (λ (o : Option (Result (MutBor ℕ) InsertRefusal)). IsHanded o slot.now last) (sym handed.0) handed.1) $
+        use0 𝓛 (raw (fact 𝓤 (IsMadeAs IsKey (array_in handle.now) key.now (answered told last)))) (fact_i 𝓤 _ (emp 𝓤)
+        (subst (IsMadeAs IsKey (array_in handle.now) key.now) (sym handed.0) value)) $ done !))))))))

@@ -6,7 +6,8 @@ use Rattle.std.proofs.raw_atomic.Walks.{proved}
 use seplogic.Ra.Ura.{Ura}
 use base.Logic.{sep, emp, id⊢}
 use base.Fml.{ftrue, flft}
-use mir.Syntax.{named, erased, mut, imm, Callee, Sym, Ty, ty_int, ty_bool, ty_ref, ty_struct, ty_enum, tnil, tcons, ttnil, ttcons, w8, w64, Fn, local, value_local, seq, assign, call, place, deref, addr_of, copy, return}
+use mir.Syntax.{named, erased, mut, imm, Callee, Sym, Ty, ty_int, ty_bool, ty_ref, ty_struct, ty_enum, tnil, tcons, ttnil, ttcons, w8, w64, Fn, local, value_local, seq, assign}
+use mir.Syntax.{call, place, deref, addr_of, copy, return}
 use mir.Val.{Val, vbool}
 use contract.Monad.{fact, fact_i}
 use contract.Running.{Running, tables}
@@ -120,7 +121,8 @@ module _ (R : RattleType) (one : One R.mir) (array_in : R.Denot → ArrayOf byte
         let W = walk_of 𝓛 handed_out stayed handing in let framing = framed 𝓤 𝓛.H 𝓜 (tables 𝓤 𝓛.H 𝓜 𝓡 𝓡.env) in
         proved 𝓛 handed_out stayed handing 𝓜 𝓡 (Goes-spent_ref 𝓛 3 (0 ∷ []) tt (plain (λ _. R)), (Goes-dropped 𝓛 3 Key yes (λ κs x w. refl), (Goes-gave_ref 𝓛 3 2 tt Pointed, tt)))
         k (slotting Handle' handle' Slice Option' lends) closed
-        (λ κs. (mut_vals, (shr_slice_vals, (mut_vals, tt)))) (λ κs. (mut_Tells (named 0) κs.0 R, (shr_slice_Tells (named 1) κs.1.0 u8, (mut_Tells (named 2) κs.1.1.0 (Lent κs.0), tt)))) (λ κs qs bounds a _ are.
+        (λ κs. (mut_vals, (shr_slice_vals, (mut_vals, tt)))) (λ κs. (mut_Tells (named 0) κs.0 R, (shr_slice_Tells (named 1) κs.1.0 u8, (mut_Tells (named 2) κs.1.1.0 (Lent κs.0), tt))))
+        (λ κs qs bounds a _ are.
         let κ = κs.0 in let κ' = κs.1.1.0 in let q = qs.0 in let q' = qs.1.1.0 in let handle = a.0 in let key = a.1.0 in let slot = a.1.1.0 in
         let y : W.Ghost = ((κs, qs, bounds, a, (mut_vals handle, (shr_slice_vals key, (mut_vals slot, tt)))), tt) in
         let token = ‵ (flft κ q) in let read = ‵ (flft κs.1.0 qs.1.0) in

@@ -12,8 +12,11 @@ pub mod KeySlots
 pub mod Answering
 pub mod KeyInserts
 pub mod ScannedSlots
+pub mod PageFaults
 pub mod SortedAnswers
 pub mod PairLemmas
 pub mod PageLemmas
 pub mod Storing
+pub mod FirstKeys
 pub mod SortedStrings
+pub mod CombinedAnswers

@@ -113,7 +113,8 @@ module _ (find : FinMap word_order ℕ → ℕ → Option ℕ) {M : Type 1} (�
       use2 𝓛 (raw (Lender.pre z)) (id⊢ 𝓤 _) $
       calls_at ! framing Lender met z (and_then ! (get ! refl) (and_then ! (get ! refl) (and_then ! (get ! refl) (no_more !)))) (λ v.
       use1 𝓛 (later (some (λ (found : Option (MutBor ℕ)). ((token ⊛ word ⊛ ‵ ftrue) ⊛ ‵ ((Found κ).own_val found (v ∷ []))) ⊛ some (λ (ws : Lasts lender.ended z.0.0 z.0.3).
-      ‵ (lasts lender.ended z.0.0 z.0.3 ws) ⊛ (‵ (LendsSlotOf handle ws.1.1.0 found) ⊛ (raw (fact 𝓤 (ws.1.1.0 ≡ unwrap_or (find (map_of handle.now) from) key.now)) ⊛ raw (fact 𝓤 (option_copied_mut found ≡ option_and_then (map.get (map_of handle.now)) (find (map_of handle.now) from))))))))) (id⊢ 𝓤 _) $
+      ‵ (lasts lender.ended z.0.0 z.0.3 ws) ⊛ (‵ (LendsSlotOf handle ws.1.1.0 found) ⊛ (raw (fact 𝓤 (ws.1.1.0 ≡ unwrap_or (find (map_of handle.now) from) key.now)) ⊛ raw
+      (fact 𝓤 (option_copied_mut found ≡ option_and_then (map.get (map_of handle.now)) (find (map_of handle.now) from))))))))) (id⊢ 𝓤 _) $
       await ! tt $ pick ! (λ found. split ! $ split ! $ split3 ! $ move ! (4 ∷ []) $ pick ! (λ ws. split ! $ fsplit ! $ drop ! $ fsplit ! $ drop ! $ fsplit ! $ move ! (1 ∷ []) $ drop ! $
       move ! (1 ∷ []) $ split ! $ move ! (1 ∷ []) $ split ! $ heard ! _ (λ is_key. heard ! _ (λ value.
       -- [what the handle becomes; what is left of the word; its token; the word's token; nothing; the slot or none; the pointer's token; the pointer]
@@ -126,7 +127,9 @@ module _ (find : FinMap word_order ℕ → ℕ → Option ℕ) {M : Type 1} (�
       rewrite ! 2 (λ (o : Option (MutBor ℕ)). ‵ (LendsSlotOf handle ws.1.1.0 o)) (sym is) refl $
       move ! (1 ∷ []) $ split3 ! $ move ! (0 ∷ 6 ∷ 1 ∷ 2 ∷ []) $ group ! 4 $ move ! (1 ∷ 0 ∷ []) $
       suffices ! _ (ends_at 𝓛 f.ended stayed handing y (vbool told) told (tt, (tt, (ws.1.1.0, (last, tt)))) (tt, (tt, (tt, (tt, tt))))) $
-      nothing ! $ move ! (1 ∷ 0 ∷ []) $ fjoin ! $ move ! (3 ∷ 0 ∷ []) $ fjoin ! $ nothing ! $ fjoin ! $ nothing ! $ fjoin ! $ feq_i ! (List Val) (vbool told ∷ []) (vbool told ∷ []) refl $ move ! (2 ∷ 1 ∷ 0 ∷ []) $
+      nothing ! $ move ! (1 ∷ 0 ∷ []) $ fjoin ! $ move ! (3 ∷ 0 ∷ []) $ fjoin ! $ nothing ! $ fjoin ! $ nothing ! $ fjoin ! $ feq_i ! (List Val) (vbool told ∷ [])
+      (vbool told ∷ []) refl $ move ! (2 ∷ 1 ∷ 0 ∷ []) $
       group ! 3 $ frame ! $ frame ! $ use0 𝓛 (raw (fact 𝓤 (ws.1.1.0 ≡ unwrap_or (find (map_of handle.now) from) key.now))) (fact_i 𝓤 _ (emp 𝓤) is_key) $ frame ! $
       says ! (subst (λ (o : Option (MutBor ℕ)). IsTold o told slot.now last) (sym is) is_told) $
-      use0 𝓛 (raw (fact 𝓤 (option_copied_mut (lent_where told last) ≡ option_and_then (map.get (map_of handle.now)) (find (map_of handle.now) from)))) (fact_i 𝓤 _ (emp 𝓤) (ap option_copied_mut is ∙ value)) $ done !)))))))))
+      use0 𝓛 (raw (fact 𝓤 (option_copied_mut (lent_where told last) ≡ option_and_then (map.get (map_of handle.now)) (find (map_of handle.now) from))))
+      (fact_i 𝓤 _ (emp 𝓤) (ap option_copied_mut is ∙ value)) $ done !)))))))))

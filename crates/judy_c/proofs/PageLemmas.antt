@@ -1,5 +1,6 @@
 -- Pairs that are written to two buffers, one after another.
-use Rattle.std.proofs.Common.{◌≡◌, ℕ, zero, suc, ◌+◌, ◌-◌, ◌<◌, ◌≤◌, true, false, nat_le, List, [], ◌∷◌, ◌++◌, length, take, drop, slice_set, refl, sym, ap, subst, ◌∙◌, append_assoc, append-nil, length-append, arith}
+use Rattle.std.proofs.Common.{◌≡◌, ℕ, zero, suc, ◌+◌, ◌-◌, ◌<◌, ◌≤◌, true, false, nat_le, List, [], ◌∷◌, ◌++◌, length, take, drop, slice_set, refl, sym, ap, subst, ◌∙◌}
+use Rattle.std.proofs.Common.{append_assoc, append-nil, length-append, arith}
 use Rattle.std.proofs.lemmas.List.{take-append-drop, take_more_set, drop-set-lt, drop-drop, map-append, length-set}
 use Rattle.std.proofs.lemmas.Grind.{flat_map-append}
 use Rattle.std.proofs.lemmas.Bool.{leb-true}
@@ -56,7 +57,8 @@ so_far_none all before = record {
 }
 
 -- where no more fits, those that fit are written
-pub so_far_all : (all : Pairs) (before : Page) (used count : ℕ) (rest : Pairs) (now : Page) → IsSoFar all before used count rest now → fitting (length before.bytes - used) (length before.entries - count) rest ≡ [] → IsFilled all before count now
+pub so_far_all : (all : Pairs) (before : Page) (used count : ℕ) (rest : Pairs) (now : Page) → IsSoFar all before used count rest now →
+    fitting (length before.bytes - used) (length before.entries - count) rest ≡ [] → IsFilled all before count now
 so_far_all all before used count rest now so ends =
     let is : so.done ≡ fitting (length before.bytes) (length before.entries) all = sym (append-nil so.done) ∙ ap (λ more. so.done ++ more) (sym ends) ∙ so.split in
     subst (λ (pairs : Pairs). IsWritten pairs before count now) is (
@@ -68,18 +70,21 @@ so_far_all all before used count rest now so ends =
 -- where nothing comes, nothing is written
 pub nothing_fits : (rest : Pairs) (before : Page) → rest ≡ [] → IsFilled rest before 0 before
 nothing_fits rest before none =
-    so_far_all rest before 0 0 rest before (so_far_none rest before) (ap (fitting (length before.bytes - 0) (length before.entries - 0)) none ∙ fitting_none (length before.bytes - 0) (length before.entries - 0))
+    so_far_all rest before 0 0 rest before (so_far_none rest before) (ap (fitting (length before.bytes - 0) (length before.entries - 0)) none ∙
+    fitting_none (length before.bytes - 0) (length before.entries - 0))
 
 module _ (all : Pairs) (before : Page) (used count : ℕ) (pair : List ℕ × ℕ) (rest : Pairs) (now : Page) where
   -- a pair that fits is written
-  pub so_far_more : IsSoFar all before used count (pair ∷ rest) now → nat_le (length pair.0) (length now.bytes - used) ≡ true → count < length now.entries → (after : List ℕ) → take (used + length pair.0) after ≡ take used now.bytes ++ pair.0
+  pub so_far_more : IsSoFar all before used count (pair ∷ rest) now → nat_le (length pair.0) (length now.bytes - used) ≡ true → count < length now.entries →
+      (after : List ℕ) → take (used + length pair.0) after ≡ take used now.bytes ++ pair.0
       → drop (used + length pair.0) after ≡ drop (used + length pair.0) now.bytes → length after ≡ length now.bytes
       → IsSoFar all before (used + length pair.0) (count + 1) rest (page_of after (slice_set now.entries count (record { length = length pair.0; value = pair.1 })))
   so_far_more so fits room after taken dropped same = record {
     done = so.done ++ pair ∷ [];
     split = append_assoc so.done (pair ∷ []) _ ∙ ap (λ more. so.done ++ more) (sym further) ∙ so.split;
     counted = (let long = length-append so.done (pair ∷ []) in let c = so.counted in omega (arith, long, c));
-    measured = (let long = length-append (bytes_of so.done) pair.0 in let c = so.measured in let e : used + length pair.0 ≡ length (bytes_of so.done ++ pair.0) = omega (arith, long, c) in e ∙ ap length (sym its_bytes));
+    measured = (let long = length-append (bytes_of so.done) pair.0 in let c = so.measured in let e : used + length pair.0 ≡ length (bytes_of so.done ++ pair.0) = omega (arith, long, c) in
+        e ∙ ap length (sym its_bytes));
     within = (let a = so.as_many_bytes in let w = so.within in let less = leb-true (length pair.0) (length now.bytes - used) fits in omega (arith, a, w, less));
     few = (let a = so.as_many_entries in omega (arith, a, room));
     as_many_bytes = same ∙ so.as_many_bytes;
@@ -96,7 +101,8 @@ module _ (all : Pairs) (before : Page) (used count : ℕ) (pair : List ℕ × �
       behind : {A : Type 0} (xs ys : List A) (n more : ℕ) → drop n xs ≡ drop n ys → drop (n + more) xs ≡ drop (n + more) ys
       behind xs ys n more same = sym (drop-drop more n xs) ∙ ap (drop more) same ∙ drop-drop more n ys
 
-      further : fitting (length before.bytes - used) (length before.entries - count) (pair ∷ rest) ≡ pair ∷ fitting (length before.bytes - (used + length pair.0)) (length before.entries - (count + 1)) rest
+      further : fitting (length before.bytes - used) (length before.entries - count) (pair ∷ rest) ≡
+          pair ∷ fitting (length before.bytes - (used + length pair.0)) (length before.entries - (count + 1)) rest
       further =
           let few = so.few in let same = so.as_many_entries in
           let one : length before.entries - count ≡ suc (length before.entries - (count + 1)) = omega (arith, same, room) in

@@ -1,5 +1,6 @@
 -- The pairs of a map of strings, and those of a list of entries, in turn.
-use Rattle.std.proofs.Common.{◌≡◌, ◌<◌, ◌≤◌, ◌+◌, ℕ, zero, suc, Bool, true, false, List, [], ◌∷◌, length, drop, slice_get, get_or, Option, Some, None, option_map, unwrap_or, refl, sym, ap, subst, ◌∙◌, if◌then◌else◌}
+use Rattle.std.proofs.Common.{◌≡◌, ◌<◌, ◌≤◌, ◌+◌, ℕ, zero, suc, Bool, true, false, List, [], ◌∷◌, length, drop, slice_get, get_or, Option, Some, None, option_map, unwrap_or, refl}
+use Rattle.std.proofs.Common.{sym, ap, subst, ◌∙◌, if◌then◌else◌}
 use Rattle.std.proofs.Math.ListN.{drop_of_length-le}
 use Rattle.std.proofs.Math.Numerals.{add-one}
 use Rattle.std.proofs.lemmas.List.{length-map}
@@ -58,13 +59,15 @@ module _ (m : FinMap byte_order ℕ) where
   beside-slice_get from true = first-slice_get nat_list_cmp_total m from
   beside-slice_get from false = next-slice_get nat_list_cmp_total m from
 
-  entry_of : (place : ℕ) (key : List ℕ) (found : Option (List ℕ × ℕ)) → slice_get (entries m) place ≡ found → option_map (λ e. e.0) found ≡ Some key → (value : ℕ) × (get m key ≡ Some value) × (slice_get (entries m) place ≡ Some (key, value))
+  entry_of : (place : ℕ) (key : List ℕ) (found : Option (List ℕ × ℕ)) → slice_get (entries m) place ≡ found → option_map (λ e. e.0) found ≡ Some key →
+      (value : ℕ) × (get m key ≡ Some value) × (slice_get (entries m) place ≡ Some (key, value))
   entry_of place key None at is = absurd cc
   entry_of place key (Some pair) at is =
       let same : pair.0 ≡ key = cc in
       let within = slice_get_within (entries m) place pair at in
       let there = get_or_from_slice_get (entries m) place pair pair at in
-      let held : get m key ≡ Some pair.1 = get-entries m key ∙ find-at byte_order nat_list_cmp_total (entries m) key place pair (entries_sorted m) within (ap (λ e. byte_order e.0 key) there ∙ ap (λ k. byte_order k key) same ∙ tied_itself nat_list_cmp_total key) ∙ ap (λ e. Some e.1) there in
+      let held : get m key ≡ Some pair.1 = get-entries m key ∙ find-at byte_order nat_list_cmp_total (entries m) key place pair (entries_sorted m) within
+      (ap (λ e. byte_order e.0 key) there ∙ ap (λ k. byte_order k key) same ∙ tied_itself nat_list_cmp_total key) ∙ ap (λ e. Some e.1) there in
       (pair.1, held, at ∙ ap Some (λ t. (same t, pair.1)))
 
   none_of : (found : Option (List ℕ × ℕ)) → option_map (λ e. e.0) found ≡ None → found ≡ None
@@ -87,7 +90,8 @@ module _ (m : FinMap byte_order ℕ) where
       drop_none (entries m) place (none_of (slice_get (entries m) place) (sym (slice_get-map (λ e. e.0) (entries m) place) ∙ at))
 
   -- a step of a walk to a key: its value is told, and what comes is its pair and those above it
-  pub steps : (from key : List ℕ) (itself : Bool) (value : ℕ) (looked : Option (List ℕ)) → beside m from itself ≡ looked → key ≡ unwrap_or looked from → Some value ≡ value_found m looked → (get m key ≡ Some value) × (pairs_from m from itself ≡ (key, value) ∷ pairs_from m key false)
+  pub steps : (from key : List ℕ) (itself : Bool) (value : ℕ) (looked : Option (List ℕ)) → beside m from itself ≡ looked → key ≡ unwrap_or looked from →
+      Some value ≡ value_found m looked → (get m key ≡ Some value) × (pairs_from m from itself ≡ (key, value) ∷ pairs_from m key false)
   steps from key itself value None is at told = absurd cc
   steps from key itself value (Some found) is at told =
       let there = pairs_some from found itself is in
@@ -102,9 +106,11 @@ module _ (m : FinMap byte_order ℕ) where
 -- ---- a list of entries
 
 -- the pairs from a place on begin with the one at it
-pub entries_some : (list : List HsEntry) (place : ℕ) (entry : HsEntry) → place < length list → entry ≡ get_or list place entry → drop place (entries_in list) ≡ (key_bytes entry.key, entry.value) ∷ drop (place + 1) (entries_in list)
+pub entries_some : (list : List HsEntry) (place : ℕ) (entry : HsEntry) → place < length list → entry ≡ get_or list place entry →
+    drop place (entries_in list) ≡ (key_bytes entry.key, entry.value) ∷ drop (place + 1) (entries_in list)
 entries_some list place entry within is =
-    let at : slice_get (entries_in list) place ≡ Some (key_bytes entry.key, entry.value) = slice_get-map (λ entry. (key_bytes entry.key, entry.value)) list place ∙ ap (option_map (λ entry. (key_bytes entry.key, entry.value))) (slice_get-get_or list place entry within ∙ ap Some (sym is)) in
+    let at : slice_get (entries_in list) place ≡ Some (key_bytes entry.key, entry.value) = slice_get-map (λ entry. (key_bytes entry.key, entry.value)) list place ∙
+    ap (option_map (λ entry. (key_bytes entry.key, entry.value))) (slice_get-get_or list place entry within ∙ ap Some (sym is)) in
     drop_some (entries_in list) place (key_bytes entry.key, entry.value) at ∙ ap (λ n. (key_bytes entry.key, entry.value) ∷ drop n (entries_in list)) (sym (add-one place))
 
 -- and none are behind its end

@@ -49,7 +49,8 @@ none_found scan map from none = by (neighbour scan map from) refl
 
 module _ (map : FinMap byte_order ℕ) (before after : CallerBuffer) where
   -- what is told of a key of the map that was put into a buffer, with the value that was answered, is what is said of that key
-  pub told_key : (asked looked : Option (List ℕ)) → asked ≡ looked → ((key : List ℕ) → asked ≡ Some key → IsTrue (contains_key map key)) → (from : List ℕ) (found : Option ℕ) (key : List ℕ) (answer : ℕ)
+  pub told_key : (asked looked : Option (List ℕ)) → asked ≡ looked → ((key : List ℕ) → asked ≡ Some key → IsTrue (contains_key map key)) →
+      (from : List ℕ) (found : Option ℕ) (key : List ℕ) (answer : ℕ)
       → key ≡ unwrap_or looked from → found ≡ value_found map looked → IsSaid (entry_says found key before after) answer → IsSaid (told_says map asked before after) answer
   told_key asked None none held from found key zero at value said = (none, said.1)
   told_key asked None none held from found key (suc zero) at value said = absurd (true≢false (sym (ap is_some said.3) ∙ ap is_some value))
@@ -67,7 +68,8 @@ module _ (map : FinMap byte_order ℕ) (before after : CallerBuffer) where
   told_key asked looked is held from found key (suc (suc (suc (suc (suc (suc n)))))) at value said = absurd said
 
   -- so it is of the n-th key
-  pub told_nth : (n : ℕ) (found : Option ℕ) (key : List ℕ) (answer : ℕ) → key ≡ unwrap_or (by_count map n) [] → found ≡ value_found map (by_count map n) → IsSaid (entry_says found key before after) answer → IsSaid (told_says map (by_count map n) before after) answer
+  pub told_nth : (n : ℕ) (found : Option ℕ) (key : List ℕ) (answer : ℕ) → key ≡ unwrap_or (by_count map n) [] → found ≡ value_found map (by_count map n) →
+      IsSaid (entry_says found key before after) answer → IsSaid (told_says map (by_count map n) before after) answer
   told_nth n = told_key (by_count map n) (by_count map n) refl (λ key is. (by_count_found byte_order_total byte_order_same map n key is).0) []
 
   module _ (scan : Scan) (is : IsStart before) where
@@ -82,12 +84,14 @@ module _ (map : FinMap byte_order ℕ) (before after : CallerBuffer) where
     begun (suc (suc (suc (suc (suc (suc n)))))) said = said
 
     -- and so it is of the key that a scan left in its buffer
-    pub told : (found : Option ℕ) (key : List ℕ) (answer : ℕ) → key ≡ unwrap_or (neighbour scan map (start before)) (start before) → found ≡ value_found map (neighbour scan map (start before)) → IsSaid (entry_says found key before after) answer → IsSaid (scan_says map (neighbour scan map) before after) answer
+    pub told : (found : Option ℕ) (key : List ℕ) (answer : ℕ) → key ≡ unwrap_or (neighbour scan map (start before)) (start before) →
+        found ≡ value_found map (neighbour scan map (start before)) → IsSaid (entry_says found key before after) answer → IsSaid (scan_says map (neighbour scan map) before after) answer
     told found key answer at value said =
         begun answer (told_key (neighbour scan map (start before)) (neighbour scan map (start before)) refl (neighbour_held scan map (start before)) (start before) found key answer at value said)
 
 -- What the array is asked for is what the scan looks for.
-module _ (scan : Scan) (look : Look) (map : FinMap byte_order ℕ) (asks : neighbour_along look.side look.itself map ≡ neighbour scan map) (buffer : List ℕ) (count : ℕ) (inside : count ≤ length buffer) where
+module _ (scan : Scan) (look : Look) (map : FinMap byte_order ℕ) (asks : neighbour_along look.side look.itself map ≡ neighbour scan map) (buffer : List ℕ)
+    (count : ℕ) (inside : count ≤ length buffer) where
   abbrev from : List ℕ
   from = take count buffer
 

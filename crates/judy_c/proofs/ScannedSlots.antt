@@ -5,14 +5,16 @@ use Rattle.std.proofs.raw_atomic.Walks.{proved}
 use seplogic.Ra.Ura.{Ura}
 use base.Logic.{sep, emp, id⊢}
 use base.Fml.{Lft, ftrue, flft}
-use mir.Syntax.{Lifetime, named, erased, mut, Callee, Sym, Ty, ty_int, ty_ref, ty_struct, ty_enum, tnil, tcons, ttnil, ttcons, w8, w64, Fn, local, value_local, seq, assign, call, aggregate, place, deref, field, addr_of, copy, return}
+use mir.Syntax.{Lifetime, named, erased, mut, Callee, Sym, Ty, ty_int, ty_ref, ty_struct, ty_enum, tnil, tcons, ttnil, ttcons, w8, w64, Fn, local, value_local, seq, assign, call}
+use mir.Syntax.{aggregate, place, deref, field, addr_of, copy, return}
 use mir.Val.{Val, vint}
 use contract.Monad.{fact, fact_i}
 use contract.Running.{Running, tables}
 use prog.Model.{Model}
 use prog.Wp.{Closed}
 use types.Logic.{Logic, sem}
-use types.Kit.{‵, raw, ◌⊛◌, some, later, ◌$◌, ◌∵◌, !, qed, done, move, keep, drop, use0, use1, use2, split, split3, join, pick, await, rewrite, suffices, frame, group, fjoin, fsplit, feq_i, feq_l, flt_i}
+use types.Kit.{‵, raw, ◌⊛◌, some, later, ◌$◌, ◌∵◌, !, qed, done, move, keep, drop, use0, use1, use2, split, split3, join, pick, await, rewrite, suffices, frame, group, fjoin}
+use types.Kit.{fsplit, feq_i, feq_l, flt_i}
 use types.Part.{agg, sub, whole}
 use types.Run.{enter, addr, stop, fld, hop, from, no_more, and_then, returns}
 use types.ByLocal.{alloc_all, pass_all, free_all, look_at, look_in_at, get, get_in, through, sets, lands_as}
@@ -62,7 +64,8 @@ is_behind None told before after is = sym (ap (λ (s : MutBor ℕ). s.now) is.1)
 is_behind (Some slot) told before after is = sym (ap (λ (s : MutBor ℕ). s.now) is.1)
 
 -- what a scan says of the slot that it lends it says of what stands where the caller is told
-said : (map : FinMap byte_order ℕ) (look : List ℕ → Option (List ℕ)) (before after : List ℕ × ℕ) (found : Result (MutBor ℕ) Missed) (told : ℕ) (slot last : MutBor ℕ) → IsFoundSlot map look before after found → IsAnswered found told slot last
+said : (map : FinMap byte_order ℕ) (look : List ℕ → Option (List ℕ)) (before after : List ℕ × ℕ) (found : Result (MutBor ℕ) Missed) (told : ℕ) (slot last : MutBor ℕ) →
+    IsFoundSlot map look before after found → IsAnswered found told slot last
     → IsSaid (scan_says map look (record { buffer = before.0; count = before.1; value = slot.now }) (record { buffer = after.0; count = after.1; value = last.now })) told
 said map look before after found told slot last answer is =
     let room : List ℕ × ℕ → ℕ → CallerBuffer = λ at value. record { buffer = at.0; count = at.1; value = value } in
@@ -74,12 +77,6 @@ Made = answering.Made Missing missing_laws IsAnswered
 
 abbrev Handle : Slot 4
 Handle = mut_ref_to (0 ∷ []) tt (plain (λ _. R))
-
-abbrev Buffer : Slot 4
-Buffer = mut_slice_of (1 ∷ []) tt (plain (λ _. u8))
-
-abbrev Count : Slot 4
-Count = mut_ref_to (2 ∷ []) tt (plain (λ _. usize))
 
 abbrev Pointed : Slot 4
 Pointed = mut_ref_to (0 ∷ []) tt (plain (λ _. u64))
@@ -122,7 +119,8 @@ module _ (look : Look) {M : Type 1} (𝓤 : Ura M) (𝓛 : Logic 𝓤) where
     requires = λ g. emp 𝓤;
     ensures = λ g told e. sep 𝓤 (sem 𝓛 (LendsSlotOf a.0 (take e.1.1.0.now e.1.0.now) (lent_where (told == 1) e.1.1.1.0.now)))
         (sep 𝓤
-        (fact 𝓤 (IsSaid (scan_says (array_in a.0.now).map (look (array_in a.0.now).map) (record { buffer = a.1.0.now; count = a.1.1.0.now; value = a.1.1.1.0.now.now }) (record { buffer = e.1.0.now; count = e.1.1.0.now; value = e.1.1.1.0.now.now })) told))
+        (fact 𝓤 (IsSaid (scan_says (array_in a.0.now).map (look (array_in a.0.now).map) (record { buffer = a.1.0.now; count = a.1.1.0.now; value = a.1.1.1.0.now.now })
+        (record { buffer = e.1.0.now; count = e.1.1.0.now; value = e.1.1.1.0.now.now })) told))
         (fact 𝓤 (IsTold (lent_where (told == 1) e.1.1.1.0.now) (told == 1) a.1.1.1.0.now e.1.1.1.0.now)));
   }
 
@@ -142,7 +140,8 @@ module _ (look : Look) {M : Type 1} (𝓤 : Ura M) (𝓛 : Logic 𝓤) where
       let κ = κs.0 in let κ' = κs.1.1.1.0 in let q = qs.0 in let q' = qs.1.1.1.0 in let handle = a.0 in let buffer = a.1.0 in let count = a.1.1.0 in let slot = a.1.1.1.0 in
       let y : W.Ghost = ((κs, qs, bounds, a, (mut_vals handle, (mut_slice_vals buffer, (mut_vals count, (mut_vals slot, tt))))), tt) in
       let token = ‵ (flft κ q) in let bytes = ‵ (flft κs.1.0 qs.1.0) in let word = ‵ (flft κs.1.1.0 qs.1.1.0) in
-      qed 𝓛 (((token ⊛ bytes ⊛ word ⊛ ‵ (flft κ' q') ⊛ ‵ ftrue) ⊛ ‵ ((MutRef (named 0) κ R).own_val handle (mut_vals handle)) ⊛ ‵ ((MutSlice (named 1) κs.1.0 u8).own_val buffer (mut_slice_vals buffer))
+      qed 𝓛 (((token ⊛ bytes ⊛ word ⊛ ‵ (flft κ' q') ⊛ ‵ ftrue) ⊛ ‵ ((MutRef (named 0) κ R).own_val handle (mut_vals handle)) ⊛ ‵
+      ((MutSlice (named 1) κs.1.0 u8).own_val buffer (mut_slice_vals buffer))
       ⊛ ‵ ((MutRef (named 2) κs.1.1.0 usize).own_val count (mut_vals count)) ⊛ ‵ ((Pointer κ κ').own_val slot (mut_vals slot)) ⊛ ‵ ftrue) ∷ ‵ ftrue ∷ []) ∵
       split ! $ split3 ! $ move ! (2 ∷ []) $ split3 ! $ move ! (5 ∷ []) $ split3 ! $ move ! (2 ∷ []) $ split3 ! $ keep ! (8 ∷ 9 ∷ 5 ∷ 3 ∷ 4 ∷ 0 ∷ 6 ∷ 1 ∷ []) $
       -- [the handle's token; the buffer's; the count's; the handle; the buffer; the count; the pointer's token; the pointer]
@@ -151,13 +150,18 @@ module _ (look : Look) {M : Type 1} (𝓤 : Ura M) (𝓛 : Logic 𝓤) where
       sets ! (agg ! (and_then ! (get ! refl) (and_then ! (get_in ! (fld ! refl (stop !)) (sub ! 1 refl (whole !))) (no_more !)))) refl (tt, (tt, (record { fits = are.1.0.0.1.0 }, tt))) $
       sets ! (addr ! (through ! refl (stop !))) refl (tt, tt) $
       nothing ! $ move ! (4 ∷ 5 ∷ 6 ∷ 0 ∷ []) $ group ! 4 $ nothing ! $ move ! (2 ∷ 3 ∷ 4 ∷ 0 ∷ []) $ group ! 4 $ join ! $ nothing ! $ move ! (1 ∷ 0 ∷ []) $
-      let z : Lender.Ghost = (((κ, (κs.1.0, (κs.1.1.0, tt))), (q, (qs.1.0, (qs.1.1.0, tt))), tt, (handle, (buffer, (count, tt))), (mut_vals handle, (mut_slice_vals buffer, (mut_vals count, tt)))), tt) in
+      let z : Lender.Ghost = (
+        ((κ, (κs.1.0, (κs.1.1.0, tt))), (q, (qs.1.0, (qs.1.1.0, tt))), tt, (handle, (buffer, (count, tt))), (mut_vals handle, (mut_slice_vals buffer, (mut_vals count, tt)))),
+        tt,
+      ) in
       use2 𝓛 (raw (Lender.pre z)) (id⊢ 𝓤 _) $
       calls_at ! framing Lender met z (and_then ! (get ! refl) (and_then ! (get ! refl) (and_then ! (get ! refl) (no_more !)))) (λ v.
       use1 𝓛 (later (some (λ (found : Result (MutBor ℕ) Missed). ((token ⊛ bytes ⊛ word ⊛ ‵ ftrue) ⊛ ‵ ((Made κ).own_val found (v ∷ []))) ⊛ some (λ (ws : Lasts lender.ended z.0.0 z.0.3).
-      ‵ (lasts lender.ended z.0.0 z.0.3 ws) ⊛ (‵ (LendsSlotOf handle (take ws.1.1.0 ws.1.0) (result_ok found)) ⊛ raw (fact 𝓤 (IsFoundSlot (array_in handle.now).map (look (array_in handle.now).map) (buffer.now, count.now) (ws.1.0, ws.1.1.0) found))))))) (id⊢ 𝓤 _) $
+      ‵ (lasts lender.ended z.0.0 z.0.3 ws) ⊛ (‵ (LendsSlotOf handle (take ws.1.1.0 ws.1.0) (result_ok found)) ⊛ raw
+      (fact 𝓤 (IsFoundSlot (array_in handle.now).map (look (array_in handle.now).map) (buffer.now, count.now) (ws.1.0, ws.1.1.0) found))))))) (id⊢ 𝓤 _) $
       await ! tt $ pick ! (λ found. split ! $ split ! $ split3 ! $ move ! (2 ∷ []) $ split ! $ move ! (5 ∷ []) $ pick ! (λ ws. split ! $
-      fsplit ! $ drop ! $ fsplit ! $ fsplit ! $ fsplit ! $ move ! (1 ∷ []) $ feq_l ! (λ long. fjoin ! $ move ! (1 ∷ []) $ fsplit ! $ move ! (1 ∷ []) $ drop ! $ move ! (2 ∷ []) $ split ! $ move ! (1 ∷ []) $ heard ! _ (λ scanned.
+      fsplit ! $ drop ! $ fsplit ! $ fsplit ! $ fsplit ! $ move ! (1 ∷ []) $ feq_l ! (λ long. fjoin ! $ move ! (1 ∷ []) $ fsplit ! $ move ! (1 ∷ []) $ drop ! $ move !
+      (2 ∷ []) $ split ! $ move ! (1 ∷ []) $ heard ! _ (λ scanned.
       -- [what the handle becomes; what is left of the count, and of the buffer; the count's token; nothing; the handle's token; the buffer's; what was found; the pointer's token; the pointer]
       move ! (7 ∷ []) $ peeks ! (Made κ) (Is (Made κ)) (shows 𝓛 (Made κ)) found (v ∷ []) (λ typed. lands_as ! refl refl (answering.made_typed Missing missing_laws IsAnswered 𝓛 κ found v typed) $
       sets ! (addr ! (through ! refl (stop !))) refl (tt, tt) $
@@ -171,5 +175,6 @@ module _ (look : Look) {M : Type 1} (𝓤 : Ura M) (𝓛 : Logic 𝓤) where
       nothing ! $ move ! (1 ∷ 0 ∷ []) $ fjoin ! $ move ! (3 ∷ 0 ∷ []) $ fjoin ! $ move ! (3 ∷ 0 ∷ []) $ fjoin ! $ nothing ! $ fjoin ! $
       flt_i ! told (2 ^ 32) fits $ feq_i ! (List Val) (vint w32 told ∷ []) (vint w32 told ∷ []) refl $ fjoin ! $ move ! (2 ∷ 1 ∷ 0 ∷ []) $
       group ! 3 $ frame ! $ frame ! $ says ! (subst (λ (o : Option (MutBor ℕ)). IsTold o (told == 1) slot.now last) (sym same) is.1) $
-      use0 𝓛 (raw (fact 𝓤 (IsSaid (scan_says (array_in handle.now).map (look (array_in handle.now).map) (record { buffer = buffer.now; count = count.now; value = slot.now.now }) (record { buffer = ws.1.0; count = ws.1.1.0; value = last.now })) told)))
+      use0 𝓛 (raw (fact 𝓤 (IsSaid (scan_says (array_in handle.now).map (look (array_in handle.now).map) (record { buffer = buffer.now; count = count.now; value = slot.now.now })
+      (record { buffer = ws.1.0; count = ws.1.1.0; value = last.now })) told)))
       (fact_i 𝓤 _ (emp 𝓤) (said (array_in handle.now).map (look (array_in handle.now).map) (buffer.now, count.now) (ws.1.0, ws.1.1.0) found told slot.now last scanned is)) $ done !)))))))))

@@ -17,11 +17,13 @@ strings_listed [] = refl
 strings_listed (pair ∷ pairs) = ap (λ rest. pair.0.now ∷ rest) (strings_listed pairs)
 
 -- a list whose strings don't fit
-pub list_unfit : (page : Page) (pairs : List (Bor (List ℕ) × ℕ)) (fault : SlSortedError) → AreWhole page → pairs_in pairs ≡ pairs_on page.bytes page.entries → IsFault most_strings (strings_in pairs) fault → IsUnfit page fault
+pub list_unfit : (page : Page) (pairs : List (Bor (List ℕ) × ℕ)) (fault : SlSortedError) → AreWhole page → pairs_in pairs ≡ pairs_on page.bytes page.entries →
+    IsFault most_strings (strings_in pairs) fault → IsUnfit page fault
 list_unfit page pairs fault whole listed is = inr (whole, subst (λ strings. IsFault most_strings strings fault) (strings_listed pairs ∙ ap (map (λ pair. pair.0)) listed) is)
 
 -- what is answered then
-pub unfit_answered : (page : Page) (array : ArrayOf byte_order) (same : Type 0) (fault : SlSortedError) (before answer after : ℕ) → IsUnfit page fault → answer ≡ number_of fault → after ≡ place_of fault before → same → IsMadeOf page array same before answer after
+pub unfit_answered : (page : Page) (array : ArrayOf byte_order) (same : Type 0) (fault : SlSortedError) (before answer after : ℕ) → IsUnfit page fault →
+    answer ≡ number_of fault → after ≡ place_of fault before → same → IsMadeOf page array same before answer after
 unfit_answered page array same (BadKey at) before answer after is number told kept = subst (λ n. IsMadeOf page array same before n after) (sym number) (BadKey at, is, refl, told, kept)
 unfit_answered page array same (NotAscending at) before answer after is number told kept = subst (λ n. IsMadeOf page array same before n after) (sym number) (NotAscending at, is, refl, told, kept)
 unfit_answered page array same (Full at) before answer after is number told kept = subst (λ n. IsMadeOf page array same before n after) (sym number) (Full at, is, refl, told, kept)

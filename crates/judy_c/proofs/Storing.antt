@@ -11,7 +11,8 @@ more_are_others before after more same = omega arith
 
 module _ (before : ArrayOf byte_order) (key : List ℕ) (value : ℕ) (after : ArrayOf byte_order) (wrote : after ≡ with_value before key value) where
   counted : (found : Option ℕ) → get before.map key ≡ found → len after.map ≡ cond (is_some found) (len before.map) (len before.map + 1)
-  counted found is = ap (λ (a : ArrayOf byte_order). len a.map) wrote ∙ len-insert byte_order_total before.map key value ∙ ap (λ (f : Option ℕ). cond (is_some f) (len before.map) (len before.map + 1)) is
+  counted found is =
+      ap (λ (a : ArrayOf byte_order). len a.map) wrote ∙ len-insert byte_order_total before.map key value ∙ ap (λ (f : Option ℕ). cond (is_some f) (len before.map) (len before.map + 1)) is
 
   held_of : (found : Option ℕ) → get before.map key ≡ found → len after.map ≡ len before.map → (was : ℕ) → Some was ≡ get (ins before.map key) key → Some was ≡ get before.map key
   held_of None is same was held = absurd (more_are_others (len before.map) (len after.map) (counted None is) same)

@@ -1,17 +1,20 @@
 -- What a handle of words that holds no array stands for.
 use Rattle.std.proofs.Common.{◌≡◌, ℕ, ◌-◌, ◌==◌, Bool, true, false, cond, [], slice_get, refl, sym, ap, ◌∙◌, Option, None, Some}
-use Rattle.std.specs.Prelude.{IsFalse, is_some}
+use Rattle.std.specs.Prelude.{IsFalse, is_some, unwrap_or}
 use Rattle.std.specs.FinMap as map
 use Rattle.std.specs.FinMap.{get-empty, len-empty, nat_cmp-IsAntisymmetric}
 use Rattle.std.proofs.lemmas.List.{nil_from_length}
 use Rattle.std.specs.Cmp.{nat_cmp_total}
 use Rattle.judy_model.specs.Keys.{word_order}
 use Rattle.judy_model.specs.Arrays as array
-use Rattle.judy_model.specs.Counts.{by_count}
+use Rattle.judy_model.specs.Counts.{count, by_count}
+use Rattle.judy_model.specs.Ranges.{outside}
 use Rattle.judy_model.specs.Neighbours.{first, next, last, prev, first_of, next_of, last_of, prev_of}
 use Rattle.judy_model.proofs.lemmas.maps.KeysLemmas.{length-keys}
 use Rattle.judy_model.proofs.lemmas.maps.SortedMaps.{remove_absent}
+use Rattle.judy_word.specs.WordArrays as words
 use Rattle.judy_word.specs.WordArrays.{WordArray}
+use Rattle.judy_sets.proofs.RangeFacts.{NoneInside, count-within, within-none, outside-all}
 use Rattle.judy_c.specs.Maps.{array_of}
 use Rattle.judy_c.specs.NullArrays.{unbounded}
 
@@ -28,8 +31,9 @@ pub nothing_held : (a : WordArray) (key : ℕ) → a ≡ unbounded → map.get a
 nothing_held a key is = ap (λ n. map.get n key) (no_map a is) ∙ get-empty word_order key
 
 -- nor has it one to take out
-pub nothing_deleted : (a : WordArray) (key : ℕ) → a ≡ unbounded → a.map ≡ array.del a.map key
-nothing_deleted a key is = sym (remove_absent nat_cmp_total nat_cmp-IsAntisymmetric a.map key (ap (λ n. map.get n key) (no_map a is) ∙ get-empty word_order key))
+pub nothing_deleted : (a : WordArray) (key : ℕ) → a ≡ unbounded → words.array_of a ≡ array.with_map (words.array_of a) (array.del a.map key)
+nothing_deleted a key is =
+    ap (array.with_map (words.array_of a)) (sym (remove_absent nat_cmp_total nat_cmp-IsAntisymmetric a.map key (ap (λ n. map.get n key) (no_map a is) ∙ get-empty word_order key)))
 
 no_keys : (a : WordArray) → a ≡ unbounded → map.keys a.map ≡ []
 no_keys a is = nil_from_length (map.keys a.map) (length-keys a.map ∙ ap map.len (no_map a is) ∙ len-empty word_order ℕ)
@@ -69,6 +73,18 @@ pub null_has_no_value : (o : Option WordArray) (key : ℕ) → o ≡ None → ma
 null_has_no_value o key is = ap (λ (n : Option WordArray). map.get (array_of n).map key) is ∙ get-empty word_order key
 
 -- Where a handle held none and came to hold the empty array with a change, it stands for what it stood for with that change.
-pub changed_first : (change : map.FinMap word_order ℕ → map.FinMap word_order ℕ) (before after : Option WordArray) (made : WordArray) → before ≡ None → after ≡ Some made → made.map ≡ change map.empty → (array_of after).map ≡ change (array_of before).map
+pub changed_first : (change : array.ArrayOf word_order → array.ArrayOf word_order) (before after : Option WordArray) (made : WordArray) → before ≡ None →
+    after ≡ Some made → words.array_of made ≡ change (words.array_of unbounded)
+    → words.array_of (array_of after) ≡ change (words.array_of (array_of before))
 changed_first change before after made none some is =
-    ap (λ (o : Option WordArray). (array_of o).map) some ∙ is ∙ ap (λ (o : Option WordArray). change (array_of o).map) (sym none)
+    ap (λ (o : Option WordArray). words.array_of (array_of o)) some ∙ is ∙ ap (λ (o : Option WordArray). change (words.array_of (array_of o))) (sym none)
+
+-- a null handle has no key in a range
+no_key_inside : (a : WordArray) (from to : ℕ) → a ≡ unbounded → NoneInside from to a.map
+no_key_inside a from to is = λ key held. absurd (let never = nothing_there a key is ∙ held in cc)
+
+pub nothing_counted : (a : WordArray) (from to : ℕ) → a ≡ unbounded → 0 ≡ count a.map from to
+nothing_counted a from to is = sym (count-within from to a.map ∙ within-none from to a.map (no_key_inside a from to is))
+
+pub nothing_taken_out : (a : WordArray) (from to : ℕ) → a ≡ unbounded → words.array_of a ≡ array.with_map (words.array_of a) (outside a.map from to)
+nothing_taken_out a from to is = ap (array.with_map (words.array_of a)) (sym (outside-all from to a.map (no_key_inside a from to is)))

@@ -1,8 +1,8 @@
 -- The numbers by which calls of C on arrays over strings, or over byte strings, answer.
 use Rattle.std.specs.Prelude.{◌≡◌, ℕ, zero, suc, Option, Some, None, Result, Ok, Err}
 use Rattle.std.specs.Borrow.{MutBor}
-use Rattle.judy_c.specs.declared.answers.Refusal.{Refusal}
-use Rattle.judy_c.specs.declared.answers.Refusal.TheVariants.{NoMemory, Full, BadKey}
+use Rattle.judy_c.specs.declared.answers.InsertRefusal.{InsertRefusal}
+use Rattle.judy_c.specs.declared.answers.InsertRefusal.TheVariants.{NoMemory, Full, BadKey}
 
 -- What each answer of a scan says.
 pub record Says : Type 1 where
@@ -22,7 +22,7 @@ IsSaid says (suc (suc (suc (suc (suc zero))))) = says.too_small
 IsSaid says (suc (suc (suc (suc (suc (suc n)))))) = ⊥
 
 -- What an insert answers by a number and the slot that it may leave where the caller is told; there are no other numbers.
-abbrev pub answered : ℕ → MutBor ℕ → Option (Result (MutBor ℕ) Refusal)
+abbrev pub answered : ℕ → MutBor ℕ → Option (Result (MutBor ℕ) InsertRefusal)
 answered zero slot = None
 answered (suc zero) slot = Some (Ok slot)
 answered (suc (suc zero)) slot = Some (Err NoMemory)
@@ -31,7 +31,7 @@ answered (suc (suc (suc (suc zero)))) slot = Some (Err BadKey)
 answered (suc (suc (suc (suc (suc n))))) slot = None
 
 -- What stands then where the caller is told: the slot, where there is one, and else what stood there.
-abbrev pub IsHanded : Option (Result (MutBor ℕ) Refusal) → MutBor ℕ → MutBor ℕ → Type 0
+abbrev pub IsHanded : Option (Result (MutBor ℕ) InsertRefusal) → MutBor ℕ → MutBor ℕ → Type 0
 IsHanded None before after = ⊥
 IsHanded (Some (Ok slot)) before after = after ≡ slot
 IsHanded (Some (Err refusal)) before after = after ≡ before

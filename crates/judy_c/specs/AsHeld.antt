@@ -6,7 +6,7 @@ use Rattle.judy_c.specs.declared.map.Map.{Map}
 use Rattle.judy_c.specs.declared.strings.Strings.{Strings}
 use Rattle.judy_c.specs.declared.bytes.Bytes.{Bytes}
 use Rattle.judy_word.specs.Rows.{judy1_row, judyl_row}
-use Rattle.judy_sl.specs.contracts.strings.JudySl as judysl
+use Rattle.judy_sl.specs.contracts.judysl.JudySl as judysl
 
 -- Of a set: what it holds, and the handle that holds that.
 abbrev pub held_by_set : Set → Held judy1_row.Denot

@@ -14,6 +14,6 @@ module _ (H T : RattleType) where
   abbrev pub lends_if_held : (H.Denot → T.Denot → H.Denot) → MutBor H.Denot → Option (MutBor T.Denot) → Fml
   lends_if_held with handle array = LendsIf H T handle array (with handle.now) handle.now
 
-  -- The same of one that was held or made, and where there is no memory for that, it stays.
+  -- The same of one that was held or made. It stays where the array is left as it was held, and where there is no memory for one.
   abbrev pub lends_made : (H.Denot → Option T.Denot) → MutBor H.Denot → Result (MutBor T.Denot) AllocError → Fml
-  lends_made held handle array = LendsSoOk H T handle array (λ after a. held after ≡ Some a) (λ after. after ≡ handle.now)
+  lends_made held handle array = LendsSoOk H T handle array (λ after a. (held after ≡ Some a) × (held handle.now ≡ Some a → after ≡ handle.now)) (λ after. after ≡ handle.now)

@@ -18,6 +18,6 @@ lends_array T held array = Lends (the_row T) T held array (with_array held.now)
 abbrev pub lends_if_held : (T : RattleType) → MutBor (Held T.Denot) → Option (MutBor T.Denot) → Fml
 lends_if_held T = handles.lends_if_held (the_row T) T with_array
 
--- The same of one that was there or made, and where there is no memory for that, it stays.
+-- The same of one that was there or made. It stays where the array is left as it was there, and where there is no memory for one.
 abbrev pub lends_made : (T : RattleType) → MutBor (Held T.Denot) → Result (MutBor T.Denot) AllocError → Fml
 lends_made T = handles.lends_made (the_row T) T (λ held. held.array)

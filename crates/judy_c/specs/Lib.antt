@@ -19,6 +19,8 @@ pub mod ByteSlots
 pub mod Walks
 pub mod Sorted
 pub mod KeyPuts
+pub mod HeldKeys
 pub mod KeyWalks
 pub mod Looks
 pub mod SortedStrings
+pub mod Combined

@@ -5,6 +5,8 @@ use Rattle.judy_c.specs.declared.map.Map.{Map}
 use Rattle.judy_c.specs.declared.set.Set.{Set}
 use Rattle.judy_c.specs.NullArrays.{unbounded}
 use Rattle.judy_model.specs.Keys.{word_order}
+use Rattle.judy_model.specs.Arrays.{ArrayOf}
+use Rattle.judy_word.specs.WordArrays as words
 use Rattle.judy_word.specs.WordArrays.{WordArray}
 
 -- The array that a handle holds; one that holds none stands for the empty array that may hold any number of keys.
@@ -18,6 +20,13 @@ map_of handle = (array_of handle.array).map
 -- The set of a handle, as the map whose every value is 0.
 abbrev pub set_of : Set → FinMap word_order ℕ
 set_of handle = (array_of handle.array).map
+
+-- The same arrays with their limits: how many keys each may hold.
+abbrev pub array_in_map : Map → ArrayOf word_order
+array_in_map handle = words.array_of (array_of handle.array)
+
+abbrev pub array_in_set : Set → ArrayOf word_order
+array_in_set handle = words.array_of (array_of handle.array)
 
 -- The value of the key that was found; none where none was.
 abbrev pub value_beside : FinMap word_order ℕ → Option ℕ → Option ℕ

@@ -9,8 +9,8 @@ use Rattle.std.specs.Global.{Global}
 use Rattle.std.specs.Coded.{coded_option}
 use Rattle.std_heap.specs.contracts.GlobalAllocator.TheImpl.{ghosts}
 use Rattle.judy_word.specs.Rows.{judy1_row, judyl_row}
-use Rattle.judy_sl.specs.contracts.strings.JudySl as judysl
-use Rattle.judy_hs.specs.contracts.bytes.JudyHs as judyhs
+use Rattle.judy_sl.specs.contracts.judysl.JudySl as judysl
+use Rattle.judy_hs.specs.contracts.judyhs.JudyHs as judyhs
 use Rattle.judy_hs.specs.contracts.hash.Eights as eights
 use Rattle.judy_hs.specs.contracts.hash.EightsByteHash.TheImpl as hash
 

@@ -22,13 +22,13 @@ IsRefused NoMemory answer before after = (answer ≡ 2) × (after ≡ before)
 IsRefused (Full at) answer before after = (answer ≡ 3) × (after ≡ before)
 IsRefused (NotAscending at) answer before after = (answer ≡ 4) × (after ≡ at)
 
--- 1: the array is that of the keys. 2: they ascend, there is no memory for them, and the array is as it was. 3: more than 2^64 - 1 of them
--- ascend, which no list of the machine has. 4: a key isn't above the one before it, the place of the first such key is told, and the array
--- is as it was.
-abbrev pub IsReplaced : List ℕ → Type 0 → Type 0 → ℕ → ℕ → ℕ → Type 0
-IsReplaced keys made same before zero after = ⊥
-IsReplaced keys made same before (suc zero) after = made × (after ≡ before)
-IsReplaced keys made same before (suc (suc zero)) after = IsSorted most_keys keys × same × (after ≡ before)
-IsReplaced keys made same before (suc (suc (suc zero))) after = (most_keys < ascending_from 0 keys) × same × (after ≡ before)
-IsReplaced keys made same before (suc (suc (suc (suc zero)))) after = (ascending_from 0 keys ≡ after) × (after < length keys) × same
-IsReplaced keys made same before (suc (suc (suc (suc (suc n))))) after = ⊥
+-- 1: the array is that of the keys, and may hold as many as there are words, but one. 2: they ascend, and there is no memory for them. 4: a key
+-- isn't above the one before it, and the place of the first such key is told. In these two cases the array is as it was. 3 is never
+-- answered, since no list is longer than that.
+abbrev pub IsReplaced : List ℕ → Type 0 → Type 0 → ℕ → ℕ → ℕ → ℕ → Type 0
+IsReplaced keys made same limit before zero after = ⊥
+IsReplaced keys made same limit before (suc zero) after = made × (limit ≡ most_keys) × (after ≡ before)
+IsReplaced keys made same limit before (suc (suc zero)) after = IsSorted most_keys keys × same × (after ≡ before)
+IsReplaced keys made same limit before (suc (suc (suc zero))) after = ⊥
+IsReplaced keys made same limit before (suc (suc (suc (suc zero)))) after = (ascending_from 0 keys ≡ after) × (after < length keys) × same
+IsReplaced keys made same limit before (suc (suc (suc (suc (suc n))))) after = ⊥

@@ -15,29 +15,40 @@ abbrev pub pairs_on : List ℕ → List KeyEntry → Pairs
 pairs_on bytes [] = []
 pairs_on bytes (entry ∷ entries) = (take entry.length bytes, entry.value) ∷ pairs_on (drop entry.length bytes) entries
 
+-- The strings.
+abbrev pub strings_on : List ℕ → List KeyEntry → List (List ℕ)
+strings_on bytes entries = map (λ pair. pair.0) (pairs_on bytes entries)
+
 -- How many of the first ones don't go beyond the bytes.
 abbrev pub whole_on : List ℕ → List KeyEntry → ℕ
 whole_on bytes [] = 0
 whole_on bytes (entry ∷ entries) = if nat_le entry.length (length bytes) then suc (whole_on (drop entry.length bytes) entries) else 0
 
--- None does.
+-- None goes beyond them.
 abbrev pub AreWhole : Page → Type 0
 AreWhole page = whole_on page.bytes page.entries ≡ length page.entries
 
--- Why there is no list of them: one goes beyond the bytes, the first that does; or there is no memory.
+-- Why there is no list of them: one goes beyond the bytes, the first that does.
 abbrev pub IsCut : Page → SlSortedError → Type 0
 IsCut page (BadKey at) = (at ≡ whole_on page.bytes page.entries) × (at < length page.entries)
 IsCut page (NotAscending at) = ⊥
 IsCut page (Full at) = ⊥
-IsCut page NoMemory = Unit {0}
+IsCut page NoMemory = ⊥
 
 -- The most strings that an array of C holds.
 abbrev pub most_strings : ℕ
 most_strings = 4294967295
 
--- Why no array is made of them: there is no list; or there is one, and a string in it doesn't fit.
+-- The same, or there is no memory for a list.
+abbrev pub IsUnlisted : Page → SlSortedError → Type 0
+IsUnlisted page (BadKey at) = IsCut page (BadKey at)
+IsUnlisted page (NotAscending at) = ⊥
+IsUnlisted page (Full at) = ⊥
+IsUnlisted page NoMemory = Unit {0}
+
+-- Why no array is made of them: one goes beyond the bytes; or none does, and a string doesn't fit, or all fit and there is no memory.
 abbrev pub IsUnfit : Page → SlSortedError → Type 0
-IsUnfit page fault = IsCut page fault ⊎ (AreWhole page × IsFault most_strings (map (λ pair. pair.0) (pairs_on page.bytes page.entries)) fault)
+IsUnfit page fault = IsCut page fault ⊎ (AreWhole page × IsFault most_strings (strings_on page.bytes page.entries) fault)
 
 -- The number by which that is answered, and the place that is told: of a string that is no key, or isn't above the one before it.
 abbrev pub number_of : SlSortedError → ℕ

@@ -2,7 +2,7 @@
 use Rattle.std.specs.Prelude.{ℕ, List, Option, Result}
 use Rattle.std.specs.Borrow.{Fml, MutBor}
 use Rattle.judy_c.specs.KeySlots as slots
-use Rattle.judy_c.specs.declared.answers.Refusal.{Refusal}
+use Rattle.judy_c.specs.declared.answers.InsertRefusal.{InsertRefusal}
 use Rattle.judy_c.specs.declared.strings.Strings.{Strings}
 use Rattle.judy_c.specs.contracts.strings.Strings.{the_row}
 use Rattle.judy_c.specs.StringMaps.{array_in}
@@ -10,8 +10,8 @@ use Rattle.judy_c.specs.StringMaps.{array_in}
 abbrev pub LendsSlotOf : MutBor Strings → List ℕ → Option (MutBor ℕ) → Fml
 LendsSlotOf = slots.LendsSlotOf the_row array_in
 
-abbrev pub LendsInsOf : MutBor Strings → List ℕ → Result (MutBor ℕ) Refusal → Fml
+abbrev pub LendsInsOf : MutBor Strings → List ℕ → Result (MutBor ℕ) InsertRefusal → Fml
 LendsInsOf = slots.LendsInsOf the_row array_in
 
-abbrev pub LendsAnswered : MutBor Strings → List ℕ → Option (Result (MutBor ℕ) Refusal) → Fml
+abbrev pub LendsAnswered : MutBor Strings → List ℕ → Option (Result (MutBor ℕ) InsertRefusal) → Fml
 LendsAnswered = slots.LendsAnswered the_row array_in

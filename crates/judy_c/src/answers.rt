@@ -33,14 +33,14 @@ pub(crate) const TOO_SMALL: u32 = 5;
 
 // Why an insert hands out no slot.
 #[derive(Clone, Copy)]
-pub(crate) enum Refusal {
+pub(crate) enum InsertRefusal {
     NoMemory,
     Full,
     BadKey,
 }
 
 // What an insert gives, or why it is refused.
-pub(crate) type Outcome<T> = Result<T, Refusal>;
+pub(crate) type Outcome<T> = Result<T, InsertRefusal>;
 
 // Why a scan hands out no slot.
 #[derive(Clone, Copy)]
@@ -54,7 +54,10 @@ pub(crate) enum Missed {
 pub(crate) type FoundSlot<'a> = Result<&'a mut u64, Missed>;
 
 // Answers an insert by its number, and hands the slot out where there is one.
-pub(crate) fn answer_insert<'a>(made: Result<&'a mut u64, Refusal>, slot: &mut &'a mut u64) -> u32
+pub(crate) fn answer_insert<'a>(
+    made: Result<&'a mut u64, InsertRefusal>,
+    slot: &mut &'a mut u64,
+) -> u32
     ensures { (answered result slot.new ≡ Some made.entry)
         × IsHanded (Some made.entry) slot.old slot.new }
 {
@@ -63,9 +66,9 @@ pub(crate) fn answer_insert<'a>(made: Result<&'a mut u64, Refusal>, slot: &mut &
             *slot = word;
             FOUND
         }
-        Err(Refusal::NoMemory) => NO_MEMORY,
-        Err(Refusal::Full) => FULL,
-        Err(Refusal::BadKey) => BAD_KEY,
+        Err(InsertRefusal::NoMemory) => NO_MEMORY,
+        Err(InsertRefusal::Full) => FULL,
+        Err(InsertRefusal::BadKey) => BAD_KEY,
     }
 }
 
@@ -86,7 +89,7 @@ pub(crate) fn answer_scan<'a>(found: FoundSlot<'a>, slot: &mut &'a mut u64) -> u
 }
 
 // Answers an insert of a value by its number, and tells the value that was there.
-pub(crate) fn answer_store(stored: Result<Option<u64>, Refusal>, was: &mut u64) -> u32
+pub(crate) fn answer_store(stored: Result<Option<u64>, InsertRefusal>, was: &mut u64) -> u32
     ensures number { result ≡ number_of stored }
     ensures told { IsToldOld (was_of stored) result was.old was.new }
 {
@@ -96,8 +99,8 @@ pub(crate) fn answer_store(stored: Result<Option<u64>, Refusal>, was: &mut u64) 
             PRESENT
         }
         Ok(None) => ADDED,
-        Err(Refusal::NoMemory) => NO_MEMORY,
-        Err(Refusal::Full) => FULL,
-        Err(Refusal::BadKey) => BAD_KEY,
+        Err(InsertRefusal::NoMemory) => NO_MEMORY,
+        Err(InsertRefusal::Full) => FULL,
+        Err(InsertRefusal::BadKey) => BAD_KEY,
     }
 }

@@ -1,11 +1,19 @@
 //! The arrays that C holds by handles, each with the one for which a null handle stands.
 
-ghost use Rattle.std.specs.Prelude.{◌≡◌};
-ghost use Rattle.judy_model.specs.Arrays.{empty_array};
+ghost use Rattle.std.specs.Prelude.{◌≡◌, ℕ, List};
+ghost use Rattle.std.specs.Borrow.{sem};
+ghost use Rattle.std.specs.FinMap as map;
+ghost use Rattle.std.specs.Option.{option_copied_mut};
+ghost use Rattle.judy_model.specs.Arrays.{ArrayOf, empty_array};
+ghost use Rattle.judy_model.specs.Keys.{byte_order, IsStringKey};
+ghost use Rattle.judy_c.specs.KeyInserts.{IsMade, IsShort};
+ghost use Rattle.judy_c.specs.KeyPuts.{IsStored};
+ghost use Rattle.judy_c.specs.KeySlots.{LendsInsOf, LendsSlotOf};
 ghost use Rattle.judy_c.specs.NullArrays.{unbounded, empty_keyed};
 
-use judy_hs::{Eights, JudyHs};
-use judy_sl::JudySl;
+use crate::answers::{InsertRefusal, Outcome};
+use judy_hs::{Eights, HsError, JudyHs};
+use judy_sl::{JudySl, SlError};
 use judy_word::{Judy1, JudyL};
 use std::alloc::Global;
 
@@ -13,7 +21,7 @@ use std::alloc::Global;
 pub(crate) const MOST_KEYS: u64 = 4294967295;
 
 // An array that C holds by a handle.
-pub(crate) trait Array: Drop {
+pub(crate) trait HeldArray: Drop {
     // The one without keys, for which a null handle stands.
     ghost without_keys: { Self };
 
@@ -22,7 +30,46 @@ pub(crate) trait Array: Drop {
         ensures { result ≡ without_keys };
 }
 
-impl Array for Judy1 {
+// One whose keys are bytes, all alike by their limits and maps.
+pub(crate) trait KeyedArray: HeldArray {
+    // Its limit and its map, and which bytes are a key of it.
+    ghost seen: { Self → ArrayOf byte_order };
+
+    ghost IsKey: { List ℕ → Type 0 };
+
+    // The slot of a key, which is put in with the value 0 where it is absent. Where that is refused the array is as it
+    // was.
+    fn put_in(&mut self, key: &[u8]) -> Outcome<&mut u64>
+        ensures* writes_back { sem 𝓛 (LendsInsOf Self.row seen self.entry key.now result) }
+        ensures made { IsMade IsKey (seen self.old) key.now result };
+
+    // The slot of a key, and `None` where it is absent.
+    fn slot_of(&mut self, key: &[u8]) -> Option<&mut u64>
+        ensures* writes_back { sem 𝓛 (LendsSlotOf Self.row seen self.entry key.now result) }
+        ensures value { option_copied_mut result ≡ map.get (seen self.old).map key.now };
+
+    // How many keys there are.
+    fn key_count(&self) -> u64
+        ensures { result ≡ map.len (seen self.now).map };
+
+    // Gives a key a value, and answers the one that it had. Whether it was there is told by the number of keys.
+    final fn store(&mut self, key: &[u8], value: u64) -> Outcome<Option<u64>>
+        ensures { IsStored IsKey (seen self.old) key.now value (self.new ≡ self.old) result
+            (seen self.new) }
+    {
+        let count = self.key_count();
+        let slot = self.put_in(key)?;
+        let was = *slot;
+        *slot = value;
+        let there = self.key_count() == count;
+        Ok(if there { Some(was) } else { None })
+    }
+
+    // A law: the array for which a null handle stands has no key, and may hold the most.
+    ghost emptied: { seen Self.without_keys ≡ empty_keyed };
+}
+
+impl HeldArray for Judy1 {
     ghost without_keys = { unbounded };
 
     fn empty(alloc: Global) -> Judy1 {
@@ -30,7 +77,7 @@ impl Array for Judy1 {
     }
 }
 
-impl Array for JudyL {
+impl HeldArray for JudyL {
     ghost without_keys = { unbounded };
 
     fn empty(alloc: Global) -> JudyL {
@@ -38,7 +85,7 @@ impl Array for JudyL {
     }
 }
 
-impl Array for JudySl {
+impl HeldArray for JudySl {
     ghost without_keys = { empty_keyed };
 
     fn empty(alloc: Global) -> JudySl {
@@ -46,10 +93,66 @@ impl Array for JudySl {
     }
 }
 
-impl Array for JudyHs<Eights> {
+impl HeldArray for JudyHs<Eights> {
     ghost without_keys = { empty_keyed };
 
     fn empty(alloc: Global) -> JudyHs<Eights> {
         JudyHs::new(alloc, MOST_KEYS, Eights)
     }
+}
+
+// What an insert into an array whose keys are bytes gives; the array's error for bytes that are no key is named.
+macro_rules! made {
+    ($inserted:expr, $error:ident::$bad_key:ident) => {
+        match $inserted {
+            Ok(slot) => Ok(slot),
+            Err($error::$bad_key) => Err(InsertRefusal::BadKey),
+            Err($error::Full) => Err(InsertRefusal::Full),
+            Err($error::NoMemory) => Err(InsertRefusal::NoMemory),
+        }
+    };
+}
+
+impl KeyedArray for JudySl {
+    ghost use Rattle.std.specs.Prelude.{refl};
+
+    ghost seen = { λ array. array };
+
+    ghost IsKey = { IsStringKey };
+
+    fn put_in(&mut self, key: &[u8]) -> Outcome<&mut u64> {
+        made!(self.ins(key), SlError::BadKey)
+    }
+
+    fn slot_of(&mut self, key: &[u8]) -> Option<&mut u64> {
+        self.slot(key)
+    }
+
+    fn key_count(&self) -> u64 {
+        self.len()
+    }
+
+    ghost emptied = { refl };
+}
+
+impl KeyedArray for JudyHs<Eights> {
+    ghost use Rattle.std.specs.Prelude.{refl};
+
+    ghost seen = { λ array. array };
+
+    ghost IsKey = { IsShort };
+
+    fn put_in(&mut self, key: &[u8]) -> Outcome<&mut u64> {
+        made!(self.ins(key), HsError::TooLong)
+    }
+
+    fn slot_of(&mut self, key: &[u8]) -> Option<&mut u64> {
+        self.slot(key)
+    }
+
+    fn key_count(&self) -> u64 {
+        self.len()
+    }
+
+    ghost emptied = { refl };
 }

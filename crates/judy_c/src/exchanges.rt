@@ -1,9 +1,10 @@
-//! The calls of C that change a map from words to words and tell the value that was there, each in one way down the map.
+//! The calls of C that change a map from words to words and tell the value that was there, each in one way down the
+//! map.
 
 ghost use Rattle.std.specs.Prelude.{◌≡◌, ◌==◌};
 ghost use Rattle.std.specs.FinMap as map;
 ghost use Rattle.judy_model.specs.Arrays as array;
-ghost use Rattle.judy_c.specs.Maps.{map_of};
+ghost use Rattle.judy_c.specs.Maps.{array_in_map, map_of};
 ghost use Rattle.judy_c.specs.Puts.{IsStored};
 ghost use Rattle.judy_c.specs.Told.{IsTold};
 
@@ -21,7 +22,8 @@ pub extern "C" fn sellumaq_judyl_insert(
     value: u64,
     was: &mut u64,
 ) -> u32
-    ensures stored { IsStored (map_of handle.old) key value result (map_of handle.new) }
+    ensures stored { IsStored (array_in_map handle.old) key value (handle.new ≡ handle.old) result
+        (array_in_map handle.new) }
     ensures told { IsTold (map.get (map_of handle.old) key) (result == 0) was.old was.new }
 {
     match handle.array_or_new(alloc) {
@@ -46,7 +48,8 @@ pub extern "C" fn sellumaq_judyl_remove(
     was: &mut u64,
 ) -> bool
     ensures told { IsTold (map.get (map_of handle.old) key) result was.old was.new }
-    ensures deleted { map_of handle.new ≡ array.del (map_of handle.old) key }
+    ensures deleted { array_in_map handle.new
+        ≡ array.with_map (array_in_map handle.old) (array.del (map_of handle.old) key) }
 {
     match handle.array() {
         Some(array) => tell(array.remove(key), was),

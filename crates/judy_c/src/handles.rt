@@ -4,7 +4,7 @@ ghost use Rattle.std.specs.Borrow.{sem};
 ghost use Rattle.std.specs.Fn.{FnOnceReturnsAt};
 ghost use Rattle.std.specs.Option.{option_copied_mut};
 
-use crate::arrays::Array;
+use crate::arrays::HeldArray;
 use crate::box_parts::BoxParts;
 use crate::bytes::Bytes;
 use crate::held::Held;
@@ -18,7 +18,7 @@ use std::alloc::{AllocError, Global};
 
 // A handle of C: one word, which is what it holds.
 pub(crate) trait Handle {
-    type Array: Array;
+    type Array: HeldArray;
 
     ghost use Rattle.judy_c.specs.declared.held.Held.{Held};
     ghost use Rattle.judy_c.specs.HandleLends.{lends_held, lends_if_held, lends_made};
@@ -96,8 +96,9 @@ pub(crate) trait Handle {
     ghost kept: { (held : Held Self.Array) → held_by (holding held) ≡ held };
 }
 
-// What is answered of the array of a handle of words, or of the one without keys where the handle is null. It is `ask` without a closure, for the
-// searches that are compiled into their callers: a closure that is called in two places is a function of its own.
+// What is answered of the array of a handle of words, or of the one without keys where the handle is null. It is `ask`
+// without a closure, for the searches that are compiled into their callers: a closure that is called in two places is a
+// function of its own.
 macro_rules! asked {
     ($handle:ident, $alloc:ident, $kind:ident, $array:ident => $answer:expr) => {
         match $handle.array() {
@@ -120,40 +121,7 @@ macro_rules! slot_in {
     };
 }
 
-// The slot of a key of the array of a handle, which is put in with the value 0 where it is absent. For bytes that are no key no array is
-// made; the array's error for them is named.
-macro_rules! ins_in {
-    ($handle:ident, $alloc:ident, $key:ident; $error:ident, $bad_key:ident) => {{
-        if $handle.is_null() && !is_key($key) {
-            return Err(Refusal::BadKey);
-        }
-        match $handle.array_or_new($alloc) {
-            Ok(array) => match array.ins($key) {
-                Ok(slot) => Ok(slot),
-                Err($error::$bad_key) => Err(Refusal::BadKey),
-                Err($error::Full) => Err(Refusal::Full),
-                Err($error::NoMemory) => Err(Refusal::NoMemory),
-            },
-            Err(_) => Err(Refusal::NoMemory),
-        }
-    }};
-}
-
-// Gives a key of the array of a handle a value, and answers the one that it had. Whether it was there is told by the number of keys.
-macro_rules! insert_in {
-    ($handle:ident, $alloc:ident, $key:ident, $value:ident, $len:ident) => {{
-        let count = $len($alloc, $handle);
-        let slot = $handle.ins($alloc, $key)?;
-        let was = *slot;
-        *slot = $value;
-        let there = $len($alloc, $handle) == count;
-        Ok(if there { Some(was) } else { None })
-    }};
-}
-
 pub(crate) use asked;
-pub(crate) use ins_in;
-pub(crate) use insert_in;
 pub(crate) use slot_in;
 
 // SAFETY, of the four casts: a handle and what it holds are both one pointer in memory, behind which they own the same.

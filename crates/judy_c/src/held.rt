@@ -4,6 +4,7 @@ ghost use Rattle.std.specs.Prelude.{Option};
 ghost use Rattle.std.specs.Coded.{coded_option};
 
 mod array;
+mod keyed;
 mod raw;
 
 use std::marker::Model;

@@ -1,8 +1,8 @@
 //! The calls of C on sets of words.
 //!
-//! C knows a set by its handle, one word (map.rt); a handle of zeros is the set without keys. Each call answers what the call of
-//! `judy_word::Judy1` of the same name does for that set. A call that may have no answer tells it through its last parameter,
-//! where it answers true, and leaves that alone where it answers false.
+//! C knows a set by its handle, one word (map.rt); a handle of zeros is the set without keys. Each call answers what
+//! the call of `judy_word::Judy1` of the same name does for that set. A call that may have no answer tells it through
+//! its last parameter, where it answers true, and leaves that alone where it answers false.
 
 ghost use Rattle.std.specs.Prelude.{◌≡◌, None};
 ghost use Rattle.std.specs.FinMap as map;
@@ -10,7 +10,8 @@ ghost use Rattle.judy_model.specs.Arrays as array;
 ghost use Rattle.judy_model.specs.Counts as counts;
 ghost use Rattle.judy_model.specs.Empties as empties;
 ghost use Rattle.judy_model.specs.Neighbours as neighbours;
-ghost use Rattle.judy_c.specs.Maps.{set_of};
+ghost use Rattle.judy_c.specs.Maps.{array_in_set, set_of};
+ghost use Rattle.judy_word.specs.WordArrays.{array_of};
 ghost use Rattle.judy_c.specs.Puts.{IsPut};
 ghost use Rattle.judy_c.specs.Told.{IsTold};
 
@@ -21,11 +22,12 @@ use crate::told::tell;
 use judy_word::Judy1;
 use std::alloc::Global;
 
-/// Puts a key in: 0 where it was there, 1 where it was absent, 2 where it is absent and there is no memory for it. (Manual: J1S,
-/// Judy1Set.)
+/// Puts a key in: 0 where it was there, 1 where it was absent, 2 where it is absent and there is no memory for it.
+/// (Manual: J1S, Judy1Set.)
 #[unsafe(no_mangle)]
 pub extern "C" fn sellumaq_judy1_set(alloc: Global, handle: &mut Set, key: u64) -> u32
-    ensures { IsPut (set_of handle.old) key result (set_of handle.new) }
+    ensures { IsPut (array_in_set handle.old) key (handle.new ≡ handle.old) result
+        (array_in_set handle.new) }
 {
     match handle.array() {
         Some(array) => set_in(array, key),
@@ -36,7 +38,7 @@ pub extern "C" fn sellumaq_judy1_set(alloc: Global, handle: &mut Set, key: u64) 
 // The same of the set that a handle holds. A function of its own: so a call on a null handle saves no registers for it.
 #[inline(never)]
 fn set_in(array: &mut Judy1, key: u64) -> u32
-    ensures { IsPut array.old.map key result array.new.map }
+    ensures { IsPut (array_of array.old) key (array.new ≡ array.old) result (array_of array.new) }
 {
     match array.set(key) {
         Ok(true) => 1,
@@ -49,7 +51,8 @@ fn set_in(array: &mut Judy1, key: u64) -> u32
 #[inline(never)]
 fn set_first(alloc: Global, handle: &mut Set, key: u64) -> u32
     requires { handle.old.array ≡ None }
-    ensures { IsPut (set_of handle.old) key result (set_of handle.new) }
+    ensures { IsPut (array_in_set handle.old) key (handle.new ≡ handle.old) result
+        (array_in_set handle.new) }
 {
     match Box::new(alloc, Judy1::of_one(alloc, key)) {
         Ok(array) => {
@@ -76,7 +79,8 @@ pub extern "C" fn sellumaq_judy1_test(alloc: Global, handle: &mut Set, key: u64)
 #[unsafe(no_mangle)]
 pub extern "C" fn sellumaq_judy1_unset(alloc: Global, handle: &mut Set, key: u64) -> bool
     ensures answer { result ≡ map.contains_key (set_of handle.old) key }
-    ensures unset { set_of handle.new ≡ array.del (set_of handle.old) key }
+    ensures unset { array_in_set handle.new
+        ≡ array.with_map (array_in_set handle.old) (array.del (set_of handle.old) key) }
 {
     match handle.array() {
         Some(array) => array.unset(key),
@@ -205,8 +209,8 @@ pub extern "C" fn sellumaq_judy1_len(alloc: Global, handle: &mut Set) -> u64
     handle.ask(alloc, |array| array.len())
 }
 
-/// How many keys there are from one word to another, both included; 0 where the first is above the second. (Manual: J1C,
-/// Judy1Count.)
+/// How many keys there are from one word to another, both included; 0 where the first is above the second. (Manual:
+/// J1C, Judy1Count.)
 #[unsafe(no_mangle)]
 pub extern "C" fn sellumaq_judy1_count(alloc: Global, handle: &mut Set, from: u64, to: u64) -> u64
     ensures count { result ≡ counts.count (set_of handle.old) from to }
@@ -229,8 +233,8 @@ pub extern "C" fn sellumaq_judy1_by_count(
     tell(handle.ask(alloc, |array| array.by_count(n)), key)
 }
 
-/// Takes every key out, gives all memory back, and answers how many keys there were. (Manual: J1FA, Judy1FreeArray, which
-/// answers the bytes freed.)
+/// Takes every key out, gives all memory back, and answers how many keys there were. (Manual: J1FA, Judy1FreeArray,
+/// which answers the bytes freed.)
 #[unsafe(no_mangle)]
 pub extern "C" fn sellumaq_judy1_free(alloc: Global, handle: &mut Set) -> u64
     ensures freed { result ≡ map.len (set_of handle.old) }

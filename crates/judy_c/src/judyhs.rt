@@ -1,8 +1,8 @@
 //! The calls of C on maps from byte strings to words.
 //!
-//! C knows a map by its handle, one word (bytes.rt); a handle of zeros is the map without keys. Each call answers what the
-//! call of `judy_hs::JudyHs` of the same name does for that map. A key is a pointer and a length. A call that may have no answer
-//! tells it through its last parameter, where it answers true or `FOUND`, and leaves that alone else.
+//! C knows a map by its handle, one word (bytes.rt); a handle of zeros is the map without keys. Each call answers what
+//! the call of `judy_hs::JudyHs` of the same name does for that map. A key is a pointer and a length. A call that may
+//! have no answer tells it through its last parameter, where it answers true or `FOUND`, and leaves that alone else.
 
 ghost use Rattle.std.specs.Prelude.{◌≡◌, None};
 ghost use Rattle.std.specs.FinMap as map;
@@ -33,8 +33,10 @@ pub extern "C" fn sellumaq_judyhs_get(handle: &mut Bytes, key: &[u8], value: &mu
     }
 }
 
-/// Hands out the slot of a key, which is put in with the value 0 where it is absent: what is left there is the key's value.
-/// Answers `FOUND`, or why it is refused: `BAD_KEY`, `FULL` or `NO_MEMORY`, in this order. (Manual: JHSI, JudyHSIns.)
+/// Hands out the slot of a key, which is put in with the value 0 where it is absent: what is left there is the key's
+/// value.
+/// Answers `FOUND`, or why it is refused: `BAD_KEY`, `FULL` or `NO_MEMORY`, in this order; the handle is as it was
+/// then. (Manual: JHSI, JudyHSIns.)
 #[unsafe(no_mangle)]
 pub extern "C" fn sellumaq_judyhs_ins<'a>(
     alloc: Global,
@@ -86,8 +88,8 @@ pub extern "C" fn sellumaq_judyhs_len(alloc: Global, handle: &mut Bytes) -> u64
     handle.ask(alloc, |array| array.len())
 }
 
-/// Takes every key out, gives all memory back, and answers how many keys there were. (Manual: JHSFA, JudyHSFreeArray, which
-/// answers the bytes freed.)
+/// Takes every key out, gives all memory back, and answers how many keys there were. (Manual: JHSFA, JudyHSFreeArray,
+/// which answers the bytes freed.)
 #[unsafe(no_mangle)]
 pub extern "C" fn sellumaq_judyhs_free(alloc: Global, handle: &mut Bytes) -> u64
     ensures freed { result ≡ map.len (array_in handle.old).map }

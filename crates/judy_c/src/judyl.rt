@@ -1,8 +1,8 @@
 //! The calls of C on maps from words to words.
 //!
-//! C knows a map by its handle, one word (map.rt); a handle of zeros is the map without keys. Each call answers what the call of
-//! `judy_word::JudyL` of the same name does for that map. A call that may have no answer tells it through its last parameter,
-//! where it answers true, and leaves that alone where it answers false.
+//! C knows a map by its handle, one word (map.rt); a handle of zeros is the map without keys. Each call answers what
+//! the call of `judy_word::JudyL` of the same name does for that map. A call that may have no answer tells it through
+//! its last parameter, where it answers true, and leaves that alone where it answers false.
 
 ghost use Rattle.std.specs.Prelude.{◌≡◌, None};
 ghost use Rattle.std.specs.FinMap as map;
@@ -10,7 +10,8 @@ ghost use Rattle.judy_model.specs.Arrays as array;
 ghost use Rattle.judy_model.specs.Counts as counts;
 ghost use Rattle.judy_model.specs.Empties as empties;
 ghost use Rattle.judy_model.specs.Neighbours as neighbours;
-ghost use Rattle.judy_c.specs.Maps.{map_of};
+ghost use Rattle.judy_c.specs.Maps.{array_in_map, map_of};
+ghost use Rattle.judy_word.specs.WordArrays.{array_of};
 ghost use Rattle.judy_c.specs.Puts.{IsMade, IsStored};
 ghost use Rattle.judy_c.specs.SlotLends.{LendsSlotOf};
 ghost use Rattle.judy_c.specs.Told.{IsTold, lent_where};
@@ -41,8 +42,8 @@ pub extern "C" fn sellumaq_judyl_get(
     }
 }
 
-/// Hands out the slot of a key, which is put in with the value 0 where it is absent: what is left there is the key's value. False
-/// where the key is absent and there is no memory for it. (Manual: JLI, JudyLIns.)
+/// Hands out the slot of a key, which is put in with the value 0 where it is absent: what is left there is the key's
+/// value. False where the key is absent and there is no memory for it. (Manual: JLI, JudyLIns.)
 #[unsafe(no_mangle)]
 pub extern "C" fn sellumaq_judyl_ins<'a>(
     alloc: Global,
@@ -57,10 +58,12 @@ pub extern "C" fn sellumaq_judyl_ins<'a>(
     hand_out(handle.ins(alloc, key), slot)
 }
 
-/// Gives a key a value: 0 where it was there, 1 where it was absent, 2 where it is absent and there is no memory for it.
+/// Gives a key a value: 0 where it was there, 1 where it was absent, 2 where it is absent and there is no memory for
+/// it.
 #[unsafe(no_mangle)]
 pub extern "C" fn sellumaq_judyl_put(alloc: Global, handle: &mut Map, key: u64, value: u64) -> u32
-    ensures { IsStored (map_of handle.old) key value result (map_of handle.new) }
+    ensures { IsStored (array_in_map handle.old) key value (handle.new ≡ handle.old) result
+        (array_in_map handle.new) }
 {
     match handle.array() {
         Some(array) => put_in(array, key, value),
@@ -71,7 +74,8 @@ pub extern "C" fn sellumaq_judyl_put(alloc: Global, handle: &mut Map, key: u64, 
 // The same of the map that a handle holds. A function of its own: so a call on a null handle saves no registers for it.
 #[inline(never)]
 fn put_in(array: &mut JudyL, key: u64, value: u64) -> u32
-    ensures { IsStored array.old.map key value result array.new.map }
+    ensures { IsStored (array_of array.old) key value (array.new ≡ array.old) result
+        (array_of array.new) }
 {
     match array.put(key, value) {
         Ok(true) => 1,
@@ -84,7 +88,8 @@ fn put_in(array: &mut JudyL, key: u64, value: u64) -> u32
 #[inline(never)]
 fn put_first(alloc: Global, handle: &mut Map, key: u64, value: u64) -> u32
     requires { handle.old.array ≡ None }
-    ensures { IsStored (map_of handle.old) key value result (map_of handle.new) }
+    ensures { IsStored (array_in_map handle.old) key value (handle.new ≡ handle.old) result
+        (array_in_map handle.new) }
 {
     match Box::new(alloc, JudyL::of_one(alloc, key, value)) {
         Ok(array) => {
@@ -114,7 +119,8 @@ pub extern "C" fn sellumaq_judyl_slot<'a>(
 #[unsafe(no_mangle)]
 pub extern "C" fn sellumaq_judyl_del(alloc: Global, handle: &mut Map, key: u64) -> bool
     ensures answer { result ≡ map.contains_key (map_of handle.old) key }
-    ensures deleted { map_of handle.new ≡ array.del (map_of handle.old) key }
+    ensures deleted { array_in_map handle.new
+        ≡ array.with_map (array_in_map handle.old) (array.del (map_of handle.old) key) }
 {
     match handle.array() {
         Some(array) => array.del(key),
@@ -243,8 +249,8 @@ pub extern "C" fn sellumaq_judyl_len(alloc: Global, handle: &mut Map) -> u64
     handle.ask(alloc, |array| array.len())
 }
 
-/// How many keys there are from one word to another, both included; 0 where the first is above the second. (Manual: JLC,
-/// JudyLCount.)
+/// How many keys there are from one word to another, both included; 0 where the first is above the second. (Manual:
+/// JLC, JudyLCount.)
 #[unsafe(no_mangle)]
 pub extern "C" fn sellumaq_judyl_count(alloc: Global, handle: &mut Map, from: u64, to: u64) -> u64
     ensures count { result ≡ counts.count (map_of handle.old) from to }
@@ -267,8 +273,8 @@ pub extern "C" fn sellumaq_judyl_by_count(
     tell(handle.ask(alloc, |array| array.by_count(n)), key)
 }
 
-/// Takes every key out, gives all memory back, and answers how many keys there were. (Manual: JLFA, JudyLFreeArray, which
-/// answers the bytes freed.)
+/// Takes every key out, gives all memory back, and answers how many keys there were. (Manual: JLFA, JudyLFreeArray,
+/// which answers the bytes freed.)
 #[unsafe(no_mangle)]
 pub extern "C" fn sellumaq_judyl_free(alloc: Global, handle: &mut Map) -> u64
     ensures freed { result ≡ map.len (map_of handle.old) }

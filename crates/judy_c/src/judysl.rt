@@ -1,12 +1,14 @@
 //! The calls of C on maps from strings to words.
 //!
-//! C knows a map by its handle, one word (strings.rt); a handle of zeros is the map without keys. Each call answers what the
-//! call of `judy_sl::JudySl` of the same name does for that map. A key is a pointer and a length. A call that may have no answer
-//! tells it through its last parameter, where it answers true or `FOUND`, and leaves that alone else.
+//! C knows a map by its handle, one word (strings.rt); a handle of zeros is the map without keys. Each call answers
+//! what the call of `judy_sl::JudySl` of the same name does for that map. A key is a pointer and a length. A call that
+//! may have no answer tells it through its last parameter, where it answers true or `FOUND`, and leaves that alone
+//! else.
 //!
-//! A scan begins at the string in a buffer of the caller's, of so many bytes as the count says, and answers `FOUND` with the key
-//! there, its length in the count and its value; or `NONE` where there is no such key, `BAD_KEY` where the buffer holds no such
-//! string or the count is above its length, or `TOO_SMALL` where the key doesn't fit: then buffer, count and value stay.
+//! A scan begins at the string in a buffer of the caller's, of so many bytes as the count says, and answers `FOUND`
+//! with the key there, its length in the count and its value; or `NONE` where there is no such key, `BAD_KEY` where the
+//! buffer holds no such string or the count is above its length, or `TOO_SMALL` where the key doesn't fit: then buffer,
+//! count and value stay.
 
 ghost use Rattle.std.specs.Prelude.{◌≡◌, None};
 ghost use Rattle.std.specs.FinMap as map;
@@ -41,8 +43,10 @@ pub extern "C" fn sellumaq_judysl_get(handle: &mut Strings, key: &[u8], value: &
     }
 }
 
-/// Hands out the slot of a key, which is put in with the value 0 where it is absent: what is left there is the key's value.
-/// Answers `FOUND`, or why it is refused: `BAD_KEY`, `FULL` or `NO_MEMORY`, in this order. (Manual: JSLI, JudySLIns.)
+/// Hands out the slot of a key, which is put in with the value 0 where it is absent: what is left there is the key's
+/// value.
+/// Answers `FOUND`, or why it is refused: `BAD_KEY`, `FULL` or `NO_MEMORY`, in this order; the handle is as it was
+/// then. (Manual: JSLI, JudySLIns.)
 #[unsafe(no_mangle)]
 pub extern "C" fn sellumaq_judysl_ins<'a>(
     alloc: Global,
@@ -162,8 +166,8 @@ pub extern "C" fn sellumaq_judysl_len(alloc: Global, handle: &mut Strings) -> u6
     handle.ask(alloc, |array| array.len())
 }
 
-/// Takes every key out, gives all memory back, and answers how many keys there were. (Manual: JSLFA, JudySLFreeArray, which
-/// answers the bytes freed.)
+/// Takes every key out, gives all memory back, and answers how many keys there were. (Manual: JSLFA, JudySLFreeArray,
+/// which answers the bytes freed.)
 #[unsafe(no_mangle)]
 pub extern "C" fn sellumaq_judysl_free(alloc: Global, handle: &mut Strings) -> u64
     ensures freed { result ≡ map.len (array_in handle.old).map }

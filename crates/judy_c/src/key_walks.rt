@@ -1,7 +1,7 @@
 //! The walks of C over strings and byte strings: many keys at a time, written to two buffers of the caller's.
 //!
-//! The bytes of the keys stand one behind the other in the one buffer, and the length and the value of each in the other. A walk ends
-//! where either has no room for the next key.
+//! The bytes of the keys stand one behind the other in the one buffer, and the length and the value of each in the
+//! other. A walk ends where either has no room for the next key.
 
 ghost use Rattle.std.specs.Prelude.{◌≡◌, IsTrue, IsFalse, []};
 ghost use Rattle.judy_model.specs.Keys.{IsStringKey};
@@ -25,8 +25,9 @@ pub struct KeyEntry {
     pub value: u64,
 }
 
-/// The keys of a map from a string on, or from above it, with their values, by ascending key, as many as fit; answers how many these
-/// are. None where the map can't hold the string. The first key is one way down the map, and each later one a step from the key before.
+/// The keys of a map from a string on, or from above it, with their values, by ascending key, as many as fit; answers
+/// how many these are. None where the map can't hold the string. The first key is one way down the map, and each later
+/// one a step from the key before.
 #[unsafe(no_mangle)]
 pub extern "C" fn sellumaq_judysl_walk(
     handle: &mut Strings,
@@ -51,9 +52,9 @@ pub extern "C" fn sellumaq_judysl_walk(
     }
 }
 
-/// The keys of a map with their values, by the lengths of the keys and those of one length by their bytes, behind so many; as many as
-/// fit. Tells how many these are. False, and nothing is written, where there is no memory for a list of all keys, which each call
-/// makes and sorts.
+/// The keys of a map with their values, by the lengths of the keys and those of one length by their bytes, behind so
+/// many; as many as fit. Tells how many these are. False, and nothing is written, where there is no memory for a list
+/// of all keys, which each call makes and sorts.
 #[unsafe(no_mangle)]
 pub extern "C" fn sellumaq_judyhs_walk(
     handle: &mut Bytes,

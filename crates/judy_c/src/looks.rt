@@ -22,8 +22,8 @@ pub struct Found {
 // How many keys are handed to the array at a time.
 const GROUP: usize = 64;
 
-/// Looks up the keys of a list, as many as the other has room for, and tells of each at its place what `sellumaq_judyl_get` answers; answers how
-/// many these are. The ways of up to 16 keys go down the map side by side.
+/// Looks up the keys of a list, as many as the other has room for, and tells of each at its place what
+/// `sellumaq_judyl_get` answers; answers how many these are. The ways of up to 16 keys go down the map side by side.
 #[unsafe(no_mangle)]
 pub extern "C" fn sellumaq_judyl_get_many(
     alloc: Global,
@@ -40,8 +40,8 @@ pub extern "C" fn sellumaq_judyl_get_many(
     }
 }
 
-/// Looks up the keys of a list, as many as the other has room for, and tells of each at its place whether it is there, 1 or 0; answers how many
-/// these are. The ways of up to 16 keys go down the set side by side.
+/// Looks up the keys of a list, as many as the other has room for, and tells of each at its place whether it is there,
+/// 1 or 0; answers how many these are. The ways of up to 16 keys go down the set side by side.
 #[unsafe(no_mangle)]
 pub extern "C" fn sellumaq_judy1_test_many(
     alloc: Global,

@@ -1,6 +1,7 @@
 //! The nearest keys and the n-th with the slots of their values.
 //!
-//! Each of these calls answers as the call of judyl.rt for the key alone does, and hands out the slot of that key's value too.
+//! Each of these calls answers as the call of judyl.rt for the key alone does, and hands out the slot of that key's
+//! value too.
 
 ghost use Rattle.std.specs.Prelude.{◌≡◌, unwrap_or, option_and_then};
 ghost use Rattle.std.specs.Borrow.{sem};

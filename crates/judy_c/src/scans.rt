@@ -15,7 +15,8 @@ use crate::strings::Strings;
 use judy_model::keys::LONGEST_KEY;
 use judy_sl::{JudySl, Look, Side, is_key};
 
-// What a scan looks for: the least key from a string on, the least above it, the greatest up to it, the greatest below it.
+// What a scan looks for: the least key from a string on, the least above it, the greatest up to it, the greatest below
+// it.
 #[derive(Clone, Copy)]
 pub(crate) enum Scan {
     First,
@@ -25,7 +26,8 @@ pub(crate) enum Scan {
 }
 
 impl Scan {
-    // Scans the array of a handle from the string in the caller's buffer, and tells the key found there, its length and its value.
+    // Scans the array of a handle from the string in the caller's buffer, and tells the key found there, its length and
+    // its value.
     pub(crate) fn tell(
         self,
         handle: &mut Strings,
@@ -54,7 +56,8 @@ impl Scan {
         }
     }
 
-    // The same where the buffer begins with such a string, and any key fits it: the key is written where it is to stand.
+    // The same where the buffer begins with such a string, and any key fits it: the key is written where it is to
+    // stand.
     #[inline(always)]
     fn tell_in(self, array: &JudySl, buffer: &mut [u8], count: &mut usize, value: &mut u64) -> u32
         requires room { LONGEST_KEY ≤ length buffer.old }

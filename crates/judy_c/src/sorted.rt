@@ -3,7 +3,7 @@
 ghost use Rattle.std.specs.Prelude.{◌≡◌, IfOk, IfErr};
 ghost use Rattle.std.specs.FinMap as finmap;
 ghost use Rattle.judy_word.specs.Sorted.{IsFault};
-ghost use Rattle.judy_c.specs.Maps.{map_of, set_of};
+ghost use Rattle.judy_c.specs.Maps.{array_in_map, array_in_set, map_of, set_of};
 ghost use Rattle.judy_c.specs.Sorted.{IsRefused, IsReplaced, entries_of, keys_in, most_keys};
 
 use crate::answers::{BAD_KEY, FULL, NO_MEMORY};
@@ -16,7 +16,7 @@ use judy_word::{Judy1, JudyL, Keyed, SortedError};
 use std::alloc::Global;
 
 // How many keys an array of C may hold: more than any list has.
-const MOST_KEYS: u64 = u64::MAX;
+pub(crate) const MOST_KEYS: u64 = u64::MAX;
 
 // The array is made.
 pub(crate) const MADE: u32 = 1;
@@ -35,9 +35,9 @@ impl Keyed for Pair {
     }
 }
 
-/// Makes the set one of keys that strictly ascend, in place of what it held, whose memory is given back: 1. Else the set is as it was:
-/// 4, where a key isn't above the one before it, and the place of the first such key is told, counted from 0; 2, where the keys ascend
-/// and there is no memory for them.
+/// Makes the set one of keys that strictly ascend, in place of what it held, whose memory is given back: 1. Else the
+/// set is as it was: 4, where a key isn't above the one before it, and the place of the first such key is told, counted
+/// from 0; 2, where the keys ascend and there is no memory for them.
 #[unsafe(no_mangle)]
 pub extern "C" fn sellumaq_judy1_from_sorted(
     alloc: Global,
@@ -46,7 +46,7 @@ pub extern "C" fn sellumaq_judy1_from_sorted(
     place: &mut usize,
 ) -> u32
     ensures { IsReplaced keys.now (finmap.keys (set_of handle.new) ≡ keys.now)
-        (handle.new ≡ handle.old) place.old result place.new }
+        (handle.new ≡ handle.old) (array_in_set handle.new).limit place.old result place.new }
 {
     match set_of_sorted(alloc, keys) {
         Ok(array) => {
@@ -68,7 +68,7 @@ pub extern "C" fn sellumaq_judyl_from_sorted(
 ) -> u32
     ensures { IsReplaced (keys_in pairs.now)
         (finmap.entries (map_of handle.new) ≡ entries_of pairs.now)
-        (handle.new ≡ handle.old) place.old result place.new }
+        (handle.new ≡ handle.old) (array_in_map handle.new).limit place.old result place.new }
 {
     match map_of_sorted(alloc, pairs) {
         Ok(array) => {
@@ -97,6 +97,7 @@ fn refused(fault: SortedError, place: &mut usize) -> u32
 // The set of keys that ascend, in a box.
 fn set_of_sorted(alloc: Global, keys: &[u64]) -> Result<BoxParts<Judy1, Global>, SortedError>
     ensures made { IfOk result (λ boxed. finmap.keys boxed.value.map ≡ keys.now) }
+    ensures limit { IfOk result (λ boxed. boxed.value.limit ≡ most_keys) }
     ensures refused { IfErr result (IsFault most_keys keys.now) }
 {
     let array = Judy1::from_sorted(alloc, MOST_KEYS, keys)?;
@@ -109,6 +110,7 @@ fn set_of_sorted(alloc: Global, keys: &[u64]) -> Result<BoxParts<Judy1, Global>,
 // The map of pairs whose keys ascend, in a box.
 fn map_of_sorted(alloc: Global, pairs: &[Pair]) -> Result<BoxParts<JudyL, Global>, SortedError>
     ensures made { IfOk result (λ boxed. finmap.entries boxed.value.map ≡ entries_of pairs.now) }
+    ensures limit { IfOk result (λ boxed. boxed.value.limit ≡ most_keys) }
     ensures refused { IfErr result (IsFault most_keys (keys_in pairs.now)) }
 {
     let array = JudyL::from_items(alloc, MOST_KEYS, pairs)?;

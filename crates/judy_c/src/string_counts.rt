@@ -8,15 +8,15 @@ ghost use Rattle.judy_c.specs.Answers.{IsSaid};
 ghost use Rattle.judy_c.specs.KeyScans.{told_says};
 ghost use Rattle.judy_c.specs.StringMaps.{array_in};
 
-use crate::arrays::Array;
+use crate::arrays::HeldArray;
 use crate::handles::Handle;
 use crate::scans::tell_entry;
 use crate::strings::Strings;
 use judy_sl::{JudySl, KeyBuf, is_key};
 use std::alloc::Global;
 
-/// How many keys there are from one string to another, both included; 0 where the first is above the second, and where the map
-/// can't hold one of the two.
+/// How many keys there are from one string to another, both included; 0 where the first is above the second, and where
+/// the map can't hold one of the two.
 #[unsafe(no_mangle)]
 pub extern "C" fn sellumaq_judysl_count(
     alloc: Global,
@@ -35,8 +35,9 @@ pub extern "C" fn sellumaq_judysl_count(
     handle.ask(alloc, |array| array.count(from, to))
 }
 
-/// The n-th key in ascending order, counted from 1, written to a buffer; with its length and its value. `FOUND`; or `NONE` for 0 and
-/// above the number of keys, or `TOO_SMALL` where the key doesn't fit: then buffer, count and value stay.
+/// The n-th key in ascending order, counted from 1, written to a buffer; with its length and its value. `FOUND`; or
+/// `NONE` for 0 and above the number of keys, or `TOO_SMALL` where the key doesn't fit: then buffer, count and value
+/// stay.
 #[unsafe(no_mangle)]
 pub extern "C" fn sellumaq_judysl_by_count(
     alloc: Global,

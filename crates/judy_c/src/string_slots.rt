@@ -1,6 +1,7 @@
 //! The nearest strings with the slots of their values.
 //!
-//! Each of these calls answers as the scan of judysl.rt of the same name does, and hands out the slot of the key found in place of its value.
+//! Each of these calls answers as the scan of judysl.rt of the same name does, and hands out the slot of the key found
+//! in place of its value.
 
 ghost use Rattle.std.specs.Prelude.{◌≡◌, ◌==◌, take};
 ghost use Rattle.std.specs.Borrow.{sem};

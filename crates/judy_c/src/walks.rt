@@ -1,7 +1,7 @@
 //! The walks of C: many keys at a time, written to a buffer of the caller's.
 //!
-//! A walk keeps nothing between its calls: the next one begins above the last key that was told. So it may begin anywhere, and the
-//! array may change between two calls; what comes then are the keys that are there at the call.
+//! A walk keeps nothing between its calls: the next one begins above the last key that was told. So it may begin
+//! anywhere, and the array may change between two calls; what comes then are the keys that are there at the call.
 
 ghost use Rattle.std.specs.Prelude.{◌≡◌};
 ghost use Rattle.judy_c.specs.Maps.{map_of, set_of};
@@ -30,8 +30,9 @@ impl FromPair for Pair {
     }
 }
 
-/// The keys of a set from a word on, in ascending order, as many as the buffer has room for; answers how many these are. Fewer than
-/// there is room for are the last ones. It is one way down the set, and then a node at a time is copied.
+/// The keys of a set from a word on, in ascending order, as many as the buffer has room for; answers how many these
+/// are. Fewer than there is room for are the last ones. It is one way down the set, and then a node at a time is
+/// copied.
 #[unsafe(no_mangle)]
 pub extern "C" fn sellumaq_judy1_walk(
     alloc: Global,
@@ -48,8 +49,9 @@ pub extern "C" fn sellumaq_judy1_walk(
     }
 }
 
-/// The keys of a map from a word on with their values, by ascending key, as many as the buffer has room for; answers how many these
-/// are. Fewer than there is room for are the last ones. It is one way down the map, and then a node at a time is copied.
+/// The keys of a map from a word on with their values, by ascending key, as many as the buffer has room for; answers
+/// how many these are. Fewer than there is room for are the last ones. It is one way down the map, and then a node at a
+/// time is copied.
 #[unsafe(no_mangle)]
 pub extern "C" fn sellumaq_judyl_walk(
     alloc: Global,

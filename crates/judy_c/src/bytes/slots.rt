@@ -1,5 +1,5 @@
 // The slots of a bytes handle.
-ghost use Rattle.std.specs.Prelude.{◌≡◌, ◌↔◌, IsTrue};
+ghost use Rattle.std.specs.Prelude.{◌≡◌};
 ghost use Rattle.std.specs.Borrow.{sem};
 ghost use Rattle.std.specs.FinMap as map;
 ghost use Rattle.std.specs.Option.{option_copied_mut};
@@ -8,17 +8,9 @@ ghost use Rattle.judy_c.specs.ByteMaps.{array_in};
 ghost use Rattle.judy_c.specs.ByteSlots.{LendsSlotOf, LendsInsOf};
 
 use super::Bytes;
-use crate::answers::Refusal;
-use crate::handles::{Handle, ins_in, slot_in};
-use judy_hs::{ByteHash, Eights, HsError};
+use crate::answers::InsertRefusal;
+use crate::handles::{Handle, slot_in};
 use std::alloc::Global;
-
-// Whether the bytes are a key.
-fn is_key(bytes: &[u8]) -> bool
-    ensures { IsTrue result ↔ IsShort bytes.now }
-{
-    bytes.len() <= Eights::LONGEST
-}
 
 impl Bytes {
     // The slot of a key, and `None` where it is absent.
@@ -29,11 +21,12 @@ impl Bytes {
         slot_in!(self, slot(key))
     }
 
-    // The slot of a key, which is put in with the value 0 where it is absent. For bytes that are no key no array is made.
-    pub(crate) fn ins(&mut self, alloc: Global, key: &[u8]) -> Result<&mut u64, Refusal>
+    // The slot of a key, which is put in with the value 0 where it is absent. Where that is refused the handle is as it
+    // was.
+    pub(crate) fn ins(&mut self, alloc: Global, key: &[u8]) -> Result<&mut u64, InsertRefusal>
         ensures* writes_back { sem 𝓛 (LendsInsOf self.entry key.now result) }
         ensures made { IsMade IsShort (array_in self.old) key.now result }
     {
-        ins_in!(self, alloc, key; HsError, TooLong)
+        self.held().put_in(alloc, key)
     }
 }

@@ -6,11 +6,11 @@ ghost use Rattle.std.specs.Option.{option_copied_mut};
 ghost use Rattle.judy_c.specs.HeldLends.{lends_if_held, lends_made};
 
 use super::Held;
-use crate::arrays::Array;
+use crate::arrays::HeldArray;
 use crate::box_parts::BoxParts;
 use std::alloc::{AllocError, Global};
 
-impl<T: Array> Held<T> {
+impl<T: HeldArray> Held<T> {
     // The array, and `None` where there is none.
     pub(crate) fn array(&mut self) -> Option<&mut T>
         ensures* writes_back { sem 𝓛 (lends_if_held T.row self.entry result) }

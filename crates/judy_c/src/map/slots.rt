@@ -22,7 +22,8 @@ impl Map {
         slot_in!(self, slot(key))
     }
 
-    // The slot of a key, which is put in with the value 0 where it is absent, and `None` where there is no memory for that.
+    // The slot of a key, which is put in with the value 0 where it is absent, and `None` where there is no memory for
+    // that.
     pub(crate) fn ins(&mut self, alloc: Global, key: u64) -> Option<&mut u64>
         ensures* writes_back { sem 𝓛 (LendsSlotOf self.entry key result) }
         ensures value { IsMade (map_of self.old) key result }

@@ -86,8 +86,8 @@ impl Strings {
     }
 }
 
-// The slot of the key that a scan finds from the string with which a buffer begins, where any key fits it: the key is written where it is to
-// stand.
+// The slot of the key that a scan finds from the string with which a buffer begins, where any key fits it: the key is
+// written where it is to stand.
 fn slot_in<'a>(
     array: &'a mut JudySl,
     scan: Scan,

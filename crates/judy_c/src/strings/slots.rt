@@ -9,9 +9,8 @@ ghost use Rattle.judy_c.specs.StringMaps.{array_in};
 ghost use Rattle.judy_c.specs.StringSlots.{LendsSlotOf, LendsInsOf};
 
 use super::Strings;
-use crate::answers::Refusal;
-use crate::handles::{Handle, ins_in, slot_in};
-use judy_sl::{SlError, is_key};
+use crate::answers::InsertRefusal;
+use crate::handles::{Handle, slot_in};
 use std::alloc::Global;
 
 impl Strings {
@@ -23,11 +22,12 @@ impl Strings {
         slot_in!(self, slot(key))
     }
 
-    // The slot of a key, which is put in with the value 0 where it is absent. For bytes that are no key no array is made.
-    pub(crate) fn ins(&mut self, alloc: Global, key: &[u8]) -> Result<&mut u64, Refusal>
+    // The slot of a key, which is put in with the value 0 where it is absent. Where that is refused the handle is as it
+    // was.
+    pub(crate) fn ins(&mut self, alloc: Global, key: &[u8]) -> Result<&mut u64, InsertRefusal>
         ensures* writes_back { sem 𝓛 (LendsInsOf self.entry key.now result) }
         ensures made { IsMade IsStringKey (array_in self.old) key.now result }
     {
-        ins_in!(self, alloc, key; SlError, BadKey)
+        self.held().put_in(alloc, key)
     }
 }

@@ -1,18 +1,18 @@
 -- `put_first`: the key is absent, since a null handle stands for the map without keys, and the map that was made has it alone.
-use Rattle.std.proofs.Common.{ℕ, Some, refl, ap, ◌∙◌}
-use Rattle.std.specs.FinMap.{FinMap}
+use Rattle.std.proofs.Common.{Some, refl, ap, ◌∙◌}
 use Rattle.judy_model.specs.Keys.{word_order}
-use Rattle.judy_model.specs.Arrays.{ArrayOf, write}
+use Rattle.judy_model.specs.Arrays.{ArrayOf}
 use Rattle.judy_word.specs.WordArrays.{WordArray}
+use Rattle.judy_word.specs.Writes.{with_value}
 use Rattle.judy_c.proofs.WordHandles.{null_has_none, changed_first}
 use Rattle.judy_c.proofs.judyl.put_first.Goals as goal
 
 pub returns-in-Ok : goal.returns-in-Ok
 returns-in-Ok c = (
   null_has_none _ c.args.key c.requires,
-  changed_first (λ (map : FinMap word_order ℕ). write map c.args.key c.args.value) _ _ _ c.requires
+  changed_first (λ (array : ArrayOf word_order). with_value array c.args.key c.args.value) _ _ _ c.requires
       (c.fill.ensures ∙ ap (λ (array : WordArray). Some array) (c.of.ensures ∙ c.in-Ok.ensures.ok))
-      (ap (λ (array : ArrayOf word_order). array.map) c.of_one.ensures.put),
+      c.of_one.ensures.put,
 )
 
 pub returns : goal.returns

@@ -5,4 +5,5 @@ use Rattle.judy_c.proofs.WordHandles.{nothing_held}
 use Rattle.judy_c.proofs.judyl.sellumaq_judyl_get.Goals as goal
 
 pub returns-in-None-clause-told : goal.returns-in-None-clause-told
-returns-in-None-clause-told c = subst (λ found. IsTold found c.tell-in-None.result c.args.value.now c.tell-in-None.new.told) (sym (nothing_held _ c.args.key c.in-None.ensures.null)) c.tell-in-None.ensures
+returns-in-None-clause-told c =
+    subst (λ found. IsTold found c.tell-in-None.result c.args.value.now c.tell-in-None.new.told) (sym (nothing_held _ c.args.key c.in-None.ensures.null)) c.tell-in-None.ensures

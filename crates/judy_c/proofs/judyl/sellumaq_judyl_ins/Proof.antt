@@ -49,9 +49,15 @@ stayed = (stay_dropped (plain (λ _. Heap)) yes, (stay_dropped Handle no, (stay_
 pub sellumaq_judyl_ins_spec : {M : Type 1} → statement M
 sellumaq_judyl_ins_spec 𝓤 𝓛 𝓜 𝓡 wired =
     let c = f.clauses 𝓛 𝓜.mem 𝓡.returns in let W = walk_of 𝓛 f.ended stayed c in let framing = framed 𝓤 𝓛.H 𝓜 (tables 𝓤 𝓛.H 𝓜 𝓡 𝓡.env) in
-    proved 𝓛 f.ended stayed c 𝓜 𝓡 (Goes-dropped 𝓛 2 (plain (λ _. Heap)) yes (λ κs x w. refl), (Goes-spent_ref 𝓛 2 (0 ∷ []) tt (plain (λ _. R)), (Goes-dropped 𝓛 2 (plain (λ _. u64)) yes (λ κs x w. refl), (Goes-gave_ref 𝓛 2 1 tt Pointed, tt))))
+    proved 𝓛 f.ended stayed c 𝓜 𝓡 (
+      Goes-dropped 𝓛 2 (plain (λ _. Heap)) yes (λ κs x w. refl),
+      (Goes-spent_ref 𝓛 2 (0 ∷ []) tt (plain (λ _. R)), (Goes-dropped 𝓛 2 (plain (λ _. u64)) yes (λ κs x w. refl), (Goes-gave_ref 𝓛 2 1 tt Pointed, tt))),
+    )
     f.Key.name code.function (code.unfolded 𝓤 𝓛.H 𝓜 𝓡 wired)
-    (λ κs. ((λ _. heap_val ∷ []), (mut_vals, (uint_vals w64, (mut_vals, tt))))) (λ κs. (heap_Tells, (mut_Tells (named 0) κs.0 R, (uint_Tells w64, (mut_Tells (named 1) κs.1.0 (Lent κs.0), tt))))) (λ κs qs bounds a _ are.
+    (λ κs. ((λ _. heap_val ∷ []), (mut_vals, (uint_vals w64, (mut_vals, tt))))) (λ κs. (
+      heap_Tells,
+      (mut_Tells (named 0) κs.0 R, (uint_Tells w64, (mut_Tells (named 1) κs.1.0 (Lent κs.0), tt))),
+    )) (λ κs qs bounds a _ are.
     let κ = κs.0 in let κ' = κs.1.0 in let q = qs.0 in let q' = qs.1.0 in let alloc = a.0 in let handle = a.1.0 in let key = a.1.1.0 in let slot = a.1.1.1.0 in
     let y : W.Ghost = ((κs, qs, bounds, a, (heap_val ∷ [], (mut_vals handle, (uint_vals w64 key, (mut_vals slot, tt))))), tt) in
     let token = ‵ (flft κ q) in
@@ -73,11 +79,13 @@ sellumaq_judyl_ins_spec 𝓤 𝓛 𝓜 𝓡 wired =
     move ! (3 ∷ []) $ peeks ! (Found κ) (Is (Found κ)) (shows 𝓛 (Found κ)) found (v ∷ []) (λ typed. lands_as ! refl refl (found_typed 𝓛 κ found v typed) $
     sets ! (addr ! (through ! refl (stop !))) refl (tt, tt) $
     move ! (2 ∷ 4 ∷ 3 ∷ []) $ group ! 3 $ move ! (1 ∷ 3 ∷ 0 ∷ []) $
-    hands_out 𝓛 𝓜.mem 𝓡.returns κ κ' q q' bounds.0 found v slot ! framing (teller_met 𝓤 𝓛 𝓜 𝓡 (code.calls-judy_c::told::hand_out 𝓡.env wired)) (and_then ! (get ! refl) (and_then ! (get ! refl) (no_more !))) (λ told last is_told.
+    hands_out 𝓛 𝓜.mem 𝓡.returns κ κ' q q' bounds.0 found v slot ! framing (teller_met 𝓤 𝓛 𝓜 𝓡 (code.calls-judy_c::told::hand_out 𝓡.env wired))
+    (and_then ! (get ! refl) (and_then ! (get ! refl) (no_more !))) (λ told last is_told.
     let is = handed found told slot.now last is_told in lands_as ! refl refl (tt, tt) $ returns ! (look_at ! 0 refl) $ free_all ! refl $
     -- [what is left of the pointer; the tokens; what the handle becomes]
     rewrite ! 2 (λ (o : Option (MutBor ℕ)). ‵ (LendsSlotOf handle key o)) (sym is) refl $
     suffices ! _ (ends_at 𝓛 f.ended stayed c y (vbool told) told (tt, (tt, (tt, (last, tt)))) (tt, (tt, (tt, (tt, tt))))) $
-    nothing ! $ move ! (1 ∷ 0 ∷ []) $ fjoin ! $ nothing ! $ fjoin ! $ nothing ! $ fjoin ! $ nothing ! $ fjoin ! $ feq_i ! (List Val) (vbool told ∷ []) (vbool told ∷ []) refl $ move ! (2 ∷ 1 ∷ 0 ∷ []) $
+    nothing ! $ move ! (1 ∷ 0 ∷ []) $ fjoin ! $ nothing ! $ fjoin ! $ nothing ! $ fjoin ! $ nothing ! $ fjoin ! $ feq_i ! (List Val) (vbool told ∷ [])
+    (vbool told ∷ []) refl $ move ! (2 ∷ 1 ∷ 0 ∷ []) $
     group ! 3 $ frame ! $ frame ! $ says ! (subst (λ (o : Option (MutBor ℕ)). IsTold o told slot.now last) (sym is) is_told) $
     use0 𝓛 (raw (fact 𝓤 (IsMade (map_of handle.now) key (lent_where told last)))) (fact_i 𝓤 _ (emp 𝓤) (subst (IsMade (map_of handle.now) key) (sym is) value)) $ done !))))))))

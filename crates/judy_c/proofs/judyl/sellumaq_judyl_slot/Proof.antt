@@ -72,7 +72,8 @@ sellumaq_judyl_slot_spec 𝓤 𝓛 𝓜 𝓡 wired =
     move ! (3 ∷ []) $ peeks ! (Found κ) (Is (Found κ)) (shows 𝓛 (Found κ)) found (v ∷ []) (λ typed. lands_as ! refl refl (found_typed 𝓛 κ found v typed) $
     sets ! (addr ! (through ! refl (stop !))) refl (tt, tt) $
     move ! (2 ∷ 4 ∷ 3 ∷ []) $ group ! 3 $ move ! (1 ∷ 3 ∷ 0 ∷ []) $
-    hands_out 𝓛 𝓜.mem 𝓡.returns κ κ' q q' bounds.0 found v slot ! framing (teller_met 𝓤 𝓛 𝓜 𝓡 (code.calls-judy_c::told::hand_out 𝓡.env wired)) (and_then ! (get ! refl) (and_then ! (get ! refl) (no_more !))) (λ told last is_told.
+    hands_out 𝓛 𝓜.mem 𝓡.returns κ κ' q q' bounds.0 found v slot ! framing (teller_met 𝓤 𝓛 𝓜 𝓡 (code.calls-judy_c::told::hand_out 𝓡.env wired))
+    (and_then ! (get ! refl) (and_then ! (get ! refl) (no_more !))) (λ told last is_told.
     let is = handed found told slot.now last is_told in lands_as ! refl refl (tt, tt) $ returns ! (look_at ! 0 refl) $ free_all ! refl $
     -- [what is left of the pointer; the tokens; what the handle becomes]
     rewrite ! 2 (λ (o : Option (MutBor ℕ)). ‵ (LendsSlotOf handle key o)) (sym is) refl $

@@ -1,13 +1,20 @@
-use Rattle.std.proofs.Common.{refl, ap, ◌∙◌, Option}
+use Rattle.std.proofs.Common.{refl, ap, ◌∙◌, Option, arith}
 use Rattle.std.specs.FinMap as finmap
 use Rattle.judy_word.specs.WordArrays.{WordArray}
 use Rattle.judy_c.specs.Maps.{array_of}
+use Rattle.std.proofs.lemmas.List.{length-map}
 use Rattle.judy_c.specs.Sorted.{keys_in}
+use Rattle.judy_c.specs.declared.walks.Pair.{Pair}
 use Rattle.judy_c.proofs.SortedAnswers.{fault_told}
 use Rattle.judy_c.proofs.sorted.sellumaq_judyl_from_sorted.Goals as goal
 
 pub returns-in-Ok : goal.returns-in-Ok
-returns-in-Ok c = (ap (λ (o : Option WordArray). finmap.entries (array_of o).map) c.fill.ensures ∙ c.in-Ok.ensures.made, refl)
+returns-in-Ok c = (
+  ap (λ (o : Option WordArray). finmap.entries (array_of o).map) c.fill.ensures ∙ c.in-Ok.ensures.made,
+  ap (λ (o : Option WordArray). (array_of o).limit) c.fill.ensures ∙ c.in-Ok.ensures.limit,
+  refl,
+)
 
 pub returns-in-Err : goal.returns-in-Err
-returns-in-Err c = fault_told (keys_in c.args.pairs.now) _ _ c.in-Err.fault _ _ _ c.in-Err.ensures.refused refl c.refused.ensures
+returns-in-Err c =
+    fault_told (keys_in c.args.pairs.now) _ _ _ c.in-Err.fault _ _ _ (omega (arith, length-map c.args.pairs.now (λ (pair : Pair). pair.key))) c.in-Err.ensures.refused refl c.refused.ensures

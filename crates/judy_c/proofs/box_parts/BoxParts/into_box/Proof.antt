@@ -59,8 +59,10 @@ into_box_spec 𝓤 𝓛 𝓜 𝓡 wired X Z LX LZ g d dd allocator glue =
     -- [the box at its pointer; the allocator; true; the tokens; that the types live]: what `from_raw` asks for
     move ! (4 ∷ []) $ split3 ! $ move ! (2 ∷ []) $ drop ! $ move ! (1 ∷ 2 ∷ []) $ join ! $ move ! (1 ∷ 0 ∷ []) $ join ! $
     move ! (2 ∷ []) $ feq_i ! (List Val) (vptr b o ∷ []) (vptr b o ∷ []) refl $ fjoin ! $ move ! (2 ∷ 0 ∷ []) $ fjoin ! $ move ! (2 ∷ 0 ∷ []) $ join ! $ join ! $ use1 𝓛 (raw (k.pre y)) (id⊢ 𝓤 _) $
-    calls_at_last ! (fm 𝓛 𝓜 𝓡) k (met 𝓤 𝓛 𝓜 𝓡 (code.calls-std_alloc::boxed::Box::from_raw 𝓡.env wired) X Z LX LZ g d dd allocator glue) y (and_then ! (get ! refl) (and_then ! (get ! refl) (no_more !))) (λ u.
-    use1 𝓛 (later (some (λ (r : box.D E). (tokens ⊛ ‵ ((box.B E).own_val r (u ∷ []))) ⊛ some (λ (la : Lasts (callee.ended X Z g d dd) κs y.0.3). ‵ (lasts (callee.ended X Z g d dd) κs y.0.3 la) ⊛ (raw (fact 𝓤 (r.value ≡ l.value)) ⊛ raw (fact 𝓤 (r.alloc ≡ l.alloc))))))) (id⊢ 𝓤 (k.post y u)) $
+    calls_at_last ! (fm 𝓛 𝓜 𝓡) k (met 𝓤 𝓛 𝓜 𝓡 (code.calls-std_alloc::boxed::Box::from_raw 𝓡.env wired) X Z LX LZ g d dd allocator glue) y
+    (and_then ! (get ! refl) (and_then ! (get ! refl) (no_more !))) (λ u.
+    use1 𝓛 (later (some (λ (r : box.D E). (tokens ⊛ ‵ ((box.B E).own_val r (u ∷ []))) ⊛ some (λ (la : Lasts (callee.ended X Z g d dd) κs y.0.3). ‵
+    (lasts (callee.ended X Z g d dd) κs y.0.3 la) ⊛ (raw (fact 𝓤 (r.value ≡ l.value)) ⊛ raw (fact 𝓤 (r.alloc ≡ l.alloc))))))) (id⊢ 𝓤 (k.post y u)) $
     await ! tt $ pick ! (λ r. split ! $ move ! (1 ∷ []) $ pick ! (λ _. split3 ! $ drop ! $ move ! (2 ∷ []) $ split ! $ move ! (1 ∷ []) $
     -- [the box; the tokens; the two facts]: the result is a box's words
     box_out E ! r (u ∷ []) (λ b' o' h' e' us fits'. box_in E ! r b' o' r.value e' refl $ rewrite ! 0 (λ (vs : List Val). ‵ ((box.B E).own_val r vs)) (sym us) refl $

@@ -1,22 +1,23 @@
--- `Bytes::ins`: where there is no memory for the array itself, the handle held none, so its bytes are a key and absent, and
--- there is room for it.
-use Rattle.std.proofs.Common.{◌≡◌, ◌∙◌, refl, sym, ap, subst, None, true≢false}
-use Rattle.std.specs.Prelude.{OnErr, is_none}
-use Rattle.judy_c.specs.KeyInserts.{IsShort}
+-- `Bytes::ins`: what is said of what the handle holds is said of the handle.
+use Rattle.std.proofs.Common.{refl, ap, subst, ◌∙◌}
+use Rattle.judy_model.specs.Keys.{byte_order}
+use Rattle.judy_model.specs.Arrays.{ArrayOf}
+use Rattle.judy_c.specs.Owned.{judyhs_row}
+use Rattle.judy_sl.specs.Lends.{with_value}
+use Rattle.judy_c.specs.AsHeld.{as_bytes}
+use Rattle.judy_c.specs.KeyInserts.{IsMade, IsShort}
 use Rattle.judy_c.specs.StringMaps.{array_of}
-use Rattle.judy_c.specs.ByteMaps.{array_in}
-use Rattle.judy_c.proofs.StringHandles.{nothing_held, room_in_null}
+use Rattle.judy_c.specs.declared.held.Held.{Held}
+use Rattle.judy_c.proofs.HeldFacts.{on_err}
 use Rattle.judy_c.proofs.bytes.Bytes.ins.Goals as goal
-use Rattle.judy_c.proofs.bytes.Bytes.ins.Goals.{else-is_null-via-then-is_null+else-not-is_key, else-is_null-via-else-is_null}
 
-pub returns-in-Err : goal.returns-in-Err
-returns-in-Err c =
-    let null : c.args.self.now.array ≡ None = ap (λ m. m.array) (sym c.is_null.ensures.1) ∙ c.in-Err.ensures.null in
-    let same : c.array_or_new.follows.lender-at-none ≡ c.is_null.new.self = subst (λ r. OnErr r (c.array_or_new.follows.lender-at-none ≡ c.is_null.new.self)) c.in-Err.is c.array_or_new.follows.holds-at-none in
-    let key : IsShort c.args.key.now = elim c.else-is_null.branch [
-      | else-is_null-via-then-is_null+else-not-is_key w ↦ w.is_key.ensures.0 w.if-not-is_key.false
-      | else-is_null-via-else-is_null w ↦ absurd (true≢false (sym (c.is_null.ensures.0 ∙ ap is_none null) ∙ w.if-is_null.false))
-    ] in (
-      (refl, (λ w is. absurd (true≢false (sym is))), ap array_in (same ∙ c.is_null.ensures.1)),
-      record { writes_back = tt; made = (key, nothing_held _ c.args.key.now (ap array_of null), room_in_null _ c.args.key.now (ap array_of null)) },
+pub returns : goal.returns
+returns c =
+    let key = c.args.key.now in let held = c.held.ensures.value in let seen = ap (λ (h : Held judyhs_row.Denot). array_of h.array) held in (
+      (
+        refl,
+        (λ w is. c.put_in.follows.holds w is ∙ ap (λ (a : ArrayOf byte_order). with_value a key w) seen),
+        on_err c.put_in.result (λ same. ap as_bytes (same ∙ held)) c.put_in.follows.holds-at-none,
+      ),
+      record { writes_back = tt; made = subst (λ (a : ArrayOf byte_order). IsMade IsShort a key c.put_in.result) seen c.put_in.ensures.made },
     )

@@ -18,6 +18,6 @@ returns g c =
         value = held;
         again = subst (λ (x : g.row.Self.Denot). IfSome lent (λ array. h.holding (with_array (h.held_by handle) array.now) ≡ x)) again
             (held_again (λ (o : Option g.row.Self-Array.Denot). h.holding (record (h.held_by handle) { array = o })) (h.held_by handle).array lent held);
-        null = none_held (λ (o : Option g.row.Self-Array.Denot). unwrap_or o g.Self.Array.Array.without_keys) (h.held_by handle).array lent held;
+        null = none_held (λ (o : Option g.row.Self-Array.Denot). unwrap_or o g.Self.Array.HeldArray.without_keys) (h.held_by handle).array lent held;
       },
     )

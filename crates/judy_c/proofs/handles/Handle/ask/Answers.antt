@@ -6,4 +6,5 @@ use Rattle.judy_c.proofs.handles.Handle.ask.Goals as goal
 
 pub returns-clause-answer : goal.returns-clause-answer
 returns-clause-answer g c =
-    subst (λ (held : Held g.row.Self-Array.Denot). FnOnceReturnsAt g.F.FnOnce c.args.question (unwrap_or held.array g.Self.Array.Array.without_keys) c.ask.result) c.held.ensures.value c.ask.ensures.answer
+    subst (λ (held : Held g.row.Self-Array.Denot). FnOnceReturnsAt g.F.FnOnce c.args.question (unwrap_or held.array g.Self.Array.HeldArray.without_keys) c.ask.result)
+    c.held.ensures.value c.ask.ensures.answer

@@ -43,12 +43,14 @@ fill_spec 𝓤 𝓛 𝓜 𝓡 wired X L =
     let κs = z.0.0 in let qs = z.0.1 in let κ = κs.0 in let q = qs.0 in let s = z.0.3.0 in let l = z.0.3.1.0 in let d : Held X.Denot = s.now in let rb = s.ref_ptr.0 in let ro = s.ref_ptr.1 in
     let v : box.D B = record { ptr = l.at; alloc = l.alloc; value = l.value } in
     let Post : Val → SProp 𝓤 = W.post z in let Run : List Val → SProp 𝓤 = λ ws. WpFn 𝓤 H 𝓣.C 𝓣.Λ fn ws Post in
-    qed 𝓛 (((‵ (flft κ q) ⊛ ‵ (flft κs.1.0 qs.1.0) ⊛ ‵ ftrue) ⊛ ‵ (owns (types_at (f.ended X).signature.params κs) z.0.3 z.0.4)) ∷ raw (fact 𝓤 (κs.1.0 ⊑ X.lives)) ∷ raw (fact 𝓤 (d.array ≡ None)) ∷ []) ∵
+    qed 𝓛 (((‵ (flft κ q) ⊛ ‵ (flft κs.1.0 qs.1.0) ⊛ ‵ ftrue) ⊛ ‵ (owns (types_at (f.ended X).signature.params κs) z.0.3 z.0.4)) ∷ raw (fact 𝓤 (κs.1.0 ⊑ X.lives)) ∷ raw
+    (fact 𝓤 (d.array ≡ None)) ∷ []) ∵
     split ! $ move ! (3 ∷ []) $ heard ! (d.array ≡ None) (λ empty. move ! (1 ∷ []) $ fsplit3 ! $
     -- [the `&mut`; the pieces; true; the tokens]
     fsplit3 ! $ feq_l ! (λ us. move ! (2 ∷ []) $ box_out B ! v z.0.4.1.0 (λ b o h e ws fits. fjoin ! $ let w = box.word B h b o in
     move ! (5 ∷ []) $ split3 ! $ keep ! (5 ∷ 6 ∷ 0 ∷ 1 ∷ 3 ∷ []) $
-    suffices ! (Run (vptr rb ro ∷ w ∷ [])) (subst (λ (xs : List Val). ent 𝓤 (Run (vptr rb ro ∷ w ∷ [])) (Run (xs ++ (z.0.4.1.0 ++ [])))) (sym us) (subst (λ (xs : List Val). ent 𝓤 (Run (vptr rb ro ∷ w ∷ [])) (Run (vptr rb ro ∷ (xs ++ [])))) (sym ws) (id⊢ 𝓤 (Run (vptr rb ro ∷ w ∷ []))))) $
+    suffices ! (Run (vptr rb ro ∷ w ∷ [])) (subst (λ (xs : List Val). ent 𝓤 (Run (vptr rb ro ∷ w ∷ [])) (Run (xs ++ (z.0.4.1.0 ++ [])))) (sym us)
+    (subst (λ (xs : List Val). ent 𝓤 (Run (vptr rb ro ∷ w ∷ [])) (Run (vptr rb ro ∷ (xs ++ [])))) (sym ws) (id⊢ 𝓤 (Run (vptr rb ro ∷ w ∷ []))))) $
     enter ! 𝓣.C 𝓣.Λ fn (vptr rb ro ∷ w ∷ []) Post $ alloc_all ! (λ ls. pass_all ! refl ((tt, tt), (box.box_typed B h b o fits, tt)) $
     opens ! tt (S X) {h = d} rb ro (λ vs. move ! (1 ∷ []) $ held_out X ! d vs (λ is. drop ! $
     -- [the cell; the open borrow, in three entries; the array's token; what the box owns]

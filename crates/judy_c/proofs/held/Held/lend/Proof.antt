@@ -14,7 +14,8 @@ use contract.BorrowLft.{◌⊑◌}
 use contract.Monad.{fact}
 use contract.Running.{tables}
 use types.Logic.{Logic, sem}
-use types.Kit.{‵, raw, ◌⊛◌, some, later, at_ret, ◌$◌, ◌∵◌, !, qed, done, move, keep, drop as skip, use1, join, split, split3, fsplit, fsplit3, fjoin, fpack, pick, await, rewrite, suffices, frame, group}
+use types.Kit.{‵, raw, ◌⊛◌, some, later, at_ret, ◌$◌, ◌∵◌, !, qed, done, move, keep, drop as skip, use1, join, split, split3, fsplit, fsplit3, fjoin, fpack, pick, await, rewrite}
+use types.Kit.{suffices, frame, group}
 use types.Part.{whole, sub, look_in}
 use types.Run.{enter, of_opd, addr, fld, hop, stop, first, blocks, exec, returns}
 use types.ByLocal.{alloc_all, pass_all, free_all, look_at, get, through, sets, sets_last, env}

@@ -45,16 +45,19 @@ take_spec 𝓤 𝓛 𝓜 𝓡 wired X L =
     (#self (args X)) fn (code.unfolded 𝓤 𝓛.H 𝓜 𝓡 wired (X, tt)) (λ z are.
     let κs = z.0.0 in let qs = z.0.1 in let κ = κs.0 in let q = qs.0 in let s = z.0.3.0 in let a = z.0.3.1.0 in let d : Held X.Denot = s.now in let rb = s.ref_ptr.0 in let ro = s.ref_ptr.1 in
     let Post : Val → SProp 𝓤 = W.post z in let Run : List Val → SProp 𝓤 = λ ws. WpFn 𝓤 H 𝓣.C 𝓣.Λ fn ws Post in
-    qed 𝓛 (((‵ (flft κ q) ⊛ ‵ (flft κs.1.0 qs.1.0) ⊛ ‵ ftrue) ⊛ ‵ (owns (types_at (f.ended X).signature.params κs) z.0.3 z.0.4)) ∷ raw (fact 𝓤 (κs.1.0 ⊑ X.lives)) ∷ raw (fact 𝓤 (IsSome d.array)) ∷ []) ∵
+    qed 𝓛 (((‵ (flft κ q) ⊛ ‵ (flft κs.1.0 qs.1.0) ⊛ ‵ ftrue) ⊛ ‵ (owns (types_at (f.ended X).signature.params κs) z.0.3 z.0.4)) ∷ raw (fact 𝓤 (κs.1.0 ⊑ X.lives)) ∷ raw
+    (fact 𝓤 (IsSome d.array)) ∷ []) ∵
     split ! $ move ! (3 ∷ []) $ heard ! (IsSome d.array) (λ stands. move ! (1 ∷ []) $ fsplit3 ! $
     -- [the `&mut`; the allocator; true; the tokens]
     fsplit3 ! $ feq_l ! (λ us. move ! (2 ∷ []) $ handle_tells B.al ! a z.0.4.1.0 (λ h ws fits.
     move ! (4 ∷ []) $ split3 ! $ keep ! (4 ∷ 5 ∷ 0 ∷ 1 ∷ 3 ∷ []) $
-    suffices ! (Run (vptr rb ro ∷ h ∷ [])) (subst (λ (xs : List Val). ent 𝓤 (Run (vptr rb ro ∷ h ∷ [])) (Run (xs ++ (z.0.4.1.0 ++ [])))) (sym us) (subst (λ (xs : List Val). ent 𝓤 (Run (vptr rb ro ∷ h ∷ [])) (Run (vptr rb ro ∷ (xs ++ [])))) (sym ws) (id⊢ 𝓤 (Run (vptr rb ro ∷ h ∷ []))))) $
+    suffices ! (Run (vptr rb ro ∷ h ∷ [])) (subst (λ (xs : List Val). ent 𝓤 (Run (vptr rb ro ∷ h ∷ [])) (Run (xs ++ (z.0.4.1.0 ++ [])))) (sym us)
+    (subst (λ (xs : List Val). ent 𝓤 (Run (vptr rb ro ∷ h ∷ [])) (Run (vptr rb ro ∷ (xs ++ [])))) (sym ws) (id⊢ 𝓤 (Run (vptr rb ro ∷ h ∷ []))))) $
     enter ! 𝓣.C 𝓣.Λ fn (vptr rb ro ∷ h ∷ []) Post $ alloc_all ! (λ ls. pass_all ! refl ((tt, tt), (fits, tt)) $
     opens ! tt (S X) {h = d} rb ro (λ vs. move ! (1 ∷ []) $ held_out X ! d vs (λ words.
     -- [what the pointer owns; the cell; the open borrow, in three entries; the array's token; the allocator]
-    in_a_block ! d.at (λ p. held (R X) p d.array) (null_holds_none (R X) 𝓛 d.array stands) (λ b o e. rewrite ! 0 (λ (u : Option X.Denot). ‵ (held (R X) (block_ptr b o) u)) (is_some_of (R X) d.array stands) refl $
+    in_a_block ! d.at (λ p. held (R X) p d.array) (null_holds_none (R X) 𝓛 d.array stands) (λ b o e. rewrite ! 0 (λ (u : Option X.Denot). ‵ (held (R X) (block_ptr b o) u))
+    (is_some_of (R X) d.array stands) refl $
     let x = the_some (R X) d.array stands in let d' : Held X.Denot = record { at = null_ptr; array = None } in
     rewrite ! 1 (λ (us : List Val). ‵ (cell_at full_share (S X).mir us rb ro)) words refl $
     sets ! (is ! (of_opd ! (load ! (through ! refl (fld ! refl (stop !))) (look_in ! 1 (sub ! 0 refl (whole !))))) (ap ptr_val e)) refl (tt, tt) $
@@ -65,6 +68,7 @@ take_spec 𝓤 𝓛 𝓜 𝓡 wired X L =
     -- [the `&mut` in two parts; the tokens; what the box owns; the allocator]: the pieces of the box
     move ! (3 ∷ []) $ fsplit ! $ move ! (0 ∷ 1 ∷ 6 ∷ []) $ box_in B ! (record { ptr = block_ptr b o; alloc = a; value = x }) b o x refl refl $
     returns ! (look_at ! 0 refl) $ free_all ! refl $
-    suffices ! _ (ends_at 𝓛 (f.ended X) (stayed X) c z (box.word B h b o) (record { at = block_ptr b o; alloc = a; value = x }) (d', (tt, tt)) (tt, (tt, tt))) $ says ! (sym (is_some_of (R X) d.array stands), refl) $
+    suffices ! _ (ends_at 𝓛 (f.ended X) (stayed X) c z (box.word B h b o) (record { at = block_ptr b o; alloc = a; value = x }) (d', (tt, tt)) (tt, (tt, tt))) $ says !
+    (sym (is_some_of (R X) d.array stands), refl) $
     nothing ! $ move ! (4 ∷ 5 ∷ 0 ∷ []) $ group ! 3 $ frame ! $ move ! (1 ∷ 2 ∷ 0 ∷ []) $
     feq_i ! (List Val) z.0.4.0 (vptr rb ro ∷ []) us $ fjoin3 ! $ nothing ! $ nothing ! $ fjoin ! $ move ! (1 ∷ 0 ∷ []) $ fjoin ! $ done !))))))))

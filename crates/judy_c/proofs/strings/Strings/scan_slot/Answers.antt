@@ -10,20 +10,24 @@ use Rattle.judy_c.proofs.strings.Strings.scan_slot.Goals as goal
 pub returns-then-buffer-lt-LONGEST_KEY : goal.returns-then-buffer-lt-LONGEST_KEY
 returns-then-buffer-lt-LONGEST_KEY c =
     let held = ap array_of c.in-Some.ensures.value in (
-      (refl, (λ w is. ap (λ array. with_value array (take c.slot_beside.new.count c.slot_beside.new.buffer) w) held), held),
+      (refl, (λ w is. ap (λ array. with_value array (take c.slot_beside.new.count c.slot_beside.new.buffer) w) held), c.in-Some.ensures.again),
       record {
         writes_back = tt;
-        found = subst (λ array. IsFoundSlot array.map (neighbour c.args.scan array.map) (c.args.buffer.now, c.args.count.now) (c.slot_beside.new.buffer, c.slot_beside.new.count) c.slot_beside.result) held c.slot_beside.ensures.found;
+        found =
+            subst (λ array. IsFoundSlot array.map (neighbour c.args.scan array.map) (c.args.buffer.now, c.args.count.now)
+            (c.slot_beside.new.buffer, c.slot_beside.new.count) c.slot_beside.result) held c.slot_beside.ensures.found;
       },
     )
 
 pub returns-else-buffer-lt-LONGEST_KEY : goal.returns-else-buffer-lt-LONGEST_KEY
 returns-else-buffer-lt-LONGEST_KEY c =
     let held = ap array_of c.in-Some.ensures.value in (
-      (refl, (λ w is. ap (λ array. with_value array (take c.slot_in.new.count c.slot_in.new.buffer) w) held), held),
+      (refl, (λ w is. ap (λ array. with_value array (take c.slot_in.new.count c.slot_in.new.buffer) w) held), c.in-Some.ensures.again),
       record {
         writes_back = tt;
-        found = subst (λ array. IsFoundSlot array.map (neighbour c.args.scan array.map) (c.args.buffer.now, c.args.count.now) (c.slot_in.new.buffer, c.slot_in.new.count) c.slot_in.result) held c.slot_in.ensures.found;
+        found =
+            subst (λ array. IsFoundSlot array.map (neighbour c.args.scan array.map) (c.args.buffer.now, c.args.count.now) (c.slot_in.new.buffer, c.slot_in.new.count) c.slot_in.result)
+            held c.slot_in.ensures.found;
       },
     )
 

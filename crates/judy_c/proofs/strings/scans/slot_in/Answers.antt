@@ -16,7 +16,8 @@ returns-in-None c =
         found = λ other.
             let before : CallerBuffer = record { buffer = buffer; count = count; value = other } in
             let after : CallerBuffer = record { buffer = c.neighbour_slot_in.new.buffer; count = c.neighbour_slot_in.new.len; value = other } in
-            told map before after scan c.requires.start None (key_found scan c.look.result map (c.look.ensures map) buffer count inside) 0 (key_is scan c.look.result map (c.look.ensures map) buffer count inside)
+            told map before after scan c.requires.start None (key_found scan c.look.result map (c.look.ensures map) buffer count inside) 0
+            (key_is scan c.look.result map (c.look.ensures map) buffer count inside)
             value (refl, λ t. record { buffer = stays.0 t; count = stays.1 t; value = other });
       },
     )

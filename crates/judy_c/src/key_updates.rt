@@ -1,4 +1,5 @@
-//! The calls of C that give a key of a map from strings, or from byte strings, a value or take it out, and tell the value that was there.
+//! The calls of C that give a key of a map from strings, or from byte strings, a value or take it out, and tell the
+//! value that was there.
 //!
 //! An insert is one way down the map where a slot is; a removal is two, the look-up's and the delete's.
 
@@ -19,7 +20,8 @@ use crate::judysl::{sellumaq_judysl_del, sellumaq_judysl_get};
 use crate::strings::Strings;
 use std::alloc::Global;
 
-/// Gives a key a value, and answers `PRESENT` or `ADDED`; or why it is refused: `BAD_KEY`, `FULL` or `NO_MEMORY`, in this order.
+/// Gives a key a value, and answers `PRESENT` or `ADDED`; or why it is refused: `BAD_KEY`, `FULL` or `NO_MEMORY`, in
+/// this order. The handle is as it was then: a null one stays null.
 #[unsafe(no_mangle)]
 pub extern "C" fn sellumaq_judysl_put(
     alloc: Global,
@@ -27,8 +29,8 @@ pub extern "C" fn sellumaq_judysl_put(
     key: &[u8],
     value: u64,
 ) -> u32
-    ensures { IsPut IsStringKey (strings.array_in handle.old) key.now value result
-        (strings.array_in handle.new) }
+    ensures { IsPut IsStringKey (strings.array_in handle.old) key.now value
+        (handle.new ≡ handle.old) result (strings.array_in handle.new) }
 {
     let mut was = 0;
     sellumaq_judysl_insert(alloc, handle, key, value, &mut was)
@@ -43,8 +45,8 @@ pub extern "C" fn sellumaq_judysl_insert(
     value: u64,
     was: &mut u64,
 ) -> u32
-    ensures stored { IsPut IsStringKey (strings.array_in handle.old) key.now value result
-        (strings.array_in handle.new) }
+    ensures stored { IsPut IsStringKey (strings.array_in handle.old) key.now value
+        (handle.new ≡ handle.old) result (strings.array_in handle.new) }
     ensures told { IsToldOld
         (map.get (strings.array_in handle.old).map key.now) result was.old was.new }
 {
@@ -72,7 +74,8 @@ pub extern "C" fn sellumaq_judysl_remove(
     found
 }
 
-/// Gives a key a value, and answers `PRESENT` or `ADDED`; or why it is refused: `BAD_KEY`, `FULL` or `NO_MEMORY`, in this order.
+/// Gives a key a value, and answers `PRESENT` or `ADDED`; or why it is refused: `BAD_KEY`, `FULL` or `NO_MEMORY`, in
+/// this order. The handle is as it was then: a null one stays null.
 #[unsafe(no_mangle)]
 pub extern "C" fn sellumaq_judyhs_put(
     alloc: Global,
@@ -80,8 +83,8 @@ pub extern "C" fn sellumaq_judyhs_put(
     key: &[u8],
     value: u64,
 ) -> u32
-    ensures { IsPut IsShort (bytes.array_in handle.old) key.now value result
-        (bytes.array_in handle.new) }
+    ensures { IsPut IsShort (bytes.array_in handle.old) key.now value
+        (handle.new ≡ handle.old) result (bytes.array_in handle.new) }
 {
     let mut was = 0;
     sellumaq_judyhs_insert(alloc, handle, key, value, &mut was)
@@ -96,8 +99,8 @@ pub extern "C" fn sellumaq_judyhs_insert(
     value: u64,
     was: &mut u64,
 ) -> u32
-    ensures stored { IsPut IsShort (bytes.array_in handle.old) key.now value result
-        (bytes.array_in handle.new) }
+    ensures stored { IsPut IsShort (bytes.array_in handle.old) key.now value
+        (handle.new ≡ handle.old) result (bytes.array_in handle.new) }
     ensures told { IsToldOld
         (map.get (bytes.array_in handle.old).map key.now) result was.old was.new }
 {

@@ -1,0 +1,121 @@
+/* Ranges of sets and maps: how many of their words are no keys, and keys taken out of copies, beside what a look-up of each key tells. Memory is
+ * refused to some of the calls. */
+#include <stddef.h>
+
+#include "../sellumaq.h"
+#include "check.h"
+
+extern void *__libc_malloc(size_t size);
+extern void *__libc_realloc(void *block, size_t size);
+extern void __libc_free(void *block);
+
+/* The blocks that are held, and how many calls are answered before each later one is refused; none is for -1. */
+static long held, answered = -1;
+
+static bool refused(void) {
+    if (answered > 0) answered--;
+    else if (!answered) return true;
+    return false;
+}
+
+void *malloc(size_t size) {
+    void *block = refused() ? NULL : __libc_malloc(size);
+    held += block != NULL;
+    return block;
+}
+
+void *realloc(void *block, size_t size) {
+    if (!block) return malloc(size);
+    return refused() ? NULL : __libc_realloc(block, size);
+}
+
+void free(void *block) {
+    held -= block != NULL;
+    __libc_free(block);
+}
+
+enum { MOST_KEYS = 3000 };
+
+static bool is_in(uint64_t key, uint64_t from, uint64_t to) { return from <= key && key <= to; }
+
+/* Checks that a set and a map have of two others the keys outside of a range, and these alone. How many lie in it. */
+static uint64_t compare(const sellumaq_judy1 *set, const sellumaq_judyl *map, const sellumaq_judy1 *old, const sellumaq_judyl *old_map, uint64_t from, uint64_t to) {
+    uint64_t key = 0, value = 0, wanted = 0, inside = 0;
+    for (bool left = sellumaq_judy1_first(old, 0, &key); left; left = sellumaq_judy1_next(old, key, &key)) {
+        bool gone = is_in(key, from, to);
+        CHECK(sellumaq_judy1_test(set, key) == !gone && sellumaq_judyl_get(map, key, &value) == !gone);
+        CHECK(sellumaq_judyl_get(old_map, key, &wanted) && (gone || value == wanted));
+        inside += gone;
+    }
+    CHECK(sellumaq_judy1_len(set) == sellumaq_judy1_len(old) - inside && sellumaq_judyl_len(map) == sellumaq_judyl_len(old_map) - inside);
+    return inside;
+}
+
+/* Takes a range out of a copy of each, with so many calls for memory answered. */
+static void take_out(const sellumaq_judy1 *old, const sellumaq_judyl *old_map, uint64_t from, uint64_t to, long calls) {
+    sellumaq_judy1 set = { 0 };
+    sellumaq_judyl map = { 0 };
+    CHECK(sellumaq_judy1_copy(&set, old) == SELLUMAQ_ADDED && sellumaq_judyl_copy(&map, old_map) == SELLUMAQ_ADDED);
+    answered = calls;
+    uint64_t count = sellumaq_judy1_remove_range(&set, from, to), of_map = sellumaq_judyl_remove_range(&map, from, to);
+    answered = -1;
+    CHECK(compare(&set, &map, old, old_map, from, to) == count && of_map == count);
+    sellumaq_judy1_free(&set);
+    sellumaq_judyl_free(&map);
+}
+
+/* Compares how many words of a range are no keys with a count of the keys. */
+static void count_words(const sellumaq_judy1 *set, const sellumaq_judyl *map, uint64_t from, uint64_t to) {
+    uint64_t keys = sellumaq_judy1_count(set, from, to), wanted = from > to ? 0 : to - from - keys + 1;
+    CHECK(sellumaq_judy1_count_empty(set, from, to) == wanted && sellumaq_judyl_count_empty(map, from, to) == wanted);
+}
+
+/* A copy that is refused memory leaves what it is made in place of. */
+static void refuse_copies(const sellumaq_judy1 *old, const sellumaq_judyl *old_map) {
+    for (long calls = 0; calls < 4; calls++) {
+        sellumaq_judy1 set = { 0 };
+        sellumaq_judyl map = { 0 };
+        sellumaq_judy1_set(&set, 7);
+        sellumaq_judyl_put(&map, 7, 70);
+        answered = calls;
+        uint32_t told = sellumaq_judy1_copy(&set, old), of_map = sellumaq_judyl_copy(&map, old_map);
+        answered = -1;
+        CHECK(told == SELLUMAQ_ADDED || (told == SELLUMAQ_NO_MEMORY && sellumaq_judy1_len(&set) == 1 && sellumaq_judy1_test(&set, 7)));
+        CHECK(of_map == SELLUMAQ_ADDED || (of_map == SELLUMAQ_NO_MEMORY && sellumaq_judyl_len(&map) == 1));
+        sellumaq_judy1_free(&set);
+        sellumaq_judyl_free(&map);
+    }
+}
+
+static void try_ranges(const sellumaq_judy1 *set, const sellumaq_judyl *map, unsigned bits) {
+    uint64_t ends[] = { 0, any() >> (64 - bits), any() >> (64 - bits), UINT64_MAX };
+    for (size_t from = 0; from < 4; from++)
+        for (size_t to = 0; to < 4; to++) {
+            take_out(set, map, ends[from], ends[to], -1);
+            take_out(set, map, ends[from], ends[to], (long)(any() % 8));
+            if (from || to < 3 || sellumaq_judy1_len(set)) count_words(set, map, ends[from], ends[to]);
+        }
+}
+
+int main(void) {
+    const sellumaq_judy1 none = { 0 };
+    const sellumaq_judyl no_map = { 0 };
+    CHECK(sellumaq_judy1_count_empty(&none, 0, UINT64_MAX) == UINT64_MAX && sellumaq_judyl_count_empty(&no_map, 0, UINT64_MAX) == UINT64_MAX);
+    try_ranges(&none, &no_map, 60);
+    for (unsigned turn = 0; turn < 30; turn++) {
+        sellumaq_judy1 set = { 0 };
+        sellumaq_judyl map = { 0 };
+        unsigned bits = 9 + turn % 55;
+        for (size_t at = any() % MOST_KEYS; at > 0; at--) {
+            uint64_t key = any() >> (64 - bits);
+            sellumaq_judy1_set(&set, key);
+            sellumaq_judyl_put(&map, key, any());
+        }
+        try_ranges(&set, &map, bits);
+        refuse_copies(&set, &map);
+        sellumaq_judy1_free(&set);
+        sellumaq_judyl_free(&map);
+    }
+    CHECK(held == 0);
+    return 0;
+}
