@@ -7,6 +7,9 @@ from __future__ import annotations
 import ctypes
 import os
 import sys
+from array import array
+from bisect import bisect_right
+from itertools import accumulate
 from operator import index as whole
 
 if not getattr(sys, "_is_gil_enabled", lambda: True)():
@@ -64,6 +67,63 @@ def _string_calls(kind, *scans):
     return found | _calls(kind, ctypes.c_uint32, put=(*_key, _word), **dict.fromkeys(scans, _buffer))
 
 
+_WORDS, _BYTES = (("Q", "L"), 8), (("?", "B", "b", "c"), 1)
+
+
+def _holds(view, items):
+    """Whether the items of a buffer are of one of these formats of the module struct, and of this size."""
+    formats, size = items
+    return view.itemsize == size and view.format.lstrip("@=<") in formats and len(view.format) <= 2
+
+
+def _lent(items, width):
+    """The words of a buffer of them, a list or a table of two columns, as ctypes has them; None where the object has no such buffer."""
+    try:
+        with memoryview(items) as view:
+            if _holds(view, _WORDS) and view.c_contiguous and view.ndim == width and view.shape[1:] in ((), (2,)):
+                return (_word * (view.nbytes // 8)).from_buffer_copy(view.tobytes())
+    except (TypeError, ValueError, BufferError):
+        pass
+    return None
+
+
+def _list_of(lent, items, is_written):
+    """A view of a list of words or bytes, as errors tell that it must be."""
+    view = memoryview(lent)
+    if view.ndim != 1 or not _holds(view, items):
+        what = "64-bit words" if items is _WORDS else "bytes"
+        raise TypeError(f"a buffer of {what} is needed, not one of {view.format}")
+    if is_written and view.readonly:
+        raise TypeError("a buffer is needed that can be written")
+    if not view.c_contiguous:
+        raise ValueError("the items of the buffer don't stand in a row")
+    # Of these formats memoryview itself knows but two, and no empty view is cast.
+    return view.cast("B").cast("Q" if items is _WORDS else "B") if view.nbytes else memoryview(array("Q" if items is _WORDS else "B"))
+
+
+def _two_lists(first, second, items, is_written):
+    """Views of two lists, the first one of words."""
+    views = _list_of(first, _WORDS, False), _list_of(second, items, is_written)
+    if is_written and _overlap(*views):
+        raise ValueError("the buffers overlap")
+    if len(views[0]) != len(views[1]):
+        raise ValueError("the buffers have different lengths")
+    return views
+
+
+def _address(view):
+    """Where a buffer that can be written stands."""
+    return ctypes.addressof(ctypes.c_char.from_buffer(view))
+
+
+def _overlap(read, written):
+    """Whether two buffers have bytes in common, which isn't so where one of them can't be written."""
+    if read.readonly or not read.nbytes or not written.nbytes:
+        return False
+    one, other = _address(read), _address(written)
+    return one < other + written.nbytes and other < one + read.nbytes
+
+
 def _checked(number):
     word = whole(number)
     if not 0 <= word <= MAX:
@@ -116,7 +176,10 @@ class _Array:
 
     def _made(self, call, words, count, *strings):
         """Makes the array one of so many keys, of which a list of words tells."""
-        told = self._change(call, *strings, (_word * len(words))(*words), count, ctypes.c_size_t())
+        words, place = words if isinstance(words, ctypes.Array) else (_word * len(words))(*words), ctypes.c_size_t()
+        told = self._change(call, *strings, words, count, place)
+        if told == _BAD_KEY:
+            raise ValueError(f"the key at place {place.value} isn't above the one before it")
         if told == _FULL:
             raise OverflowError("the dict is full")
         if told not in _PUT:
@@ -262,18 +325,32 @@ class WordSet(_Words):
         if not self._has("unset", key):
             raise KeyError(key)
 
-    def contains_many(self, keys, /):
-        """Whether each of the keys of an iterable is there, in a list."""
-        return [WordSet.__contains__(self, key) for key in keys]
+    def contains_many(self, keys, /, out=None):
+        """Whether each of the keys of an iterable is there, in a list; or in a buffer of bytes, and then how many are."""
+        if out is None:
+            return [WordSet.__contains__(self, key) for key in keys]
+        keys, out = _two_lists(keys, out, _BYTES, True)
+        told = bytes(self._calls["test"](self._handle, key) for key in keys)
+        out[:] = told
+        return sum(told)
 
     def _fill(self, keys):
-        for key in keys:
+        words = _lent(keys, 1)
+        for key in keys if words is None else words:
             WordSet.add(self, key)
 
     def _pick(self, keys):
         for key in keys:
             if WordSet._passed(key):
                 WordSet.add(self, key)
+
+    def _write(self, _, out):
+        """Writes all keys into a buffer, and answers how many they are."""
+        keys, view = WordSet._keys(self), _list_of(out, _WORDS, True)
+        if len(keys) > len(view):
+            raise ValueError(f"the buffer has room for {len(view)} words, and {len(keys)} are needed")
+        view[: len(keys)] = array("Q", keys)
+        return len(keys)
 
     def _keys(self):
         """All keys. One call tells them, so that none comes or goes meanwhile."""
@@ -297,7 +374,9 @@ class WordSet(_Words):
         return bool(WordSet._wanted(self, wanted, second))
 
     def _make(self, keys):
-        words = [key for key, _ in _ascending((_checked(key), None) for key in keys)]
+        words = _lent(keys, 1)
+        if words is None:
+            words = [key for key, _ in _ascending((_checked(key), None) for key in keys)]
         self._made("from_keys", words, len(words))
 
 
@@ -308,6 +387,7 @@ class WordMap(_Words, _Map):
     _kind = _word_calls("judyl", get=(_word, _slot), remove=(_word, _slot), **dict.fromkeys(("first_entry", "last_entry", "by_count_entry"), _ENTRY)) | {
         "put": _call("judyl_put", ctypes.c_uint32, _word, _word),
         "from_pairs": _call("judyl_from_sorted", ctypes.c_uint32, *_sorted),
+        "list_pairs": _call("judyl_walk", ctypes.c_size_t, _word, _slot, ctypes.c_size_t),
     }
 
     def __setitem__(self, key, value):
@@ -320,17 +400,47 @@ class WordMap(_Words, _Map):
     def _copy(self, other):
         WordMap._make(self, WordMap._cursor(other, ITEMS, 0, MAX, False))
 
-    def get_many(self, keys, /):
-        """The values of the keys of an iterable, in a list, with None where one isn't there."""
-        return [WordMap.get(self, key) for key in keys]
+    def get_many(self, keys, /, out=None):
+        """The values of the keys of an iterable, in a list, with None where one isn't there; or in a buffer, and then how many are there."""
+        if out is None:
+            return [WordMap.get(self, key) for key in keys]
+        (keys, out), value, count = _two_lists(keys, out, _WORDS, True), _word(), 0
+        for place, key in enumerate(keys):
+            if self._calls["get"](self._handle, key, value):
+                out[place], count = value.value, count + 1
+        return count
 
     def _fill(self, pairs):
-        for key, value in pairs:
+        words = _lent(pairs, 2)
+        for key, value in pairs if words is None else zip(words[::2], words[1::2]):
+            WordMap.__setitem__(self, key, value)
+
+    def _fill_of(self, keys, values):
+        for key, value in zip(*_two_lists(keys, values, _WORDS, False)):
             WordMap.__setitem__(self, key, value)
 
     def _make(self, pairs):
-        told = list(_ascending((_checked(key), _checked(value)) for key, value in pairs))
-        self._made("from_pairs", [word for pair in told for word in pair], len(told))
+        words = _lent(pairs, 2)
+        if words is None:
+            words = [word for pair in _ascending((_checked(key), _checked(value)) for key, value in pairs) for word in pair]
+        self._made("from_pairs", words, len(words) // 2)
+
+    def _make_of(self, keys, values):
+        keys, values = _two_lists(keys, values, _WORDS, False)
+        pairs = (_word * (2 * len(keys)))()
+        pairs[::2], pairs[1::2] = keys.tolist(), values.tolist()
+        self._made("from_pairs", pairs, len(keys))
+
+    def _write(self, part, out):
+        """Writes all keys or values into a buffer, and answers how many they are."""
+        view, count = _list_of(out, _WORDS, True), _Array.__len__(self)
+        if count > len(view):
+            raise ValueError(f"the buffer has room for {len(view)} words, and {count} are needed")
+        pairs = (_word * (2 * count))()
+        self._calls["list_pairs"](self._handle, 0, pairs, count)
+        words = pairs[::2] if part == KEYS else pairs[1::2]
+        view[:count] = array("Q", words)
+        return count
 
 
 class _Strings(_Map):
@@ -354,6 +464,11 @@ class _Strings(_Map):
             raise MemoryError
 
 
+def _cut(text, ends):
+    """The parts of a text that end at these places."""
+    return [text[begin:end] for begin, end in zip([0, *ends], ends)]
+
+
 class _Text:
     @staticmethod
     def _bytes(key):
@@ -366,8 +481,17 @@ class _Text:
     def _object(key):
         return key.decode("utf-8", "surrogatepass")
 
+    @staticmethod
+    def _objects(text, ends):
+        """The keys that stand one behind the other in a text, and end at these places."""
+        if text.isascii():
+            return _cut(text.decode("ascii"), ends)
+        return [_Text._object(key) for key in _cut(text, ends)]
+
 
 class _Bytes:
+    _objects = staticmethod(_cut)
+
     @staticmethod
     def _bytes(key):
         return bytes(memoryview(key))
@@ -384,14 +508,14 @@ def _could_be_key(string):
     return key, len(key) == len(string)
 
 
-class _Entry(ctypes.Structure):
-    _fields_ = [("length", ctypes.c_size_t), ("value", _word)]
-
-
-_entries = ctypes.POINTER(_Entry)
-
 # How many pairs a walk through strings takes at most, and how many bytes their keys have then.
-_PAIRS, _ROOM = 64, 2 * MAX_KEY
+_PAIRS, _ROOM = 256, 16 * MAX_KEY
+
+
+def _entries_of(words, count):
+    """Where each key ends that a walk told, and the values."""
+    told = words[: 2 * count]
+    return list(accumulate(told[::2])), told[1::2]
 
 
 class _OrderedStrings(_Strings):
@@ -399,7 +523,7 @@ class _OrderedStrings(_Strings):
         "count": _call("judysl_count", _word, *_key, *_key),
         "by_count": _call("judysl_by_count", ctypes.c_uint32, _word, *_buffer),
         "from_strings": _call("judysl_from_sorted", ctypes.c_uint32, *_key, *_sorted),
-        "walk": _call("judysl_walk", ctypes.c_size_t, *_key, ctypes.c_bool, *_key, _entries, ctypes.c_size_t),
+        "walk": _call("judysl_walk", ctypes.c_size_t, *_key, ctypes.c_bool, *_key, _slot, ctypes.c_size_t),
     }
 
     def _begin(self, _):
@@ -417,7 +541,7 @@ class _OrderedStrings(_Strings):
         self._become(list(_ascending(self._read(pairs))))
 
     def _copy(self, other):
-        self._become(list(_OrderedStrings._up(other, None)))
+        self._become(_OrderedStrings._stored(other))
 
     def _become(self, pairs):
         text, entries = b"".join(key for key, _ in pairs), [word for key, value in pairs for word in (len(key), value)]
@@ -444,41 +568,63 @@ class _OrderedStrings(_Strings):
         raise IndexError(f"no key at place {place!r}")
 
     def _cursor(self, part, low, high, reverse):
-        for key, value in self._down(high) if reverse else self._up(low):
-            if (low is not None and key < low) if reverse else (high is not None and key > high):
-                return
-            yield value if part == VALUES else self._object(key) if part == KEYS else (self._object(key), value)
+        return self._down(part, low, high) if reverse else self._up(part, low, high)
 
-    def _down(self, bound):
-        """Pairs from a bound down. Each step is a search beside the key given last."""
-        start, scan = b"\xff" * MAX_KEY if bound is None else _could_be_key(bound)[0], "last"
+    def _down(self, part, low, high):
+        """A walk from a bound down. Each step is a search beside the key given last."""
+        start, scan = b"\xff" * MAX_KEY if high is None else _could_be_key(high)[0], "last"
         key, length, value = ctypes.create_string_buffer(start, MAX_KEY), ctypes.c_size_t(len(start)), _word()
         while self._calls[scan](self._handle, key, MAX_KEY, length, value) == _FOUND:
-            yield ctypes.string_at(key, length.value), value.value
-            scan = "prev"
+            found, scan = ctypes.string_at(key, length.value), "prev"
+            if low is not None and found < low:
+                return
+            yield value.value if part == VALUES else self._object(found) if part == KEYS else (self._object(found), value.value)
 
-    def _up(self, bound):
-        """Pairs from a bound up. A call tells many at a time, and the next ones anew where the map has changed."""
-        (last, itself), most = _could_be_key(bound or b""), 1
+    def _up(self, part, low, high):
+        """A walk from a bound up. A call tells many pairs, and the next ones anew where the map has changed."""
+        (last, itself), most = _could_be_key(low or b""), 1
         while True:
-            changes, pairs = self._changes, self._page(last, itself, most)
-            for last, value in pairs:
-                itself = False
-                yield last, value
+            changes, (text, ends, values) = self._changes, self._page(last, itself, most)
+            count = self._upto(text, ends, high)
+            for at, told in enumerate(self._parts(part, text, ends[:count], values[:count])):
+                yield told
                 if self._changes is not changes:
                     break
-            if not pairs:
+            if count == 0 or (count < len(ends) and self._changes is changes):
                 return
+            last, itself = text[ends[at - 1] if at else 0 : ends[at]], False
             most = 1 if self._changes is not changes else min(8 * most, _PAIRS)
 
+    @staticmethod
+    def _upto(text, ends, high):
+        """How many keys of a page there are up to a bound."""
+        if high is None or not ends or text[ends[-2] if len(ends) > 1 else 0 :] <= high:
+            return len(ends)
+        return bisect_right(_cut(text, ends), high)
+
+    def _parts(self, part, text, ends, values):
+        if part == VALUES:
+            return values
+        keys = self._objects(text, ends)
+        return keys if part == KEYS else zip(keys, values)
+
     def _page(self, key, itself, most):
-        """The first pairs from a key on, or behind it."""
-        text, entries, at = ctypes.create_string_buffer(_ROOM), (_Entry * most)(), 0
-        count, pairs = self._calls["walk"](self._handle, key, len(key), itself, text, _ROOM, entries, most), []
-        for entry in entries[:count]:
-            pairs.append((text[at : at + entry.length], entry.value))
-            at += entry.length
-        return pairs
+        """The first pairs from a key on, or behind it: the keys' bytes, where each ends, and the values."""
+        room = min(most * MAX_KEY, _ROOM)
+        text, entries = ctypes.create_string_buffer(room), (_word * (2 * most))()
+        count = self._calls["walk"](self._handle, key, len(key), itself, text, room, entries, most)
+        ends, values = _entries_of(entries, count)
+        return ctypes.string_at(text, ends[-1] if ends else 0), ends, values
+
+    def _stored(self):
+        """All pairs, as C has them."""
+        (last, itself), pairs = (b"", True), []
+        while True:
+            text, ends, values = self._page(last, itself, _PAIRS)
+            if not ends:
+                return pairs
+            pairs += zip(_cut(text, ends), values)
+            last, itself = pairs[-1][0], False
 
 
 class TextMap(_Text, _OrderedStrings):
@@ -494,7 +640,7 @@ class _Hash(_Strings):
     __slots__ = ("_ahead",)
 
     _kind = _string_calls("judyhs") | {
-        "walk": _call("judyhs_walk", ctypes.c_bool, ctypes.c_size_t, *_key, ctypes.POINTER(_Entry), ctypes.c_size_t, ctypes.POINTER(ctypes.c_size_t))
+        "walk": _call("judyhs_walk", ctypes.c_bool, ctypes.c_size_t, *_key, _slot, ctypes.c_size_t, ctypes.POINTER(ctypes.c_size_t))
     }
 
     def clear(self):
@@ -519,19 +665,19 @@ class _Hash(_Strings):
 
     def _told(self, part, most):
         """The first keys of a walk. They are told by one call, so that none comes or goes meanwhile."""
-        room, count, found = 64 * (most + 16), ctypes.c_size_t(), []
+        room, count = 64 * (most + 16), ctypes.c_size_t()
         while True:
-            keys, entries = ctypes.create_string_buffer(room), (_Entry * (most + 1))()
-            if not self._calls["walk"](self._handle, 0, keys, room, entries, most, count):
+            text, entries = ctypes.create_string_buffer(room), (_word * (2 * most + 1))()
+            if not self._calls["walk"](self._handle, 0, text, room, entries, most, count):
                 raise MemoryError
             if count.value == min(most, _Array.__len__(self)):
                 break
             room *= 4
-        text, at = keys.raw, 0
-        for entry in entries[: count.value]:
-            found.append((self._object(text[at : at + entry.length]), entry.value))
-            at += entry.length
-        return found if part == ITEMS else [pair[part] for pair in found]
+        ends, values = _entries_of(entries, count.value)
+        if part == VALUES:
+            return values
+        keys = self._objects(ctypes.string_at(text, ends[-1] if ends else 0), ends)
+        return keys if part == KEYS else list(zip(keys, values))
 
 
 class TextHash(_Text, _Hash):

@@ -3,11 +3,15 @@
 from __future__ import annotations
 
 from collections.abc import Iterable, Iterator
+from itertools import islice
 from typing import Any
 
 from . import _views
 from ._core import ITEMS
 from ._maps import pairs_of
+
+# Of a slice that takes one key in so many, or more, each key is looked up by its place; of others those between are walked over.
+FAR = 16
 
 
 class Placed:
@@ -83,13 +87,15 @@ class PlacedDict(Placed):
     def _some(self, part: int, place: slice) -> list[Any]:
         """A part of the pairs of a slice."""
         places = range(*place.indices(len(self)))
-        if not places:
-            return []
-        if abs(places.step) > 1:
+        if abs(places.step) >= FAR:
             pairs = [self._pair_at(each) for each in places]
             return pairs if part == ITEMS else [pair[part] for pair in pairs]
-        low, high = (self._bound(self._at(each)) for each in sorted((places[0], places[-1])))
-        return list(self._cursor(part, low, high, places.step < 0))
+        if not places:
+            return []
+        ends = sorted((places[0], places[-1]))
+        low, high = (self._bound(self._at(each)) for each in ends)
+        found = list(islice(self._cursor(part, low, high, False), 0, None, abs(places.step)))
+        return found if places.step > 0 else found[::-1]
 
     @classmethod
     def from_sorted(cls, pairs: Iterable[Any], /) -> Any:

@@ -2,6 +2,7 @@
 
 from __future__ import annotations
 
+from array import array
 from collections.abc import Iterable, Iterator, MutableSet, Sequence, Set
 from operator import index as whole
 from typing import TYPE_CHECKING, Any, SupportsIndex
@@ -47,6 +48,33 @@ class _Ordered:
         low = 0 if minimum is None else max(whole(minimum) + (not inclusive[0]), 0)
         high = MAX if maximum is None else min(whole(maximum) - (not inclusive[1]), MAX)
         return self._cursor(KEYS, low, high, reverse) if low <= high else iter(())
+
+    def keys_array(self, out: Any = None) -> Any:
+        """All keys in order, as an array of 64-bit words; or written to the front of `out`, a buffer of such words, and then how many these are. It is
+        a ValueError where that hasn't room for all, and nothing is written.
+
+        >>> from sellumaq import Judy1
+        >>> Judy1([30, 10, 20]).keys_array()
+        array('Q', [10, 20, 30])
+        >>> from array import array
+        >>> room = array("Q", [7, 7, 7, 7])
+        >>> Judy1([30, 10, 20]).keys_array(room), room
+        (3, array('Q', [10, 20, 30, 7]))
+        """
+        return self._part_array(KEYS, out)
+
+    def _part_array(self, part: int, out: Any) -> Any:
+        if out is not None:
+            return self._write(part, out)
+        while True:
+            words = array("Q", [0]) * len(self)
+            try:
+                if self._write(part, words) == len(words):
+                    return words
+            except ValueError:
+                # Another thread has put keys in.
+                if len(self) == len(words):
+                    raise
 
 
 class Judy1(_core.WordSet, _Ordered, Placed, MutableSet, Sequence):
@@ -323,6 +351,42 @@ class JudyL(_core.WordMap, _Ordered, PlacedDict, Copied, Dict):
     @staticmethod
     def _bound(key: int) -> int:
         return key
+
+    @classmethod
+    def from_sorted(cls, pairs: Any, values: Any = None, /) -> JudyL:
+        """A dict of pairs whose keys strictly ascend, made at once; ValueError at the first key that isn't above the one before it. The pairs are any
+        iterable, or a buffer of 64-bit words with two columns; or the keys are one buffer of such words, and the values another.
+
+        >>> from array import array
+        >>> JudyL.from_sorted([(1, 10), (2, 20)]), JudyL.from_sorted(array("Q", [1, 2]), array("Q", [10, 20]))
+        (JudyL({1: 10, 2: 20}), JudyL({1: 10, 2: 20}))
+        """
+        if values is None:
+            return super().from_sorted(pairs)
+        made = cls()
+        made._make_of(pairs, values)
+        return made
+
+    def update(self, other: Any = (), values: Any = None, /, **more: int) -> None:
+        """Puts pairs in, as dict's does; or those of a buffer of keys and one of values. An error leaves those before it.
+
+        >>> from array import array
+        >>> squares = JudyL({1: 1})
+        >>> squares.update({2: 4}); squares.update(array("Q", [3, 4]), array("Q", [9, 16])); squares
+        JudyL({1: 1, 2: 4, 3: 9, 4: 16})
+        """
+        if values is not None:
+            self._fill_of(other, values)
+            other = ()
+        super().update(other, **more)
+
+    def values_array(self, out: Any = None) -> Any:
+        """All values by the order of their keys, as `keys_array` tells the keys.
+
+        >>> JudyL({3: 9, 2: 4}).values_array()
+        array('Q', [4, 9])
+        """
+        return self._part_array(VALUES, out)
 
     def _items(self, reverse: bool) -> Iterator[tuple[int, int]]:
         return self._cursor(ITEMS, 0, MAX, reverse)

@@ -7,7 +7,7 @@
 
 /* How many pairs are taken at most, and how many bytes their keys have then. A first page has few, for walks that are
  * soon left, and one that is taken since the map has changed has one; each further page has so many times as many. */
-enum { PAIRS = 64, GROWTH = 8, ROOM = 2 * SELLUMAQ_KEY_BYTES };
+enum { PAIRS = 256, GROWTH = 8, ROOM = 16 * SELLUMAQ_KEY_BYTES };
 
 /* Pairs that were taken: the keys one behind the other, and the length and the value of each. */
 typedef struct {

@@ -61,8 +61,28 @@ static bool gather_object(const Words *self, Gathered *gathered, PyObject *objec
     return false;
 }
 
+/* Hands on what a buffer of words has: true where the items are of one, and then an error may be set. */
+static bool is_taken(Words *self, PyObject *items, bool take(Words *, const uint64_t *, size_t))
+{
+    Py_buffer view;
+    if (!lend_items(self, items, &view))
+        return false;
+    take(self, view.buf, (size_t)view.len / (width_of(self) * sizeof(uint64_t)));
+    PyBuffer_Release(&view);
+    return true;
+}
+
+static PyObject *none_unless_error(void)
+{
+    if (PyErr_Occurred())
+        return NULL;
+    Py_RETURN_NONE;
+}
+
 PyObject *words_make(PyObject *self, PyObject *items)
 {
+    if (is_taken((Words *)self, items, make_of))
+        return none_unless_error();
     PyObject *each = PyObject_GetIter(items), *object;
     if (!each)
         return NULL;
@@ -76,9 +96,7 @@ PyObject *words_make(PyObject *self, PyObject *items)
     if (!PyErr_Occurred() && !make_words((Words *)self, &gathered))
         PyErr_NoMemory();
     PyMem_Free(gathered.words);
-    if (PyErr_Occurred())
-        return NULL;
-    Py_RETURN_NONE;
+    return none_unless_error();
 }
 
 /* ---- copies ---- */
@@ -105,9 +123,7 @@ PyObject *map_copy(PyObject *object, PyTypeObject *maps, PyObject *const *argume
     if (!gather_map(&gathered, other) || !make_words(self, &gathered))
         PyErr_NoMemory();
     PyMem_Free(gathered.words);
-    if (PyErr_Occurred())
-        return NULL;
-    Py_RETURN_NONE;
+    return none_unless_error();
 }
 
 /* ---- the constructors and update ---- */
@@ -167,6 +183,8 @@ static bool put_object(Words *self, PyObject *object, bool passes_over)
 static PyObject *fill(PyObject *object, PyObject *items, bool passes_over)
 {
     Words *self = (Words *)object;
+    if (is_taken(self, items, put_all))
+        return none_unless_error();
     PyObject *each = PyObject_GetIter(items);
     if (!each)
         return NULL;
@@ -176,9 +194,7 @@ static PyObject *fill(PyObject *object, PyObject *items, bool passes_over)
         Py_DECREF(item);
     }
     Py_DECREF(each);
-    if (PyErr_Occurred())
-        return NULL;
-    Py_RETURN_NONE;
+    return none_unless_error();
 }
 
 PyObject *words_fill(PyObject *self, PyObject *items) { return fill(self, items, false); }

@@ -284,6 +284,7 @@ static PyObject *cursor(PyObject *self, PyTypeObject *defining, PyObject *const 
     {"_fill", words_fill, METH_O, "Puts the items of an iterable in."}, \
     {"_make", words_make, METH_O, "Makes the array one of the items of an iterable, whose keys must ascend."}, \
     {"_at", item_at, METH_O, "The key at a place, or the list of those of a slice."}, \
+    {"_write", (PyCFunction)(void (*)(void))words_write, METH_FASTCALL, "Writes all keys or values into a buffer; answers how many."}, \
     {"_cursor", (PyCFunction)(void (*)(void))cursor, METH_METHOD | METH_FASTCALL | METH_KEYWORDS, "A walk between two words."}
 
 #define WORD_SLOTS                            \
@@ -330,7 +331,10 @@ static bool append_whether(Words *self, const Group *group, PyObject *told)
     return put;
 }
 
-static PyObject *set_contains_many(PyObject *self, PyObject *keys) { return look_up_many(self, keys, append_whether); }
+static PyObject *set_contains_many(PyObject *self, PyObject *const *arguments, Py_ssize_t count, PyObject *keywords)
+{
+    return look_up_many(self, arguments, count, keywords, append_whether);
+}
 
 static PyMethodDef set_methods[] = {
     WORD_METHODS,
@@ -341,9 +345,12 @@ static PyMethodDef set_methods[] = {
      DOC("discard($self, key, /)", "Takes a key out, where it is there.", SOME ">>> some.discard(20); some.discard(5); some\nJudy1([10, 30])")},
     {"remove", set_remove, METH_O,
      DOC("remove($self, key, /)", "Takes a key out; KeyError where it isn't there.", SOME ">>> some.remove(20); some\nJudy1([10, 30])")},
-    {"contains_many", set_contains_many, METH_O,
-     DOC("contains_many($self, keys, /)", "Whether each of the keys of an iterable is there, in a list.",
-         SOME ">>> some.contains_many([20, 15, 30])\n[True, False, True]")},
+    {"contains_many", (PyCFunction)(void (*)(void))set_contains_many, METH_FASTCALL | METH_KEYWORDS,
+     DOC("contains_many($self, keys, /, out=None)",
+         "Whether each of the keys of an iterable is there, in a list. With `out`, a buffer of as many bytes as the buffer `keys` has 64-bit words,\n"
+         "it is told there, and how many are there is answered.",
+         SOME ">>> some.contains_many([20, 15, 30])\n[True, False, True]\n>>> from array import array\n>>> there = bytearray(2)\n"
+              ">>> some.contains_many(array('Q', [15, 30]), out=there), list(there)\n(1, [0, 1])")},
     {"_pick", set_pick, METH_O, "Puts those items of an iterable in that can be keys."},
     {"_combine", (PyCFunction)(void (*)(void))set_combine, METH_METHOD | METH_FASTCALL | METH_KEYWORDS,
      "Makes the set what is wanted of two sets."},
@@ -429,7 +436,10 @@ static PyObject *pair_at(PyObject *object, PyObject *place)
     return sellumaq_judyl_by_count_entry(&self->handle.map, n, &key, &value) ? make_part(ITEMS, make_word(key), value) : raise_no_place(place);
 }
 
-static PyObject *map_get_many(PyObject *self, PyObject *keys) { return look_up_many(self, keys, append_values); }
+static PyObject *map_get_many(PyObject *self, PyObject *const *arguments, Py_ssize_t count, PyObject *keywords)
+{
+    return look_up_many(self, arguments, count, keywords, append_values);
+}
 
 static PyObject *map_pop(PyObject *object, PyObject *const *arguments, Py_ssize_t count)
 {
@@ -456,9 +466,15 @@ static PyMethodDef map_methods[] = {
     {"get", (PyCFunction)(void (*)(void))map_get, METH_FASTCALL,
      DOC("get($self, key, default=None, /)", "The value of a key, or the default where it isn't there.",
          ">>> from sellumaq import JudyL\n>>> squares = JudyL({2: 4})\n>>> squares.get(2), squares.get(3, 7)\n(4, 7)")},
-    {"get_many", map_get_many, METH_O,
-     DOC("get_many($self, keys, /)", "The values of the keys of an iterable, in a list, with None where one isn't there.",
-         ">>> from sellumaq import JudyL\n>>> squares = JudyL({2: 4, 3: 9})\n>>> squares.get_many([3, 5, 2])\n[9, None, 4]")},
+    {"get_many", (PyCFunction)(void (*)(void))map_get_many, METH_FASTCALL | METH_KEYWORDS,
+     DOC("get_many($self, keys, /, out=None)",
+         "The values of the keys of an iterable, in a list, with None where one isn't there. With `out`, a buffer of as many 64-bit words as the\n"
+         "buffer `keys` has, each value is put to its key's place, that of a key that isn't there stays, and how many are there is answered.",
+         ">>> from sellumaq import JudyL\n>>> squares = JudyL({2: 4, 3: 9})\n>>> squares.get_many([3, 5, 2])\n[9, None, 4]\n"
+         ">>> from array import array\n>>> values = array('Q', [7, 7])\n>>> squares.get_many(array('Q', [3, 5]), out=values), values\n"
+         "(1, array('Q', [9, 7]))")},
+    {"_make_of", (PyCFunction)(void (*)(void))map_make_of, METH_FASTCALL, "Makes the map one of a buffer of keys, which must ascend, and one of values."},
+    {"_fill_of", (PyCFunction)(void (*)(void))map_fill_of, METH_FASTCALL, "Puts in the pairs of a buffer of keys and one of values."},
     {"pop", (PyCFunction)(void (*)(void))map_pop, METH_FASTCALL,
      DOC("pop($self, key, default=..., /)", "Takes a key out and answers its value, or the default; KeyError where there is neither.",
          ">>> from sellumaq import JudyL\n>>> squares = JudyL({2: 4})\n>>> squares.pop(2), squares.pop(2, 7)\n(4, 7)")},

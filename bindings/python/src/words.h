@@ -58,6 +58,29 @@ PyObject *map_copy(PyObject *object, PyTypeObject *maps, PyObject *const *argume
                    PyObject *keywords);
 PyObject *words_make(PyObject *object, PyObject *items);
 
+/* word_buffers.c */
+
+/* Lends the items of a buffer of words: those of a list, or the pairs of a table of two columns, as the array has them. False where the object has no
+ * such buffer, and is an iterable as any other. */
+bool lend_items(const Words *self, PyObject *object, Py_buffer *view);
+
+/* The same of a list of words, whatever the array has. */
+bool lend_list_of_words(PyObject *object, Py_buffer *view);
+
+/* Makes the array one of items that ascend; false with an error set, and then it is as it was. */
+bool make_of(Words *self, const uint64_t *items, size_t count);
+
+/* Puts items in, up to one that there is no memory for; false with an error set then. */
+bool put_all(Words *self, const uint64_t *items, size_t count);
+
+/* `_make_of` and `_fill_of` of a map take a buffer of keys and one of values; `_write` writes keys or values into a buffer. */
+PyObject *map_make_of(PyObject *self, PyObject *const *arguments, Py_ssize_t count);
+PyObject *map_fill_of(PyObject *self, PyObject *const *arguments, Py_ssize_t count);
+PyObject *words_write(PyObject *self, PyObject *const *arguments, Py_ssize_t count);
+
+/* Writes what is told of each key of a buffer into another, and answers how many of the keys are there. */
+PyObject *look_up_into(Words *self, PyObject *keys, PyObject *out);
+
 /* word_groups.c: keys that are looked up many at a time. */
 
 /* How many keys are handed to an array at a time. */
@@ -76,8 +99,8 @@ typedef bool Append(Words *self, const Group *group, PyObject *told);
 /* Puts an object of our own, which may be NULL with an error set, behind what a list has; false with an error set. */
 bool append_new(PyObject *list, PyObject *object);
 
-/* What is told of the keys of an iterable, in a list. */
-PyObject *look_up_many(PyObject *object, PyObject *keys, Append *append_told);
+/* What is told of the keys of an iterable, in a list; or into the buffer `out`, where one is given. */
+PyObject *look_up_many(PyObject *object, PyObject *const *arguments, Py_ssize_t count, PyObject *keywords, Append *append_told);
 
 /* word_sets.c: `_combine` makes a set what is wanted of two others, and `_has_any` tells whether that is any key.
  * `sets` is the type of sets. */

@@ -7,8 +7,8 @@
     clippy::redundant_closure,
     clippy::incompatible_msrv
 )]
-use sellumaq::{Judy1, JudyL};
-use std::collections::{BTreeMap, BTreeSet};
+use sellumaq::{Judy1, JudyHs, JudyL, JudySl};
+use std::collections::{BTreeMap, BTreeSet, HashMap};
 use std::os::raw::c_long;
 use std::ptr::read_volatile;
 
@@ -154,6 +154,134 @@ fn measure(pattern: &str, keys: &[u64]) {
     );
     let by_calls = nanoseconds(count, || (), |()| walk_by_the_call(&map));
     tell("judyl", "by-calls", told, "iterate", by_calls);
+    measure_wholes(told, (&set, &map), (&plain_set, &plain));
+}
+
+/// The calls on all keys of an array. Of each three keys two are kept, and as many come to the others.
+fn measure_wholes(
+    told: Keys,
+    (set, map): (&Judy1, &JudyL),
+    (plain_set, plain): (&BTreeSet<u64>, &BTreeMap<u64, u64>),
+) {
+    let others: JudyL = map.iter().map(|(key, value)| (key ^ 1, value)).collect();
+    let plain_others: BTreeMap<u64, u64> = others.iter().collect();
+    side_by_side!("judy1", "clone", told, || set, || plain_set, |it| drop(
+        it.clone()
+    ));
+    side_by_side!(
+        "judy1",
+        "retain",
+        told,
+        || set.clone(),
+        || plain_set.clone(),
+        |it| it.retain(|key| key % 3 != 0)
+    );
+    side_by_side!("judyl", "clone", told, || map, || plain, |it| drop(
+        it.clone()
+    ));
+    side_by_side!(
+        "judyl",
+        "retain",
+        told,
+        || map.clone(),
+        || plain.clone(),
+        |it| it.retain(|key, _| key % 3 != 0)
+    );
+    side_by_side!(
+        "judyl",
+        "append",
+        told,
+        || (map.clone(), others.clone()),
+        || (plain.clone(), plain_others.clone()),
+        |it| it.0.append(&mut it.1)
+    );
+    side_by_side!(
+        "judyl",
+        "pop_first",
+        told,
+        || map.clone(),
+        || plain.clone(),
+        |it| while it.pop_first().is_some() {}
+    );
+}
+
+/// A way to make a string of a number.
+type Text = (&'static str, fn(u64) -> Vec<u8>);
+
+/// A word of ten bytes, as bench/texts.h has them, and a longer string of which many begin alike.
+const TEXTS: [Text; 2] = [("words-of-10", word_of_10), ("urls-of-55", url_of_55)];
+
+fn word_of_10(mut number: u64) -> Vec<u8> {
+    let mut word = Vec::new();
+    for _ in 0..5 {
+        word.push(b"bcdfghjklmnprstvwxyz"[number as usize % 20]);
+        word.push(b"aeiou"[number as usize / 20 % 5]);
+        number /= 100;
+    }
+    word
+}
+
+fn url_of_55(number: u64) -> Vec<u8> {
+    let (site, section) = (number % 200, number / 200 % 1000);
+    format!("https://www.site-{site:03}.example/section-{section:04}/{number:010}").into_bytes()
+}
+
+fn measure_texts(pattern: &str, keys: &[Vec<u8>]) {
+    let pairs = || keys.iter().map(|key| (key.clone(), 1));
+    let others = || keys.iter().map(|key| ([key.as_slice(), b"+"].concat(), 1));
+    let (map, plain): (JudySl, BTreeMap<Vec<u8>, u64>) = (pairs().collect(), pairs().collect());
+    let (more, plain_more): (JudySl, BTreeMap<Vec<u8>, u64>) =
+        (others().collect(), others().collect());
+    let told = (pattern, keys.len());
+    side_by_side!("judysl", "iterate", told, || &map, || &plain, |it| it
+        .iter()
+        .for_each(|pair| see(pair.1)));
+    side_by_side!("judysl", "iterate-back", told, || &map, || &plain, |it| it
+        .iter()
+        .rev()
+        .for_each(|pair| see(pair.1)));
+    side_by_side!("judysl", "clone", told, || &map, || &plain, |it| drop(
+        it.clone()
+    ));
+    side_by_side!(
+        "judysl",
+        "retain",
+        told,
+        || map.clone(),
+        || plain.clone(),
+        |it| it.retain(|key, _| key[key.len() - 1] % 3 != 0)
+    );
+    side_by_side!(
+        "judysl",
+        "append",
+        told,
+        || (map.clone(), more.clone()),
+        || (plain.clone(), plain_more.clone()),
+        |it| it.0.append(&mut it.1)
+    );
+    side_by_side!(
+        "judysl",
+        "pop_first",
+        told,
+        || map.clone(),
+        || plain.clone(),
+        |it| while it.pop_first().is_some() {}
+    );
+    let (hashed, plain): (JudyHs, HashMap<Vec<u8>, u64>) = (pairs().collect(), pairs().collect());
+    side_by_side!("judyhs", "iterate", told, || &hashed, || &plain, |it| it
+        .iter()
+        .for_each(|pair| see(pair.1)));
+    side_by_side!("judyhs", "clone", told, || &hashed, || &plain, |it| drop(
+        it.clone()
+    ));
+    side_by_side!(
+        "judyhs",
+        "retain",
+        told,
+        || hashed.clone(),
+        || plain.clone(),
+        |it| it.retain(|key, _| key[key.len() - 1] % 3 != 0)
+    );
 }
 
 /// The walk of an iterator by the call of C that each of its steps makes, without the iterator.
@@ -169,6 +297,15 @@ fn main() {
     for count in [10_000, 200_000] {
         for (pattern, key) in PATTERNS {
             measure(pattern, &(0..count).map(key).collect::<Vec<_>>());
+        }
+    }
+    let random = |n: u64| n.wrapping_mul(0x9e37_79b9_7f4a_7c15) >> 31;
+    for count in [10_000, 100_000] {
+        for (pattern, key) in TEXTS {
+            measure_texts(
+                pattern,
+                &(0..count).map(random).map(key).collect::<Vec<_>>(),
+            );
         }
     }
 }

@@ -34,7 +34,8 @@ array!(
 
 word_array!(
     Judy1<K: Key>; u64, sellumaq_judy1_walk;
-    sellumaq_judy1_count, sellumaq_judy1_by_count, sellumaq_judy1_first_empty, sellumaq_judy1_last_empty;
+    sellumaq_judy1_count, sellumaq_judy1_by_count, sellumaq_judy1_first_empty, sellumaq_judy1_last_empty,
+    sellumaq_judy1_remove_range;
     "let array = sellumaq::Judy1::from([1, 2, 10]);"
 );
 

@@ -165,8 +165,8 @@ impl<V: Value> JudyHs<V> {
         self.remove(key).map(|value| (key.to_vec(), value))
     }
 
-    /// Takes out each key that isn't to be kept; `keep` may change the values. Where it panics, the keys that it didn't see
-    /// stay.
+    /// Takes out each key that isn't to be kept; `keep` may change the values. Where it panics, that key and those that it didn't see
+    /// stay as they were.
     ///
     /// ```
     /// let mut map = sellumaq::JudyHs::from([("a", 10), ("b", 20)]);
@@ -175,10 +175,12 @@ impl<V: Value> JudyHs<V> {
     /// ```
     pub fn retain(&mut self, mut keep: impl FnMut(&[u8], &mut V) -> bool) {
         let mut list = self.list();
-        while let Some((key, _)) = list.next() {
-            let kept = self.get_mut(key).map(|value| keep(key, value));
-            if kept == Some(false) {
+        while let Some((key, bits)) = list.next() {
+            let mut value = V::of_bits(bits);
+            if !keep(key, &mut value) {
                 self.delete(key);
+            } else if value.bits() != bits {
+                self.insert(key, value);
             }
         }
     }

@@ -39,7 +39,8 @@ array!(
 
 word_array!(
     JudyL<V: Value, K: Key>; sys::sellumaq_pair, sellumaq_judyl_walk;
-    sellumaq_judyl_count, sellumaq_judyl_by_count, sellumaq_judyl_first_empty, sellumaq_judyl_last_empty;
+    sellumaq_judyl_count, sellumaq_judyl_by_count, sellumaq_judyl_first_empty, sellumaq_judyl_last_empty,
+    sellumaq_judyl_remove_range;
     "let array = sellumaq::JudyL::from([(1, 10), (2, 20), (10, 30)]);"
 );
 
@@ -460,8 +461,8 @@ impl<V: Value, K: Key> JudyL<V, K> {
         RangeMut::of(self, SlotSteps(Way::of(Span::of(range))))
     }
 
-    /// Takes out each key that isn't to be kept, by ascending key; `keep` may change the values. Where it panics, the keys
-    /// that it didn't see stay.
+    /// Takes out each key that isn't to be kept, by ascending key; `keep` may change the values. Where it panics, that key and those
+    /// that it didn't see stay as they were.
     ///
     /// ```
     /// let mut map: sellumaq::JudyL = (0..10).map(|n| (n, n)).collect();
@@ -474,11 +475,12 @@ impl<V: Value, K: Key> JudyL<V, K> {
     pub fn retain(&mut self, mut keep: impl FnMut(&K, &mut V) -> bool) {
         // what was brought beyond a key is there still when the key was taken out
         let mut way = Way::of(Span::ALL);
-        while let Some((key, _)) = way.next(self) {
-            let key = K::of_word(key);
-            let kept = self.get_mut(key).map(|value| keep(&key, value));
-            if kept == Some(false) {
+        while let Some((key, bits)) = way.next(self) {
+            let (key, mut value) = (K::of_word(key), V::of_bits(bits));
+            if !keep(&key, &mut value) {
                 self.delete(&key);
+            } else if value.bits() != bits {
+                self.put(key, value);
             }
         }
     }

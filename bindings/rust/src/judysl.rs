@@ -244,8 +244,8 @@ impl<V: Value> JudySl<V> {
         (told == sys::SELLUMAQ_FOUND).then(|| (key[..length].to_vec(), V::of_bits(value)))
     }
 
-    /// Takes out each key that isn't to be kept, by ascending key; `keep` may change the values. Where it panics, the keys
-    /// that it didn't see stay.
+    /// Takes out each key that isn't to be kept, by ascending key; `keep` may change the values. Where it panics, that key and those
+    /// that it didn't see stay as they were.
     ///
     /// ```
     /// let mut map = sellumaq::JudySl::from([("a", 10), ("b", 20)]);
@@ -255,10 +255,12 @@ impl<V: Value> JudySl<V> {
     pub fn retain(&mut self, mut keep: impl FnMut(&[u8], &mut V) -> bool) {
         // what was brought beyond a key is there still when the key was taken out
         let mut way = Way::of(&(..));
-        while let Some((key, _)) = way.next_entry(self) {
-            let kept = self.get_mut(key).map(|value| keep(key, value));
-            if kept == Some(false) {
+        while let Some((key, bits)) = way.next_entry(self) {
+            let mut value = V::of_bits(bits);
+            if !keep(key, &mut value) {
                 self.delete(key);
+            } else if value.bits() != bits {
+                self.insert(key, value);
             }
         }
     }

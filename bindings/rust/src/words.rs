@@ -5,7 +5,8 @@
 macro_rules! word_array {
     (
         $array:ident<$($param:ident: $bound:path),+>; $told:ty, $walk:ident;
-        $count:ident, $by_count:ident, $first_empty:ident, $last_empty:ident; $sample:literal
+        $count:ident, $by_count:ident, $first_empty:ident, $last_empty:ident, $remove_range:ident;
+        $sample:literal
     ) => {
         impl<$($param: $bound),+> $array<$($param),+> {
             fn search(&self, call: Search, from: u64) -> Option<u64> {
@@ -59,6 +60,21 @@ macro_rules! word_array {
             pub fn count(&self, range: impl std::ops::RangeBounds<K>) -> usize {
                 let ends = Span::of(range).ends();
                 ends.map_or(0, |(from, to)| self.count_words(from, to))
+            }
+
+            /// Takes all keys of a range out, and answers how many they were. It can't want memory.
+            ///
+            /// ```
+            #[doc = concat!($sample, "\nlet mut array = array;")]
+            /// assert_eq!((array.remove_range(2..10), array.len()), (1, 2));
+            /// ```
+            pub fn remove_range(&mut self, range: impl std::ops::RangeBounds<K>) -> usize {
+                let Some((from, to)) = Span::of(range).ends() else {
+                    return 0;
+                };
+                // SAFETY: the handle is this array's, lent for this call alone.
+                let keys = unsafe { sellumaq_sys::$remove_range(&mut self.handle, from, to) };
+                keys as usize
             }
 
             /// How many keys lie below a number. No way through them is made.

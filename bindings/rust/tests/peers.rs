@@ -92,6 +92,19 @@ fn sets_of_two_sets() {
                 one.is_disjoint(&other),
             );
             assert_eq!(told, (a.is_subset(b), a.is_superset(b), a.is_disjoint(b)));
+            let told = [
+                one.union_len(&other),
+                one.intersection_len(&other),
+                one.difference_len(&other),
+                one.symmetric_difference_len(&other),
+            ];
+            let plain = [
+                a.union(b).count(),
+                a.intersection(b).count(),
+                a.difference(b).count(),
+                a.symmetric_difference(b).count(),
+            ];
+            assert_eq!(told, plain);
             assert_eq!((one.cmp(&other), one == other), (a.cmp(b), a == b));
             assert_eq!(one.partial_cmp(&other), a.partial_cmp(b));
         }

@@ -60,6 +60,23 @@ fn closures_that_panic_leave_the_array_whole() {
         (words.iter().next(), set.first()),
         (Some((30, 10)), Some(10))
     );
+    // the value that was changed before the panic is as it was, and those that were changed before stay changed
+    panics(|| {
+        words.retain(|key, value| {
+            *value = 7;
+            *key == 30 || panic!()
+        })
+    });
+    assert_eq!((words.get(30), words.get(33)), (Some(7), Some(11)));
+    words.insert(30, 10);
+    let mut hashed: JudyHs = [("a", 1), ("bb", 2)].into();
+    panics(|| {
+        hashed.retain(|key, value| {
+            *value = 7;
+            key.len() == 1 || panic!()
+        })
+    });
+    assert_eq!((hashed.get("a"), hashed.get("bb")), (Some(7), Some(2)));
     panics(|| {
         words.entry(1).or_insert_with(|| panic!());
     });

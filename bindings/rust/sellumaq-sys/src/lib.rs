@@ -131,7 +131,58 @@ extern "C" {
     ) -> u32;
     pub fn sellumaq_judy1_len(set: *const sellumaq_judy1) -> u64;
     pub fn sellumaq_judy1_count(set: *const sellumaq_judy1, from: u64, to: u64) -> u64;
+    pub fn sellumaq_judy1_count_empty(set: *const sellumaq_judy1, from: u64, to: u64) -> u64;
+    pub fn sellumaq_judy1_remove_range(set: *mut sellumaq_judy1, from: u64, to: u64) -> u64;
+    pub fn sellumaq_judy1_copy(made: *mut sellumaq_judy1, set: *const sellumaq_judy1) -> u32;
     pub fn sellumaq_judy1_by_count(set: *const sellumaq_judy1, n: u64, key: *mut u64) -> bool;
+    pub fn sellumaq_judy1_union(
+        made: *mut sellumaq_judy1,
+        one: *const sellumaq_judy1,
+        other: *const sellumaq_judy1,
+    ) -> u32;
+    pub fn sellumaq_judy1_intersection(
+        made: *mut sellumaq_judy1,
+        one: *const sellumaq_judy1,
+        other: *const sellumaq_judy1,
+    ) -> u32;
+    pub fn sellumaq_judy1_difference(
+        made: *mut sellumaq_judy1,
+        one: *const sellumaq_judy1,
+        other: *const sellumaq_judy1,
+    ) -> u32;
+    pub fn sellumaq_judy1_symmetric_difference(
+        made: *mut sellumaq_judy1,
+        one: *const sellumaq_judy1,
+        other: *const sellumaq_judy1,
+    ) -> u32;
+    pub fn sellumaq_judy1_intersection_count(
+        one: *const sellumaq_judy1,
+        other: *const sellumaq_judy1,
+    ) -> u64;
+    pub fn sellumaq_judy1_union_count(
+        one: *const sellumaq_judy1,
+        other: *const sellumaq_judy1,
+    ) -> u64;
+    pub fn sellumaq_judy1_difference_count(
+        one: *const sellumaq_judy1,
+        other: *const sellumaq_judy1,
+    ) -> u64;
+    pub fn sellumaq_judy1_symmetric_difference_count(
+        one: *const sellumaq_judy1,
+        other: *const sellumaq_judy1,
+    ) -> u64;
+    pub fn sellumaq_judy1_is_subset(
+        one: *const sellumaq_judy1,
+        other: *const sellumaq_judy1,
+    ) -> bool;
+    pub fn sellumaq_judy1_is_disjoint(
+        one: *const sellumaq_judy1,
+        other: *const sellumaq_judy1,
+    ) -> bool;
+    pub fn sellumaq_judy1_has_same_keys(
+        one: *const sellumaq_judy1,
+        other: *const sellumaq_judy1,
+    ) -> bool;
     pub fn sellumaq_judy1_free(set: *mut sellumaq_judy1) -> u64;
 }
 
@@ -233,6 +284,9 @@ extern "C" {
     ) -> u32;
     pub fn sellumaq_judyl_len(map: *const sellumaq_judyl) -> u64;
     pub fn sellumaq_judyl_count(map: *const sellumaq_judyl, from: u64, to: u64) -> u64;
+    pub fn sellumaq_judyl_count_empty(map: *const sellumaq_judyl, from: u64, to: u64) -> u64;
+    pub fn sellumaq_judyl_remove_range(map: *mut sellumaq_judyl, from: u64, to: u64) -> u64;
+    pub fn sellumaq_judyl_copy(made: *mut sellumaq_judyl, map: *const sellumaq_judyl) -> u32;
     pub fn sellumaq_judyl_by_count(map: *const sellumaq_judyl, n: u64, key: *mut u64) -> bool;
     pub fn sellumaq_judyl_by_count_entry(
         map: *const sellumaq_judyl,
@@ -245,6 +299,54 @@ extern "C" {
         n: u64,
         key: *mut u64,
         slot: *mut *mut u64,
+    ) -> bool;
+    pub fn sellumaq_judyl_union(
+        made: *mut sellumaq_judyl,
+        one: *const sellumaq_judyl,
+        other: *const sellumaq_judyl,
+    ) -> u32;
+    pub fn sellumaq_judyl_intersection(
+        made: *mut sellumaq_judyl,
+        one: *const sellumaq_judyl,
+        other: *const sellumaq_judyl,
+    ) -> u32;
+    pub fn sellumaq_judyl_difference(
+        made: *mut sellumaq_judyl,
+        one: *const sellumaq_judyl,
+        other: *const sellumaq_judyl,
+    ) -> u32;
+    pub fn sellumaq_judyl_symmetric_difference(
+        made: *mut sellumaq_judyl,
+        one: *const sellumaq_judyl,
+        other: *const sellumaq_judyl,
+    ) -> u32;
+    pub fn sellumaq_judyl_intersection_count(
+        one: *const sellumaq_judyl,
+        other: *const sellumaq_judyl,
+    ) -> u64;
+    pub fn sellumaq_judyl_union_count(
+        one: *const sellumaq_judyl,
+        other: *const sellumaq_judyl,
+    ) -> u64;
+    pub fn sellumaq_judyl_difference_count(
+        one: *const sellumaq_judyl,
+        other: *const sellumaq_judyl,
+    ) -> u64;
+    pub fn sellumaq_judyl_symmetric_difference_count(
+        one: *const sellumaq_judyl,
+        other: *const sellumaq_judyl,
+    ) -> u64;
+    pub fn sellumaq_judyl_is_subset(
+        one: *const sellumaq_judyl,
+        other: *const sellumaq_judyl,
+    ) -> bool;
+    pub fn sellumaq_judyl_is_disjoint(
+        one: *const sellumaq_judyl,
+        other: *const sellumaq_judyl,
+    ) -> bool;
+    pub fn sellumaq_judyl_has_same_keys(
+        one: *const sellumaq_judyl,
+        other: *const sellumaq_judyl,
     ) -> bool;
     pub fn sellumaq_judyl_free(map: *mut sellumaq_judyl) -> u64;
 }
