@@ -1,7 +1,9 @@
 /* Measures arrays of words beside each other, in one run and on the same keys: Sellumaq's, by its own names and by HP's, libJudy's (twice, which
  * shows the run's noise) and, where it is linked, Rust's BTreeMap. measure.h says what it prints.
  *
- *     arrays [KEYS ..]       how many keys, 10000 and 1000000 where none is told
+ *     arrays [KEYS ..]              how many keys, 10000 and 1000000 where none is told
+ *     arrays --sparse [KEYS ..]     sets alone, of pointers and of one word in 4 to one in 100000
+ *     arrays --far                  look-ups alone, among ten million keys
  */
 #define _GNU_SOURCE
 #include <Judy.h>
@@ -12,6 +14,9 @@
 
 /* From so many keys on ranks and n-th keys are measured in the first turn alone: one of libJudy's takes microseconds. */
 enum { MANY = 100000 };
+
+/* From so many on look-ups alone are measured. */
+enum { FAR = 10000000 };
 
 /* One library's array: `A` is its variable, the other words are statements over it and a key `k`, or expressions. A library
  * without rank and select has 0 for `ORDERED`. `BULK_PUT` puts all keys in by ascending order. */
@@ -28,6 +33,11 @@ enum { MANY = 100000 };
         for (word k = 0; NEXT_KEY;) found += k; \
         took(told, WALK, begin, keys->n); \
         EACH(NEXT, word k = keys->order[i] ^ i % 16; if (NEXT_KEY) found += k); \
+        if (keys->n >= FAR) { \
+            A_END; \
+            sink += found; \
+            return; \
+        } \
         if (ORDERED && (keys->n < MANY || told[RANK] < 0)) { \
             EACH(RANK, word k = keys->order[i]; (void)k; found += COUNT_BELOW); \
             EACH(SELECT, word k = keys->order[i] % keys->n + 1; if (NTH) found += k); \
@@ -137,7 +147,23 @@ static const struct array ARRAYS[] = {
 #endif
 };
 
+/* ---- what is measured by itself ---- */
+
+/* The first three are sets, and the first six are by our own names, and libJudy's. */
+enum { SETS = 3, BY_OWN_NAMES = 6 };
+
+static const char *sparse_name(size_t pattern) { return name(USUAL_PATTERNS + pattern); }
+static struct keys *make_sparse(size_t n, size_t pattern) { return make(n, USUAL_PATTERNS + pattern); }
+
+/* Runs, and words far apart. */
+static const char *far_name(size_t pattern) { return name(RUNS + pattern); }
+static struct keys *make_far(size_t n, size_t pattern) { return make(n, RUNS + pattern); }
+
 int main(int count, char **words) {
-    struct program program = {ARRAYS, sizeof ARRAYS / sizeof *ARRAYS, sizeof PATTERNS / sizeof *PATTERNS, name, make, drop};
+    struct program program = {ARRAYS, sizeof ARRAYS / sizeof *ARRAYS, USUAL_PATTERNS, name, make, drop};
+    struct program of_sparse = {ARRAYS, SETS, SPARSE_PATTERNS, sparse_name, make_sparse, drop};
+    struct program of_far = {ARRAYS, BY_OWN_NAMES, 2, far_name, make_far, drop};
+    if (count > 1 && strcmp(words[1], "--sparse") == 0) return measure_all(&of_sparse, count - 1, words + 1);
+    if (count > 1 && strcmp(words[1], "--far") == 0) return measure_all(&of_far, 2, (char *[]){words[0], "10000000"});
     return measure_all(&program, count, words);
 }

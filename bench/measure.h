@@ -183,7 +183,7 @@ static void measure_pattern(const struct program *program, size_t n, size_t patt
 #ifdef COUNTED
     size_t turns = 1;
 #else
-    size_t turns = n <= 1000 ? 200 : n < 100000 ? 50 : 5;
+    size_t turns = n <= 1000 ? 200 : n < 100000 ? 50 : n < 10000000 ? 5 : 2;
 #endif
     for (size_t it = 0; it < program->array_count; it++) runners[it] = begin(&program->arrays[it], keys, program->name(pattern), n);
     for (size_t turn = 0; turn < turns; turn++)

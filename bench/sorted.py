@@ -1,18 +1,18 @@
 #!/usr/bin/env python3
-"""Measures Judy1 and JudyL beside sortedcontainers' SortedSet and SortedDict, and dict and set, in one run.
+"""Measures Judy1, JudyL and JudySL beside sortedcontainers' SortedSet and SortedDict, and dict and set, in one run.
 
     PYTHONPATH=out/python bench/sorted.py [KEYS]
 
 It prints a line for each figure, as the measuring programs in C do: KIND LIBRARY PATTERN KEYS CALL NUMBER, the
 number being nanoseconds of processor time a key, the least of five runs, which take turns. `plain` is a dict or a
 set, which have no order and so lack most of the calls. `range` is a walk over Python's own range of the same
-numbers, which makes each anew as a walk through a Judy array does. """
+numbers, which makes each anew as a walk through a Judy array does. Of strings there are a quarter of so many. """
 
 import random
 import sys
 import time
 
-from sellumaq import BINDING, Judy1, JudyL
+from sellumaq import BINDING, Judy1, JudyL, JudySL
 from sortedcontainers import SortedDict, SortedSet
 
 # By the ctypes binding another name, since its figures are others.
@@ -43,6 +43,24 @@ DICTS = {
     "walk": SETS["walk"],
     "items": lambda it, *_: use_all(it.items()),
 }
+# Walks come first: a key that was put in beside another one, and taken out again, leaves levels behind.
+STRINGS = {
+    "walk": DICTS["walk"],
+    "items": DICTS["items"],
+    "values": lambda it, *_: use_all(it.values()),
+    "back": lambda it, *_: use_all(reversed(it)),
+    "slice": lambda it, *_: it.keys()[:],
+    "slice-back": lambda it, *_: it.keys()[::-1],
+    "copy": lambda it, *_: it.copy(),
+    "get": DICTS["get"],
+    "in": DICTS["in"],
+    "n-th": DICTS["n-th"],
+    "rank": DICTS["rank"],
+    "set": lambda it, keys, _: [it.__setitem__(key + "+", 1) for key in keys],
+    "del": lambda it, keys, _: [it.__delitem__(key + "+") for key in keys],
+}
+# What an array without order lacks.
+BY_PLACES = ("n-th", "rank", "slice", "slice-back")
 
 
 def seconds(work, array, keys, places):
@@ -57,7 +75,7 @@ def measure(named, operations, keys, places):
     for _ in range(5):
         for operation, work in operations.items():
             for name, array in named.items():
-                if hasattr(array, "bisect_left") or operation not in ("n-th", "rank"):
+                if hasattr(array, "bisect_left") or operation not in BY_PLACES:
                     least[name][operation] = min(least[name][operation], seconds(work, array, keys, places))
     return least
 
@@ -85,6 +103,25 @@ def measure_pattern(pattern, keys, chance):
     show("judyl", pattern, count, measure(dicts, DICTS, keys, places))
 
 
+def measure_strings(pattern, keys, chance):
+    """A dict of these strings."""
+    places = [chance.randrange(len(keys)) for _ in keys]
+    pairs = {key: n for n, key in enumerate(keys)}
+    chance.shuffle(keys)
+    dicts = {OURS: JudySL(pairs), "sortedcontainers": SortedDict(pairs), "plain": pairs}
+    show("judysl", pattern, len(keys), measure(dicts, STRINGS, keys, places))
+
+
+def word_of_10(chance):
+    """Five syllables, as bench/texts.h has them."""
+    return "".join(chance.choice(letters) for letters in ("bcdfghjklmnprstvwxyz", "aeiou") * 5)
+
+
+def url_of_100(chance):
+    url = f"https://www.site-{chance.randrange(200):03}.example/section-{chance.randrange(1000):04}/page-"
+    return url + "".join(chance.choices("abcdefghijklmnopqrstuvwxyz", k=100 - len(url)))
+
+
 def main():
     count = int(sys.argv[1]) if len(sys.argv) > 1 else 200_000
     chance = random.Random(1)
@@ -95,6 +132,8 @@ def main():
     for pattern, keys in patterns.items():
         chance.shuffle(keys)
         measure_pattern(pattern, keys, chance)
+    for pattern, make in {"words-of-10": word_of_10, "urls-of-100": url_of_100}.items():
+        measure_strings(pattern, list({make(chance): None for _ in range(count // 4)}), chance)
 
 
 if __name__ == "__main__":

@@ -3,6 +3,8 @@
  *
  *     strings [KEYS ..]       how many keys, 10000 and 1000000 where none is told
  *     strings --dictionary    100000 words of a made-up language alone
+ *     strings --list          100000 words, or as many as there are, of the list that is installed, in /usr/share/dict/words
+ *     strings --skewed [KEYS ..]    URLs of which a few hosts have most, with two kinds of ends
  */
 #define _GNU_SOURCE
 #include <Judy.h>
@@ -173,15 +175,38 @@ static const struct array ARRAYS[] = {
 #endif
 };
 
-/* ---- a dictionary ---- */
+/* ---- what is measured by itself ---- */
 
-static const char *dictionary_name(size_t pattern) { return name(USUAL_PATTERNS + pattern); }
+/* The first three are maps in order, by our own names and libJudy's. */
+enum { IN_ORDER = 3, ALL = sizeof ARRAYS / sizeof *ARRAYS };
 
-static struct keys *make_dictionary(size_t n, size_t pattern) { return make(n, USUAL_PATTERNS + pattern); }
+static size_t first_pattern;
+
+static const char *name_from_first(size_t pattern) { return name(first_pattern + pattern); }
+
+static struct keys *make_from_first(size_t n, size_t pattern) { return make(n, first_pattern + pattern); }
+
+static int measure_from(size_t pattern, size_t patterns, size_t arrays, int count, char **words) {
+    struct program program = {ARRAYS, arrays, patterns, name_from_first, make_from_first, drop_all};
+    first_pattern = pattern;
+    return measure_all(&program, count, words);
+}
+
+static int measure_list(const char *path) {
+    char told[32];
+    size_t count = read_list(path);
+    if (count == 0) {
+        fprintf(stderr, "no list of words here: %s\n", path);
+        return 0;
+    }
+    snprintf(told, sizeof told, "%zu", count < 100000 ? count : 100000);
+    return measure_from(LISTED_WORDS, 1, ALL, 2, (char *[]){"--list", told});
+}
 
 int main(int count, char **words) {
-    struct program program = {ARRAYS, sizeof ARRAYS / sizeof *ARRAYS, USUAL_PATTERNS, name, make, drop_all};
-    struct program dictionary = {ARRAYS, sizeof ARRAYS / sizeof *ARRAYS, 1, dictionary_name, make_dictionary, drop_all};
-    if (count > 1 && strcmp(words[1], "--dictionary") == 0) return measure_all(&dictionary, 2, (char *[]){words[0], "100000"});
-    return measure_all(&program, count, words);
+    const char *alone = count > 1 ? words[1] : "";
+    if (strcmp(alone, "--dictionary") == 0) return measure_from(MADE_UP_WORDS, 1, ALL, 2, (char *[]){words[0], "100000"});
+    if (strcmp(alone, "--list") == 0) return measure_list("/usr/share/dict/words");
+    if (strcmp(alone, "--skewed") == 0) return measure_from(SKEWED_URLS, SKEWED_PATTERNS, IN_ORDER, count - 1, words + 1);
+    return measure_from(0, USUAL_PATTERNS, ALL, count, words);
 }

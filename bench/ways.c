@@ -187,6 +187,6 @@ static const struct array ARRAYS[] = {
 };
 
 int main(int count, char **words) {
-    struct program program = {ARRAYS, sizeof ARRAYS / sizeof *ARRAYS, sizeof PATTERNS / sizeof *PATTERNS, name, make, drop};
+    struct program program = {ARRAYS, sizeof ARRAYS / sizeof *ARRAYS, USUAL_PATTERNS, name, make, drop};
     return measure_all(&program, count, words);
 }

@@ -70,6 +70,14 @@ PAGES_GOAL = 0.5
 COUNTS = {"insert": "insert", "hit": "look-up", "rank": "count", "select": "by_count"}
 COUNTED = ("rank", "select")
 COUNTS_GOAL = 5000.0
+# Of sparse sets, of words of a list and of URLs of few hosts: the greatest ratio in each pattern; of sparse sets with
+# fewer keys another one.
+SPARSE_GOAL = dict.fromkeys(("insert", "hit", "next", "delete"), 1.1) | {"bytes": 1.5}
+SPARSE_FEW, SPARSE_FEW_GOAL = 100000, 1.3
+TEXTS_GOAL = dict.fromkeys(("hit", "miss", "walk", "next", "delete"), 1.0) | {"insert": 1.15, "bytes": 0.9}
+FAR_GOAL = 1.0
+# Of single calls: what is told of each.
+LATENCY = [f"{call}-{what}" for call in ("insert", "hit", "next", "delete") for what in ("99.9%", "most")]
 COUNTS_LOOK_UPS = 10
 # The greatest ratio of all operations together on keys of one hash to those on keys of different ones.
 ONE_HASH_GOAL = 4.0
@@ -85,7 +93,7 @@ CHOSEN_GOAL = 4.0
 RUST_GOAL = 10.0
 RUST_WALKS = ("iterate", "iterate-back", "iter_mut")
 PYTHON_GOAL = 1.0
-PYTHON_WALKS = {"walk": 2.0, "items": 2.0}
+PYTHON_WALKS = dict.fromkeys(("walk", "items", "values", "back", "slice", "slice-back"), 2.0)
 # The tables in which each figure of ours has one of libJudy's beside it.
 BESIDE_LIBJUDY = ["arrays", "dictionary", "small", "empties", "scripts"]
 # In what the work of a call is told.
@@ -250,6 +258,50 @@ def small(told):
     return table.text()
 
 
+def beside(told, goal_of_call):
+    """Ratios to libJudy of each pattern, of our own names and HP's, and what libJudy measured once more has."""
+    table = Table("array", "keys", "pattern", "library", *OPERATIONS)
+    for (array, keys), each in told.items():
+        for pattern in each.patterns():
+            for library in ("sellumaq", "relinked", "again"):
+                goals = goal_of_call(keys) if library == "sellumaq" else {}
+                found = [table.judge(each.ratio(library, pattern, it), goals.get(it)) for it in OPERATIONS]
+                if any(found):
+                    table.row(array, keys_told(keys), pattern, name_of(array, library), *found)
+    return table.text()
+
+
+def sparse(told):
+    """Sets of pointers, and of one word in so many."""
+
+    def goal(keys):
+        few = dict.fromkeys(SPARSE_GOAL.keys() - {"bytes"}, SPARSE_FEW_GOAL) if keys < SPARSE_FEW else {}
+        return SPARSE_GOAL | few
+
+    return beside(told, goal)
+
+
+def texts(told):
+    """Strings that nobody made up, or that are more like those."""
+    return beside(told, lambda _: TEXTS_GOAL)
+
+
+def far(told):
+    """Look-ups in large arrays."""
+    return beside(told, lambda _: dict.fromkeys(("hit", "miss", "next"), FAR_GOAL))
+
+
+def latency(told):
+    """The nanoseconds of single calls: what 999 of 1,000 take at most, and the longest."""
+    table = Table("array", "keys", "pattern", "library", *LATENCY)
+    for (array, keys), each in told.items():
+        for pattern in each.patterns():
+            for library in each.libraries():
+                found = [table.judge(each.number(library, pattern, it), None, 0) for it in LATENCY]
+                table.row(array, keys_told(keys), pattern, name_of(array, library), *found)
+    return table.text()
+
+
 def ways_by(told, to, goal_of_way):
     """Calls that do more at once, as parts of the time of others."""
     table = Table("array", "keys", "pattern", *WAYS.values())
@@ -387,19 +439,26 @@ def chosen(told):
 
 
 def rust(told):
-    """The nanoseconds a key of calls of the Rust crate, and their ratio to std's."""
-    columns = [(keys, pattern) for keys, some in by_keys(told) for pattern in next(iter(some.values())).patterns()]
-    table = Table("array", "call", *(f"{keys:,} {pattern}" for keys, pattern in columns))
-    for array in dict.fromkeys(array for array, _ in told):
-        for call in told[array, columns[0][0]].calls():
+    """The nanoseconds a key of calls of the Rust crate, and their ratio to std's: a table for the arrays of the same
+    patterns and numbers of keys."""
+    columns = {}
+    for (array, keys), each in told.items():
+        columns.setdefault(array, []).extend((keys, pattern) for pattern in each.patterns())
+    tables = {}
+    for array, of_array in columns.items():
+        heads = (f"{keys:,} {pattern}" for keys, pattern in of_array)
+        table = tables.setdefault(tuple(of_array), Table("array", "call", *heads))
+        for call in told[array, of_array[0][0]].calls():
             goal = RUST_GOAL if call in RUST_WALKS else None
-            cells = []
-            for keys, pattern in columns:
-                time = table.judge(told[array, keys].number("sellumaq", pattern, call), None, 0)
-                ratio = table.judge(told[array, keys].ratio("sellumaq", pattern, call, "std"), goal)
-                cells.append(f"{time} ({ratio})" if time else None)
-            table.row(array, call, *cells)
-    return table.text()
+            table.row(array, call, *(rust_cell(table, told[array, keys], pattern, call, goal) for keys, pattern in of_array))
+    return "\n\n".join(table.text() for table in tables.values())
+
+
+def rust_cell(table, each, pattern, call, goal):
+    """The time of a call, and its ratio to std's."""
+    time = table.judge(each.number("sellumaq", pattern, call), None, 0)
+    ratio = table.judge(each.ratio("sellumaq", pattern, call, "std"), goal)
+    return f"{time} ({ratio})" if time else None
 
 
 def python(told):
@@ -444,6 +503,12 @@ TABLES = {
     "one_hash": one_hash,
     "kept": kept,
     "counts": counts,
+    "shared": counts,
+    "sparse": sparse,
+    "word_list": texts,
+    "skewed": texts,
+    "latency": latency,
+    "far": far,
     "pages": pages,
     "empties": empties,
     "scripts": scripts,
