@@ -30,8 +30,10 @@ OWN_FOLDERS = $(if $(filter-out /usr /usr/local,$(PREFIX)),"$(PYTHON_DIR)" "$(di
 # Where Python finds modules under PREFIX, by its own word; a folder of our own where there is no Python.
 PYTHON_DIR = $(or $(shell tools/python_dir "$(PREFIX)" 2>/dev/null),$(PREFIX)/share/sellumaq/python)
 
-# At how many keys `make bench` measures the arrays.
+# At how many keys `make bench` measures the arrays, and which of its parts: tables that tools/bench names, `program` and `bindings`. All but
+# `far` where none is named.
 KEYS = 10000 1000000
+PARTS =
 
 # Where the library for C is left, and what it is made of besides the compiled text.
 LIB := out/lib
@@ -68,7 +70,8 @@ help:
 	@echo 'make install-libjudy  links the library of HP'"'"'s names to where the linker looks for libJudy'
 	@echo 'make install-test  runs the programs of the README over a library that was installed'
 	@echo 'make dist        packs the last commit as sellumaq-$(VERSION).tar.xz'
-	@echo 'make bench       measures the arrays beside libJudy, BTreeMap and HashMap, the program beside BTreeMap, and the bindings beside their peers'
+	@echo 'make bench       measures the arrays beside libJudy, BTreeMap and HashMap, the program beside BTreeMap, and the bindings beside their peers;'
+	@echo '                 PARTS="small counts" those parts alone, of the tables that `tools/bench` tells, program and bindings'
 	@echo 'With the Rattle kit:'
 	@echo 'make test        the gate: every proof and must-fail edit, from nothing, the compiled texts beside what was proved, and make check'
 	@echo 'make proved      proves and builds from the sources, and says whether compiled/ is the same code'
@@ -87,7 +90,7 @@ judystore: compiled/judystore.s compiled/system.c | buildable
 	@mkdir -p out
 	@$(CC) -c compiled/judystore.s -o out/program.o
 	@$(CC) $(C_FLAGS) -fPIE -DFOR_PROGRAM $(CPPFLAGS) $(CFLAGS) $(JOINED) -c compiled/system.c -o out/program_system.o
-	@$(CC) -pie $(HARDENED) $(CFLAGS) $(LDFLAGS) out/program.o out/program_system.o -o out/judystore
+	@$(CC) -pie $(HARDENED) -Wl,--wrap=fdatasync $(CFLAGS) $(LDFLAGS) out/program.o out/program_system.o -o out/judystore
 	@mv out/judystore $@
 	@echo 'built ./$@'
 
@@ -179,12 +182,19 @@ dist:
 
 # Where the figures of a run are kept, of which the pages of figures are made.
 RESULTS = bench/results/$(shell date +%F).csv
+TABLES = $(filter-out program bindings,$(PARTS))
 
-# A million keys take long, forty minutes or more where other work runs beside; 10,000 take five, and the program seven.
+# A million keys take long, an hour or more where other work runs beside; 10,000 take ten minutes, and the program seven.
 bench: lib judystore python
-	@tools/bench $(LIB) --csv $(RESULTS) $(KEYS)
+ifneq ($(or $(TABLES),$(if $(PARTS),,all)),)
+	@tools/bench $(LIB) --csv $(RESULTS) $(addprefix --,$(TABLES)) $(KEYS)
+endif
+ifneq ($(or $(filter program,$(PARTS)),$(if $(PARTS),,all)),)
 	@tools/bench_program ./judystore --csv $(RESULTS)
+endif
+ifneq ($(or $(filter bindings,$(PARTS)),$(if $(PARTS),,all)),)
 	@tools/bench_bindings $(LIB) out/python --csv $(RESULTS)
+endif
 	@tools/tables
 
 # Under DESTDIR, which is for those who pack: the program with its page, and the library with what each language needs to use it. What is
