@@ -25,8 +25,8 @@
  * rank and a place enter at most 8, a neighbour and the nearest word that is no key at most 15. That `test`, `get`, `by_count`, `first`,
  * `first_empty` and the fellows of these two make at most one search each, and `count` two, is read off the code.
  *
- * Memory. A map from strings or byte strings that lost most of its keys keeps the lists of their bytes, which may be about half of what it took,
- * or more. To give that back copy the keys that are left. What a walk through all of them wrote is handed to `sellumaq_judysl_from_sorted` of the same
+ * Memory. A map from strings or byte strings that lost most of its keys keeps each page of their bytes in which one is left. To give these back copy
+ * the keys that are left. What a walk through all of them wrote is handed to `sellumaq_judysl_from_sorted` of the same
  * map. Those of a `sellumaq_judyhs` are put into a new one, and the old one is freed.
  *
  * Machine: a processor of x86-64-v2, which has SSE4.2 and popcnt, and Linux with glibc.
