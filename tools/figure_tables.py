@@ -4,6 +4,14 @@ be; one above it is in bold."""
 import figures
 
 OPERATIONS = ["insert", "hit", "miss", "walk", "next", "rank", "select", "delete", "bulk", "bytes"]
+# What the first page shows of them, and what it calls the arrays.
+SUMMARY = {"insert": "insert", "hit": "look-up", "next": "next key", "rank": "rank", "bytes": "bytes"}
+KINDS = {
+    "judy1": "`Judy1`, a set of words",
+    "judyl": "`JudyL`, words to words",
+    "judysl": "`JudySL`, strings in order",
+    "judyhs": "`JudyHS`, byte strings",
+}
 LIBRARIES = ["sellumaq", "relinked", "btreemap", "hashmap", "again"]
 SMALL = {"insert": "made and freed", "hit": "look-up", "bytes": "bytes"}
 SMALL_GOALS = {"insert": 1.0, "hit": 1.0}
@@ -181,15 +189,25 @@ def means(told):
     return table.text()
 
 
-def short_means(told, operations):
+def short_means(told):
     """The means of Sellumaq, of HP's names and of std's maps, without goals; what is above libJudy's is in bold."""
-    table = Table("array", "library", *operations)
+    table = Table("array", "library", *OPERATIONS)
     for (array, _), each in told.items():
         for library in ("sellumaq", "relinked", std_of(array)):
             level = None if library == std_of(array) else 1.0
-            found = [table.judge(each.mean(library, it), level) for it in operations]
+            found = [table.judge(each.mean(library, it), level) for it in OPERATIONS]
             if all(found[:2]):
                 table.row(array, name_of(array, library), *found)
+    return table.plain()
+
+
+def summary(told):
+    """Some of these means, by the words of the first page."""
+    table = Table("array", *SUMMARY.values())
+    for (array, _), each in told.items():
+        std = std_of(array)
+        for library, name in ("sellumaq", KINDS[array]), ("relinked", "by HP's names"), (std, f"Rust's {name_of(array, std)}"):
+            table.row(name, *(each.mean(library, it) for it in SUMMARY))
     return table.plain()
 
 
