@@ -24,7 +24,7 @@ REPLACED = s|@PREFIX@|$(PREFIX)|; s|@LIBDIR@|$(LIBDIR)|; s|@JUDYDIR@|$(JUDYDIR)|
 # The calls of the header, each of which gets a page, and the folders that a prefix of this project's own has, which go with the last file in
 # them.
 MAN = $(PREFIX)/share/man
-CALLS = $(shell grep -ow 'sellumaq_judy[1a-z]*_[a-z_]*\|sellumaq_version\|sellumaq_error_text' bindings/c/sellumaq.h | sort -u)
+CALLS = $(shell grep -ow 'sellumaq_judy[1a-z]*_[a-z_]*\|sellumaq_version\|sellumaq_error_text\|sellumaq_fault_text' bindings/c/sellumaq.h | sort -u)
 OWN_FOLDERS = $(if $(filter-out /usr /usr/local,$(PREFIX)),"$(PYTHON_DIR)" "$(dir $(PYTHON_DIR))" "$(MAN)" "$(LIBDIR)" $(foreach name,bin include lib share,"$(PREFIX)/$(name)") "$(PREFIX)")
 
 # Where Python finds modules under PREFIX, by its own word; a folder of our own where there is no Python.
@@ -124,11 +124,11 @@ $(LIB)/calls.o: compiled/sellumaq.s | buildable
 	@mkdir -p $(LIB)
 	@$(CC) -c $< -o $@
 
-$(LIB)/sellumaq.o: $(LIB)/calls.o compiled/system.c bindings/c/about.c bindings/c/sellumaq.h
-	@for part in compiled/system bindings/c/about; do \
+$(LIB)/sellumaq.o: $(LIB)/calls.o compiled/system.c bindings/c/about.c bindings/c/files.c bindings/c/sellumaq.h
+	@for part in compiled/system bindings/c/about bindings/c/files; do \
 		$(CC) $(C_FLAGS) -fPIC $(CPPFLAGS) $(CFLAGS) $(JOINED) -c $$part.c -o $(LIB)/$${part##*/}.o || exit 1; \
 	done
-	@$(LD) -r $(LIB)/calls.o $(LIB)/system.o $(LIB)/about.o -o $@
+	@$(LD) -r $(LIB)/calls.o $(LIB)/system.o $(LIB)/about.o $(LIB)/files.o -o $@
 	@$(OBJCOPY) --wildcard --keep-global-symbol='sellumaq_*' $@
 
 $(LIB)/judy.o: $(LIB)/calls.o compiled/system.c $(C_SOURCES)
