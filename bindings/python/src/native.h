@@ -100,6 +100,26 @@ void *make_room(void *list, size_t *room, size_t needed, size_t size);
 /* ValueError for the key at this place. */
 void raise_not_ascending(size_t place);
 
+/* saved.c */
+
+/* The calls by which a kind is saved and loaded. */
+typedef struct {
+    uint32_t (*dump)(const Handle *handle, uint32_t format, const char *name, size_t length, uint8_t *bytes, size_t room, size_t *size);
+    uint32_t (*load)(Handle *handle, const uint8_t *bytes, size_t count, uint32_t *fault);
+    uint32_t (*save)(const Handle *handle, const char *path);
+    uint32_t (*open)(Handle *handle, const char *path, uint32_t *fault);
+} SavedCalls;
+
+extern const SavedCalls judy1_saved, judyl_saved, judysl_saved, judyhs_saved;
+
+/* `tobytes(*, name="array", format=2)` and `save(path)`. */
+PyObject *dump_array(const Handle *handle, const SavedCalls *calls, PyObject *arguments, PyObject *keywords);
+PyObject *save_array(const Handle *handle, const SavedCalls *calls, PyObject *path);
+
+/* Makes a new array of what a buffer lends, or of a file; false with an error set, and then none is made. */
+bool load_array(const SavedCalls *calls, PyObject *lent, Handle *made);
+bool open_array(const SavedCalls *calls, PyObject *path, Handle *made);
+
 /* word_cursor.c and string_cursor.c */
 bool is_word_cursor(PyObject *object);
 bool is_string_cursor(PyObject *object);

@@ -3,6 +3,9 @@
 
 #include "strings.h"
 
+static int judysl_has_text(const Handle *handle) { return map_has_text(&handle->strings); }
+static int judyhs_has_text(const Handle *handle) { return hash_has_text(&handle->hashed); }
+
 #define STRING_CALLS(kind, member)                                                                                  \
     static uint32_t kind##_put(Handle *handle, const uint8_t *key, size_t length, uint64_t value)                    \
     {                                                                                                                \
@@ -18,7 +21,8 @@
     }                                                                                                                \
     static uint64_t kind##_len(Handle *handle) { return sellumaq_##kind##_len(&handle->member); }                    \
     static uint64_t kind##_free(Handle *handle) { return sellumaq_##kind##_free(&handle->member); }                  \
-    static const StringCalls kind##_calls = {kind##_put, kind##_get, kind##_remove, kind##_len, kind##_free};
+    static const StringCalls kind##_calls = {kind##_put,  kind##_get,     kind##_remove, kind##_len,                  \
+                                             kind##_free, &kind##_saved, kind##_has_text};
 
 STRING_CALLS(judysl, strings)
 STRING_CALLS(judyhs, hashed)
@@ -212,6 +216,50 @@ static PyObject *strings_clear(PyObject *object, PyObject *Py_UNUSED(none))
     Py_RETURN_NONE;
 }
 
+/* Makes the map one that was loaded, unless its keys must be str and one isn't. */
+static PyObject *become(Strings *self, Handle made)
+{
+    int is_well = self->is_text ? self->calls->has_text(&made) : 1;
+    if (is_well == 1) {
+        forget_ahead(self);
+        note_change(self, true);
+        self->calls->free(&self->handle);
+        self->handle = made;
+        Py_RETURN_NONE;
+    }
+    self->calls->free(&made);
+    if (is_well < 0)
+        return PyErr_NoMemory();
+    PyErr_SetString(PyExc_ValueError, "not-text: the bytes of a key are no str in UTF-8");
+    return NULL;
+}
+
+static PyObject *strings_tobytes(PyObject *object, PyObject *arguments, PyObject *keywords)
+{
+    Strings *self = (Strings *)object;
+    return dump_array(&self->handle, self->calls->saved, arguments, keywords);
+}
+
+static PyObject *strings_frombytes(PyObject *object, PyObject *lent)
+{
+    Strings *self = (Strings *)object;
+    Handle made;
+    return load_array(self->calls->saved, lent, &made) ? become(self, made) : NULL;
+}
+
+static PyObject *strings_save(PyObject *object, PyObject *path)
+{
+    Strings *self = (Strings *)object;
+    return save_array(&self->handle, self->calls->saved, path);
+}
+
+static PyObject *strings_load(PyObject *object, PyObject *path)
+{
+    Strings *self = (Strings *)object;
+    Handle made;
+    return open_array(self->calls->saved, path, &made) ? become(self, made) : NULL;
+}
+
 static PyObject *strings_get(PyObject *self, PyObject *const *arguments, Py_ssize_t count)
 {
     uint64_t value;
@@ -346,7 +394,25 @@ static PyObject *hash_popitem(PyObject *object, PyObject *Py_UNUSED(none))
          AGES ">>> ages.get('Ada'), ages.get('Bob', 7)\n(36, 7)")}, \
     {"pop", (PyCFunction)(void (*)(void))strings_pop, METH_FASTCALL, \
      DOC("pop($self, key, default=..., /)", "Takes a key out and answers its value, or the default; KeyError where there is neither.", \
-         AGES ">>> ages.pop('Ada'), ages.pop('Ada', 7)\n(36, 7)")}
+         AGES ">>> ages.pop('Ada'), ages.pop('Ada', 7)\n(36, 7)")}, \
+    {"tobytes", (PyCFunction)(void (*)(void))strings_tobytes, METH_VARARGS | METH_KEYWORDS, \
+     DOC("tobytes($self, /, *, name='array', format=2)", \
+         "The dump of the array, in the format JDY2 or JDY1, as judystore, C and Rust read it too. ValueError where none can say it.", \
+         AGES ">>> ages.tobytes()[:4], len(ages.tobytes(format=1))\n(b'JDY2', 58)")}, \
+    {"frombytes", strings_frombytes, METH_O, \
+     DOC("frombytes($self, bytes, /)", \
+         "Replaces what the array holds by that of a dump, of either format, which may be any buffer. ValueError names the fault of one that is none;\n" \
+         "the array is as it was then.", \
+         AGES ">>> other = type(ages)(); other.frombytes(ages.tobytes()); other == ages\nTrue")}, \
+    {"save", strings_save, METH_O, \
+     DOC("save($self, path, /)", \
+         "Saves the array to a file, as `tobytes` tells it, in place of an old one, at once: a file beside takes its name when the disk has it.\n" \
+         "OSError where the system refuses that; the old file is as it was.", \
+         AGES ">>> ages.save('/nowhere/some')\nTraceback (most recent call last):\nFileNotFoundError: [Errno 2] No such file or directory: '/nowhere/some'")}, \
+    {"load", strings_load, METH_O, \
+     DOC("load($self, path, /)", \
+         "Replaces what the array holds by that of a file, as `frombytes` does. Nobody may write to the file meanwhile; `save` doesn't.", \
+         AGES ">>> ages.load('/dev/null')\nTraceback (most recent call last):\nValueError: truncated: the bytes end within the dump")}
 
 static PyMethodDef map_methods[] = {
     STRING_METHODS,

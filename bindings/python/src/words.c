@@ -24,7 +24,7 @@
     static const WordCalls kind##_calls = {                                                               \
         kind##_first,      kind##_next, kind##_last, kind##_prev,  kind##_first_empty, kind##_last_empty, \
         kind##_by_count,   kind##_has,  kind##_remove, kind##_len, kind##_count,       kind##_free,       \
-        kind##_put,        kind##_from_sorted,                                                            \
+        kind##_put,        kind##_from_sorted, &kind##_saved,                                             \
     };
 
 static bool judy1_has(Handle *handle, uint64_t key) { return sellumaq_judy1_test(&handle->set, key); }
@@ -118,6 +118,41 @@ static PyObject *words_clear(PyObject *object, PyObject *Py_UNUSED(none))
     count_changes(self, 1, 0);
     self->calls->free(&self->handle);
     Py_RETURN_NONE;
+}
+
+/* Makes the array one that was loaded. */
+static PyObject *become(Words *self, Handle made)
+{
+    count_changes(self, 1, 0);
+    self->calls->free(&self->handle);
+    self->handle = made;
+    Py_RETURN_NONE;
+}
+
+static PyObject *words_tobytes(PyObject *object, PyObject *arguments, PyObject *keywords)
+{
+    Words *self = (Words *)object;
+    return dump_array(&self->handle, self->calls->saved, arguments, keywords);
+}
+
+static PyObject *words_frombytes(PyObject *object, PyObject *lent)
+{
+    Words *self = (Words *)object;
+    Handle made;
+    return load_array(self->calls->saved, lent, &made) ? become(self, made) : NULL;
+}
+
+static PyObject *words_save(PyObject *object, PyObject *path)
+{
+    Words *self = (Words *)object;
+    return save_array(&self->handle, self->calls->saved, path);
+}
+
+static PyObject *words_load(PyObject *object, PyObject *path)
+{
+    Words *self = (Words *)object;
+    Handle made;
+    return open_array(self->calls->saved, path, &made) ? become(self, made) : NULL;
 }
 
 /* Takes a key out: 1, 0 where it isn't there, -1 with an error set. */
@@ -281,6 +316,24 @@ static PyObject *cursor(PyObject *self, PyTypeObject *defining, PyObject *const 
      DOC("bisect_left($self, number, /)", "How many keys there are below a number.", SOME ">>> some.bisect_left(20)\n1")}, \
     {"bisect_right", bisect_right, METH_O, \
      DOC("bisect_right($self, number, /)", "How many keys there are up to a number.", SOME ">>> some.bisect_right(20)\n2")}, \
+    {"tobytes", (PyCFunction)(void (*)(void))words_tobytes, METH_VARARGS | METH_KEYWORDS, \
+     DOC("tobytes($self, /, *, name='array', format=2)", \
+         "The dump of the array, in the format JDY2 or JDY1, as judystore, C and Rust read it too. ValueError where none can say it.", \
+         SOME ">>> some.tobytes()[:4], len(some.tobytes(format=1))\n(b'JDY2', 55)")}, \
+    {"frombytes", words_frombytes, METH_O, \
+     DOC("frombytes($self, bytes, /)", \
+         "Replaces what the array holds by that of a dump, of either format, which may be any buffer. ValueError names the fault of one that is none;\n" \
+         "the array is as it was then.", \
+         SOME ">>> other = type(some)(); other.frombytes(some.tobytes()); other == some\nTrue")}, \
+    {"save", words_save, METH_O, \
+     DOC("save($self, path, /)", \
+         "Saves the array to a file, as `tobytes` tells it, in place of an old one, at once: a file beside takes its name when the disk has it.\n" \
+         "OSError where the system refuses that; the old file is as it was.", \
+         SOME ">>> some.save('/nowhere/some')\nTraceback (most recent call last):\nFileNotFoundError: [Errno 2] No such file or directory: '/nowhere/some'")}, \
+    {"load", words_load, METH_O, \
+     DOC("load($self, path, /)", \
+         "Replaces what the array holds by that of a file, as `frombytes` does. Nobody may write to the file meanwhile; `save` doesn't.", \
+         SOME ">>> some.load('/dev/null')\nTraceback (most recent call last):\nValueError: truncated: the bytes end within the dump")}, \
     {"_fill", words_fill, METH_O, "Puts the items of an iterable in."}, \
     {"_make", words_make, METH_O, "Makes the array one of the items of an iterable, whose keys must ascend."}, \
     {"_at", item_at, METH_O, "The key at a place, or the list of those of a slice."}, \
