@@ -117,7 +117,8 @@ def build_extension(target, folder=None):
     check_python()
     check_machine()
     text, libraries = ([], [find_library(folder)]) if folder else (find_text(), [])
-    headers = [f"-I{find_python_header()}", f"-I{find_header()}"]
+    # Only for names between quotes: the folder has a strings.h, as the system has one.
+    headers = [f"-I{find_python_header()}", f"-iquote{find_header()}"]
     compile_ = [*find_compiler(), *FLAGS, *headers, *asked_for("CPPFLAGS", "CFLAGS")]
     sources = sorted(os.path.join(SOURCES, name) for name in os.listdir(SOURCES) if name.endswith(".c"))
     with tempfile.TemporaryDirectory() as room:
