@@ -2,7 +2,6 @@
  * And texts that say large numbers, for which no memory is asked. */
 #define _DEFAULT_SOURCE
 #include <errno.h>
-#include <fcntl.h>
 #include <unistd.h>
 
 #include "kinds.h"

@@ -2,7 +2,9 @@
 
 import base64
 import ctypes
+import importlib.util
 import mmap
+import multiprocessing
 import os
 import pathlib
 import pickle
@@ -416,6 +418,29 @@ class Pickles(unittest.TestCase):
             self.assertIs(one, other)
             one.clear()
             self.assertTrue(made)
+
+
+def part_of(kind, count):
+    """What a process makes, and hands on as a pickle."""
+    return filled(kind, count)
+
+
+class Processes(unittest.TestCase):
+    def together(self, parts_of):
+        """Arrays that come back from processes."""
+        for kind in NUMBERS:
+            self.assertEqual(list(parts_of([(kind, count) for count in (0, 5, 900)])), [filled(kind, count) for count in (0, 5, 900)])
+
+    def test_arrays_come_back_from_a_pool(self):
+        with multiprocessing.Pool(2) as pool:
+            self.together(lambda words: pool.starmap(part_of, words))
+
+    @unittest.skipUnless(importlib.util.find_spec("distributed"), "dask.distributed isn't here")
+    def test_arrays_come_back_by_dask(self):
+        from distributed import Client
+
+        with Client(n_workers=2, threads_per_worker=1, dashboard_address=None) as client:
+            self.together(lambda words: client.gather([client.submit(part_of, *each) for each in words]))
 
 
 # As in test_arrays.
