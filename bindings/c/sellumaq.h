@@ -451,9 +451,9 @@ enum {
 /* Writes the array's dump under a name to the front of `bytes`, which has `room` bytes, in the format JDY1 (`format` 1) or JDY2 (2): SELLUMAQ_DONE,
  * and `*size` is how many bytes these are. What stands behind them stays. Else no byte is written, and it is the first that applies of
  * SELLUMAQ_BAD_FORMAT; SELLUMAQ_BAD_NAME; SELLUMAQ_TOO_MANY; of byte strings, whose keys are sorted first, SELLUMAQ_NO_MEMORY where there is none
- * for that, and SELLUMAQ_BAD_KEY where a key has more than SELLUMAQ_KEY_BYTES; and SELLUMAQ_TOO_SMALL where the dump has more bytes than `room`,
- * and `*size` tells how many. `*size` is written at SELLUMAQ_DONE and SELLUMAQ_TOO_SMALL alone. So a `room` of 0 asks for the size, which takes no
- * walk for words, and one for strings. */
+ * for that, and SELLUMAQ_BAD_KEY where a key has more than SELLUMAQ_KEY_BYTES; and SELLUMAQ_TOO_SMALL where the dump has more bytes than `room`, and
+ * `*size` tells how many. `*size` is written at SELLUMAQ_DONE and SELLUMAQ_TOO_SMALL alone. So a `room` of 0 asks for the size, which takes no walk
+ * for words, and one for strings. */
 uint32_t sellumaq_judy1_dump(const sellumaq_judy1 *set, uint32_t format, const uint8_t *name, size_t length,
                              uint8_t *bytes, size_t room, size_t *size);
 uint32_t sellumaq_judyl_dump(const sellumaq_judyl *map, uint32_t format, const uint8_t *name, size_t length,
