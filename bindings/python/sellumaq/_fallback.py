@@ -744,6 +744,10 @@ class _Hash(_Strings):
         self._ahead = _NONE
         super().clear()
 
+    def _load(self, call, *words, path=None):
+        super()._load(call, *words, path=path)
+        self._ahead = _NONE
+
     def popitem(self):
         """Takes out a pair, which may be any, and answers it; KeyError where the dict is empty. Keys are listed an eighth of them at a time."""
         while count := _Array.__len__(self):
@@ -783,7 +787,3 @@ class BytesHash(_Bytes, _Hash):
 
 class TextHash(_Text, _Hash):
     _of_bytes = BytesHash
-
-    def _load(self, call, *words, path=None):
-        super()._load(call, *words, path=path)
-        self._ahead = _NONE
