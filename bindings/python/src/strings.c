@@ -395,24 +395,7 @@ static PyObject *hash_popitem(PyObject *object, PyObject *Py_UNUSED(none))
     {"pop", (PyCFunction)(void (*)(void))strings_pop, METH_FASTCALL, \
      DOC("pop($self, key, default=..., /)", "Takes a key out and answers its value, or the default; KeyError where there is neither.", \
          AGES ">>> ages.pop('Ada'), ages.pop('Ada', 7)\n(36, 7)")}, \
-    {"tobytes", (PyCFunction)(void (*)(void))strings_tobytes, METH_VARARGS | METH_KEYWORDS, \
-     DOC("tobytes($self, /, *, name='array', format=2)", \
-         "The dump of the array, in the format JDY2 or JDY1, as judystore, C and Rust read it too. ValueError where none can say it.", \
-         AGES ">>> ages.tobytes()[:4], len(ages.tobytes(format=1))\n(b'JDY2', 58)")}, \
-    {"frombytes", strings_frombytes, METH_O, \
-     DOC("frombytes($self, bytes, /)", \
-         "Replaces what the array holds by that of a dump, of either format, which may be any buffer. ValueError names the fault of one that is none;\n" \
-         "the array is as it was then.", \
-         AGES ">>> other = type(ages)(); other.frombytes(ages.tobytes()); other == ages\nTrue")}, \
-    {"save", strings_save, METH_O, \
-     DOC("save($self, path, /)", \
-         "Saves the array to a file, as `tobytes` tells it, in place of an old one, at once: a file beside takes its name when the disk has it.\n" \
-         "OSError where the system refuses that; the old file is as it was.", \
-         AGES ">>> ages.save('/nowhere/some')\nTraceback (most recent call last):\nFileNotFoundError: [Errno 2] No such file or directory: '/nowhere/some'")}, \
-    {"load", strings_load, METH_O, \
-     DOC("load($self, path, /)", \
-         "Replaces what the array holds by that of a file, as `frombytes` does. Nobody may write to the file meanwhile; `save` doesn't.", \
-         AGES ">>> ages.load('/dev/null')\nTraceback (most recent call last):\nValueError: truncated: the bytes end within the dump")}
+    SAVED_METHODS(strings, AGES, "ages", "63")
 
 static PyMethodDef map_methods[] = {
     STRING_METHODS,

@@ -316,24 +316,7 @@ static PyObject *cursor(PyObject *self, PyTypeObject *defining, PyObject *const 
      DOC("bisect_left($self, number, /)", "How many keys there are below a number.", SOME ">>> some.bisect_left(20)\n1")}, \
     {"bisect_right", bisect_right, METH_O, \
      DOC("bisect_right($self, number, /)", "How many keys there are up to a number.", SOME ">>> some.bisect_right(20)\n2")}, \
-    {"tobytes", (PyCFunction)(void (*)(void))words_tobytes, METH_VARARGS | METH_KEYWORDS, \
-     DOC("tobytes($self, /, *, name='array', format=2)", \
-         "The dump of the array, in the format JDY2 or JDY1, as judystore, C and Rust read it too. ValueError where none can say it.", \
-         SOME ">>> some.tobytes()[:4], len(some.tobytes(format=1))\n(b'JDY2', 55)")}, \
-    {"frombytes", words_frombytes, METH_O, \
-     DOC("frombytes($self, bytes, /)", \
-         "Replaces what the array holds by that of a dump, of either format, which may be any buffer. ValueError names the fault of one that is none;\n" \
-         "the array is as it was then.", \
-         SOME ">>> other = type(some)(); other.frombytes(some.tobytes()); other == some\nTrue")}, \
-    {"save", words_save, METH_O, \
-     DOC("save($self, path, /)", \
-         "Saves the array to a file, as `tobytes` tells it, in place of an old one, at once: a file beside takes its name when the disk has it.\n" \
-         "OSError where the system refuses that; the old file is as it was.", \
-         SOME ">>> some.save('/nowhere/some')\nTraceback (most recent call last):\nFileNotFoundError: [Errno 2] No such file or directory: '/nowhere/some'")}, \
-    {"load", words_load, METH_O, \
-     DOC("load($self, path, /)", \
-         "Replaces what the array holds by that of a file, as `frombytes` does. Nobody may write to the file meanwhile; `save` doesn't.", \
-         SOME ">>> some.load('/dev/null')\nTraceback (most recent call last):\nValueError: truncated: the bytes end within the dump")}, \
+    SAVED_METHODS(words, SOME, "some", "55"), \
     {"_fill", words_fill, METH_O, "Puts the items of an iterable in."}, \
     {"_make", words_make, METH_O, "Makes the array one of the items of an iterable, whose keys must ascend."}, \
     {"_at", item_at, METH_O, "The key at a place, or the list of those of a slice."}, \
