@@ -395,7 +395,7 @@ static PyObject *hash_popitem(PyObject *object, PyObject *Py_UNUSED(none))
     {"pop", (PyCFunction)(void (*)(void))strings_pop, METH_FASTCALL, \
      DOC("pop($self, key, default=..., /)", "Takes a key out and answers its value, or the default; KeyError where there is neither.", \
          AGES ">>> ages.pop('Ada'), ages.pop('Ada', 7)\n(36, 7)")}, \
-    SAVED_METHODS(strings, AGES, "ages", "63")
+    SAVED_METHODS(strings, AGES, "ages", "58")
 
 static PyMethodDef map_methods[] = {
     STRING_METHODS,
