@@ -64,7 +64,7 @@ enum {
     SELLUMAQ_ADDED = 1,     /* of these: the key was absent, and is there now; of `from_sorted`, `union` and fellows: the array is made */
     SELLUMAQ_NONE = 0,      /* of strings: there is no such key */
     SELLUMAQ_FOUND = 1,     /* of strings and byte strings: the key is there, and what was asked of it is told */
-    SELLUMAQ_DONE = 1,      /* of `dump` and `load`: it is done */
+    SELLUMAQ_DONE = 1,      /* of `dump`, `load`, `split_off`, `append`, `copy_range` and fellows: it is done */
     SELLUMAQ_NO_MEMORY = 2, /* the key is absent, there is no memory for it, and nothing changed; of `from_sorted`: none for the keys */
     SELLUMAQ_FULL = 3,      /* of strings and byte strings (words have no limit but memory): the key is absent, and the map holds 4,294,967,295
                              * keys; of `from_sorted`: the keys are more than that */

@@ -724,7 +724,7 @@ class _OrderedStrings(_Strings):
 
 class BytesMap(_Bytes, _OrderedStrings):
     def _all_keys(self):
-        return (key for key, _ in self._stored())
+        return self._cursor(KEYS, None, None, False)
 
 
 class TextMap(_Text, _OrderedStrings):
