@@ -24,7 +24,7 @@ REPLACED = s|@PREFIX@|$(PREFIX)|; s|@LIBDIR@|$(LIBDIR)|; s|@JUDYDIR@|$(JUDYDIR)|
 # The calls of the header, each of which gets a page, and the folders that a prefix of this project's own has, which go with the last file in
 # them.
 MAN = $(PREFIX)/share/man
-CALLS = $(shell grep -ow 'sellumaq_judy[1a-z]*_[a-z_]*\|sellumaq_version\|sellumaq_error_text' bindings/c/sellumaq.h | sort -u)
+CALLS = $(shell grep -ow 'sellumaq_judy[1a-z]*_[a-z_]*\|sellumaq_version\|sellumaq_error_text\|sellumaq_fault_text' bindings/c/sellumaq.h | sort -u)
 OWN_FOLDERS = $(if $(filter-out /usr /usr/local,$(PREFIX)),"$(PYTHON_DIR)" "$(dir $(PYTHON_DIR))" "$(MAN)" "$(LIBDIR)" $(foreach name,bin include lib share,"$(PREFIX)/$(name)") "$(PREFIX)")
 
 # Where Python finds modules under PREFIX, by its own word; a folder of our own where there is no Python.
@@ -38,10 +38,11 @@ PARTS =
 # Where the library for C is left, and what it is made of besides the compiled text.
 LIB := out/lib
 C_SOURCES := $(wildcard bindings/c/*.h bindings/c/hp/*)
-PYTHON_SOURCES := $(wildcard bindings/python/*.py bindings/python/pyproject.toml bindings/python/src/* bindings/python/sellumaq/*.py* bindings/c/sellumaq.h)
+PYTHON_SOURCES := $(wildcard bindings/python/*.py bindings/python/pyproject.toml bindings/python/src/* bindings/python/sellumaq/*.py* bindings/c/sellumaq.h bindings/c/files.c)
 RUST_FILES := $(patsubst bindings/rust/%,%,$(wildcard bindings/rust/Cargo.toml bindings/rust/README.md bindings/rust/src/*.rs bindings/rust/src/*/*.rs \
 	bindings/rust/sellumaq-sys/Cargo.toml bindings/rust/sellumaq-sys/README.md bindings/rust/sellumaq-sys/build.rs bindings/rust/sellumaq-sys/src/*.rs \
 	bindings/rust/serde/stand-in/Cargo.toml bindings/rust/serde/stand-in/src/*.rs))
+CRATE_TEXTS := compiled/sellumaq.s compiled/system.c bindings/c/files.c bindings/c/sellumaq.h
 C_FLAGS = -std=c11 -D_DEFAULT_SOURCE -O2 -Wall -Wextra
 LIBRARIES := $(addprefix $(LIB)/,libsellumaq.a libsellumaq.so libJudy.a libJudy.so)
 
@@ -124,11 +125,11 @@ $(LIB)/calls.o: compiled/sellumaq.s | buildable
 	@mkdir -p $(LIB)
 	@$(CC) -c $< -o $@
 
-$(LIB)/sellumaq.o: $(LIB)/calls.o compiled/system.c bindings/c/about.c bindings/c/sellumaq.h
-	@for part in compiled/system bindings/c/about; do \
+$(LIB)/sellumaq.o: $(LIB)/calls.o compiled/system.c bindings/c/about.c bindings/c/files.c bindings/c/sellumaq.h
+	@for part in compiled/system bindings/c/about bindings/c/files; do \
 		$(CC) $(C_FLAGS) -fPIC $(CPPFLAGS) $(CFLAGS) $(JOINED) -c $$part.c -o $(LIB)/$${part##*/}.o || exit 1; \
 	done
-	@$(LD) -r $(LIB)/calls.o $(LIB)/system.o $(LIB)/about.o -o $@
+	@$(LD) -r $(LIB)/calls.o $(LIB)/system.o $(LIB)/about.o $(LIB)/files.o -o $@
 	@$(OBJCOPY) --wildcard --keep-global-symbol='sellumaq_*' $@
 
 $(LIB)/judy.o: $(LIB)/calls.o compiled/system.c $(C_SOURCES)
@@ -227,7 +228,7 @@ install-library: lib python
 		ln -sf $$page.3 "$(DESTDIR)$(MAN)/man3/$$call.3" || exit 1; \
 	done
 	for file in $(RUST_FILES); do install -D -m 644 bindings/rust/$$file "$(DESTDIR)$(PREFIX)/share/sellumaq/rust/$$file" || exit 1; done
-	for file in sellumaq.s system.c; do install -D -m 644 compiled/$$file "$(DESTDIR)$(PREFIX)/share/sellumaq/rust/sellumaq-sys/compiled/$$file" || exit 1; done
+	for file in $(CRATE_TEXTS); do install -D -m 644 $$file "$(DESTDIR)$(PREFIX)/share/sellumaq/rust/sellumaq-sys/compiled/$${file##*/}" || exit 1; done
 	install -m 644 out/python/sellumaq/*.* "$(DESTDIR)$(PYTHON_DIR)/sellumaq"
 
 # Links this project's libJudy into the linker's own folder, where programs that were linked against HP's find it once ldconfig has

@@ -11,7 +11,7 @@
  *   - One call at a time is made on an array; what threads may do besides is told below.
  *   - A copy of a handle's word is the same array, so after a change of the one the other must not be used.
  *   - A slot, the pointer to the value of a key, may be read and written until the next call that may change the array: `ins`, `put`,
- *     `insert`, `del`, `remove`, `from_sorted` or `free`.
+ *     `insert`, `del`, `remove`, `from_sorted`, `load`, `open` or `free`.
  *   - A pointer through which a call answers points to a word of the caller's, and a pointer to a key or a buffer to as many bytes, keys
  *     or pairs as are told beside it. It isn't NULL, also where these are none. No two of one call overlap.
  *   - No call is made from within a signal handler.
@@ -32,7 +32,7 @@
  * Machine: a processor of x86-64-v2, which has SSE4.2 and popcnt, and Linux with glibc.
  *
  * Calls that answer through a pointer write there only where they answer true, or SELLUMAQ_FOUND; `insert` where it answers SELLUMAQ_PRESENT, and
- * `from_sorted` where it answers SELLUMAQ_BAD_KEY.
+ * `from_sorted` where it answers SELLUMAQ_BAD_KEY. `dump`, `load` and `open` say it at their place.
  *
  * Not even a delete of the last key makes a handle zeros: the handle keeps the few bytes that it points to, up to `free`. HP's names do so, in
  * the other library.
@@ -64,11 +64,17 @@ enum {
     SELLUMAQ_ADDED = 1,     /* of these: the key was absent, and is there now; of `from_sorted`, `union` and fellows: the array is made */
     SELLUMAQ_NONE = 0,      /* of strings: there is no such key */
     SELLUMAQ_FOUND = 1,     /* of strings and byte strings: the key is there, and what was asked of it is told */
+    SELLUMAQ_DONE = 1,      /* of `dump`, `load`, `split_off`, `append`, `copy_range` and fellows: it is done */
     SELLUMAQ_NO_MEMORY = 2, /* the key is absent, there is no memory for it, and nothing changed; of `from_sorted`: none for the keys */
     SELLUMAQ_FULL = 3,      /* of strings and byte strings (words have no limit but memory): the key is absent, and the map holds 4,294,967,295
                              * keys; of `from_sorted`: the keys are more than that */
     SELLUMAQ_BAD_KEY = 4,   /* of strings and byte strings: the bytes are no key; of `from_sorted` also: a key isn't above the one before it */
-    SELLUMAQ_TOO_SMALL = 5  /* of strings: the key found doesn't fit the caller's buffer */
+    SELLUMAQ_TOO_SMALL = 5, /* of strings: the key found doesn't fit the caller's buffer; of `dump`: the text doesn't */
+    SELLUMAQ_BAD_NAME = 6,  /* of `dump`: the name has no bytes, more than 32, or one that is no ASCII letter, digit, `_` or `-` */
+    SELLUMAQ_TOO_MANY = 7,  /* of `dump`: there are more than 4,294,967,295 keys, which no dump can say */
+    SELLUMAQ_BAD_DUMP = 8,  /* of `load`: the bytes are no dump of one such array, and `*fault` says why */
+    SELLUMAQ_BAD_FORMAT = 9, /* of `dump`: the format is neither 1 nor 2 */
+    SELLUMAQ_SYSTEM = 10    /* of `save` and `open`: a call of the system failed, and errno says why */
 };
 
 /* An answer as text for people, in English and without an end of line: from SELLUMAQ_NO_MEMORY on why the call refused. 0 and 1 mean two things
@@ -418,6 +424,88 @@ uint64_t sellumaq_judyhs_len(const sellumaq_judyhs *map);
 
 /* Gives all memory back, and answers how many keys there were. The handle is the empty array then. */
 uint64_t sellumaq_judyhs_free(sellumaq_judyhs *map);
+
+/* ---- one array as bytes: dump and load, of all four kinds ----
+ *
+ * The bytes are a dump of the store that has this array alone, in one of the two formats of docs/use/formats.md, with the limit 4,294,967,295.
+ * So the same keys and values give the same bytes, on each machine, and judystore reads them too. */
+
+/* Why bytes are no dump of one array: the first fault, in the order of their fields. */
+enum {
+    SELLUMAQ_DUMP_TRUNCATED = 1,   /* they end within the dump */
+    SELLUMAQ_DUMP_BAD_MAGIC = 2,   /* they don't begin with JDY1 or JDY2 */
+    SELLUMAQ_DUMP_TOO_MANY = 3,    /* there are more arrays than 64 */
+    SELLUMAQ_DUMP_BAD_NAME = 4,    /* the name of an array isn't one */
+    SELLUMAQ_DUMP_SAME_NAME = 5,   /* two arrays have one name */
+    SELLUMAQ_DUMP_BAD_KIND = 6,    /* the kind of an array is unknown */
+    SELLUMAQ_DUMP_BAD_LIMIT = 7,   /* the limit of an array is 0, or above 4,294,967,295 */
+    SELLUMAQ_DUMP_BAD_COUNT = 8,   /* an array has more keys than its limit */
+    SELLUMAQ_DUMP_BAD_KEY = 9,     /* bytes of a string or a byte string are no key */
+    SELLUMAQ_DUMP_BAD_ORDER = 10,  /* the keys of an array don't ascend */
+    SELLUMAQ_DUMP_TRAILING = 11,   /* bytes follow the last array */
+    SELLUMAQ_DUMP_BAD_PREFIX = 12, /* of JDY2: a string shares another number of bytes with the one before it than is told */
+    SELLUMAQ_DUMP_NOT_ONE = 13,    /* they are the dump of a store of no array, or of several */
+    SELLUMAQ_DUMP_OTHER_KIND = 14  /* they are the dump of an array of another kind */
+};
+
+/* Writes the array's dump under a name to the front of `bytes`, which has `room` bytes, in the format JDY1 (`format` 1) or JDY2 (2): SELLUMAQ_DONE,
+ * and `*size` is how many bytes these are. What stands behind them stays. Else no byte is written, and it is the first that applies of
+ * SELLUMAQ_BAD_FORMAT; SELLUMAQ_BAD_NAME; SELLUMAQ_TOO_MANY; of byte strings, whose keys are sorted first, SELLUMAQ_NO_MEMORY where there is none
+ * for that, and SELLUMAQ_BAD_KEY where a key has more than SELLUMAQ_KEY_BYTES; and SELLUMAQ_TOO_SMALL where the dump has more bytes than `room`, and
+ * `*size` tells how many. `*size` is written at SELLUMAQ_DONE and SELLUMAQ_TOO_SMALL alone. So a `room` of 0 asks for the size, which takes no walk
+ * for words, and one for strings. */
+uint32_t sellumaq_judy1_dump(const sellumaq_judy1 *set, uint32_t format, const uint8_t *name, size_t length,
+                             uint8_t *bytes, size_t room, size_t *size);
+uint32_t sellumaq_judyl_dump(const sellumaq_judyl *map, uint32_t format, const uint8_t *name, size_t length,
+                             uint8_t *bytes, size_t room, size_t *size);
+uint32_t sellumaq_judysl_dump(const sellumaq_judysl *map, uint32_t format, const uint8_t *name, size_t length,
+                              uint8_t *bytes, size_t room, size_t *size);
+uint32_t sellumaq_judyhs_dump(const sellumaq_judyhs *map, uint32_t format, const uint8_t *name, size_t length,
+                              uint8_t *bytes, size_t room, size_t *size);
+
+/* Makes the array that of which `count` bytes are the dump, under whatever name and limit, in place of what it held, whose memory is given back:
+ * SELLUMAQ_DONE. All `count` bytes are the dump. Else the array is as it was. SELLUMAQ_NO_MEMORY: memory is asked for by the keys that were read,
+ * and never by a number that the bytes say. SELLUMAQ_BAD_DUMP: the bytes are no such dump, and `*fault` is one of SELLUMAQ_DUMP_TRUNCATED and
+ * its fellows; it is written then alone. */
+uint32_t sellumaq_judy1_load(sellumaq_judy1 *set, const uint8_t *bytes, size_t count, uint32_t *fault);
+uint32_t sellumaq_judyl_load(sellumaq_judyl *map, const uint8_t *bytes, size_t count, uint32_t *fault);
+uint32_t sellumaq_judysl_load(sellumaq_judysl *map, const uint8_t *bytes, size_t count, uint32_t *fault);
+uint32_t sellumaq_judyhs_load(sellumaq_judyhs *map, const uint8_t *bytes, size_t count, uint32_t *fault);
+
+/* ---- one array in a file ----
+ *
+ * These aren't among the proved calls: they hand the bytes of files to `dump` and `load`, which are. */
+
+/* How many bytes a dump has: SELLUMAQ_DONE, and `*size` tells it. Else it is what `dump` answers, and nothing is written. */
+uint32_t sellumaq_judy1_dump_size(const sellumaq_judy1 *set, uint32_t format, const uint8_t *name, size_t length, size_t *size);
+uint32_t sellumaq_judyl_dump_size(const sellumaq_judyl *map, uint32_t format, const uint8_t *name, size_t length, size_t *size);
+uint32_t sellumaq_judysl_dump_size(const sellumaq_judysl *map, uint32_t format, const uint8_t *name, size_t length, size_t *size);
+uint32_t sellumaq_judyhs_dump_size(const sellumaq_judyhs *map, uint32_t format, const uint8_t *name, size_t length, size_t *size);
+
+/* Saves the array to a file, as the dump JDY2 under the name `array`: SELLUMAQ_DONE, and the disk has it. The dump is made in memory and written to a
+ * file beside, `.sellumaq-` and numbers, which takes the old one's name when it is whole. So whoever opens the path finds the one or the other, and
+ * a file that can only be read is replaced too, where its folder may be changed. A link is followed. The permissions of the old file are kept, or
+ * they are what the process gives a new one; its owner is who saves.
+ *
+ * Else it is SELLUMAQ_NO_MEMORY, SELLUMAQ_TOO_MANY or SELLUMAQ_BAD_KEY, as of `dump`, or SELLUMAQ_SYSTEM: a call of the system failed, and errno
+ * says why, EINVAL where something stands at the path that is no file. The old file is as it was, and the one beside is gone. Only where the disk
+ * tells a failure when asked to keep the new name the file may be the new one, whole. */
+uint32_t sellumaq_judy1_save(const sellumaq_judy1 *set, const char *path);
+uint32_t sellumaq_judyl_save(const sellumaq_judyl *map, const char *path);
+uint32_t sellumaq_judysl_save(const sellumaq_judysl *map, const char *path);
+uint32_t sellumaq_judyhs_save(const sellumaq_judyhs *map, const char *path);
+
+/* Makes the array that of a file, of either format, in place of what it held, and answers as `load` does, or SELLUMAQ_SYSTEM: a call of the
+ * system failed, errno says why, and the array is as it was. The file is mapped, not copied, so nobody may write to it meanwhile; a save doesn't.
+ * What can't be mapped, such as a pipe, is read up to its end. */
+uint32_t sellumaq_judy1_open(sellumaq_judy1 *set, const char *path, uint32_t *fault);
+uint32_t sellumaq_judyl_open(sellumaq_judyl *map, const char *path, uint32_t *fault);
+uint32_t sellumaq_judysl_open(sellumaq_judysl *map, const char *path, uint32_t *fault);
+uint32_t sellumaq_judyhs_open(sellumaq_judyhs *map, const char *path, uint32_t *fault);
+
+/* A fault of a load as text for people, in English and without an end of line, which begins with its name in docs/use/formats.md; a number that is
+ * no fault has a text that says so. The text is never freed. */
+const char *sellumaq_fault_text(uint32_t fault);
 
 #ifdef __cplusplus
 }

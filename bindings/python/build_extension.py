@@ -29,9 +29,9 @@ class Unbuilt(Exception):
 
 
 def find_text():
-    """The files of the library's compiled text: the assembly, and in C what it asks of the system."""
-    for folder in (os.path.join(HERE, "compiled"), os.path.join(HERE, "../../compiled")):
-        files = [os.path.join(folder, name) for name in ("sellumaq.s", "system.c")]
+    """The files of the library: of its compiled text the assembly, and in C what that asks of the system; and what saves arrays."""
+    for folder, beside in (("compiled", "compiled"), ("../../compiled", "../c")):
+        files = [os.path.join(HERE, path) for path in (f"{folder}/sellumaq.s", f"{folder}/system.c", f"{beside}/files.c")]
         if all(map(os.path.exists, files)):
             return files
     raise Unbuilt("the library's compiled text, compiled/sellumaq.s, isn't here")
@@ -117,7 +117,8 @@ def build_extension(target, folder=None):
     check_python()
     check_machine()
     text, libraries = ([], [find_library(folder)]) if folder else (find_text(), [])
-    headers = [f"-I{find_python_header()}", f"-I{find_header()}"]
+    # Only for names between quotes: the folder has a strings.h, as the system has one.
+    headers = [f"-I{find_python_header()}", f"-iquote{find_header()}"]
     compile_ = [*find_compiler(), *FLAGS, *headers, *asked_for("CPPFLAGS", "CFLAGS")]
     sources = sorted(os.path.join(SOURCES, name) for name in os.listdir(SOURCES) if name.endswith(".c"))
     with tempfile.TemporaryDirectory() as room:

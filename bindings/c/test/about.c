@@ -6,9 +6,9 @@
 
 /* Each answer has a text of its own, which fits a line, and numbers that are no answers share one. */
 static void texts(void) {
-    const char *none = sellumaq_error_text(SELLUMAQ_TOO_SMALL + 1);
+    const char *none = sellumaq_error_text(SELLUMAQ_SYSTEM + 1);
     CHECK(sellumaq_error_text(-1) == none && sellumaq_error_text(1 << 30) == none);
-    for (int number = SELLUMAQ_PRESENT; number <= SELLUMAQ_TOO_SMALL; number++) {
+    for (int number = SELLUMAQ_PRESENT; number <= SELLUMAQ_SYSTEM; number++) {
         const char *text = sellumaq_error_text(number);
         CHECK(*text && strlen(text) < 80 && !strchr(text, '\n') && strcmp(text, none) != 0);
         CHECK((strncmp(text, "no error", 8) == 0) == (number < SELLUMAQ_NO_MEMORY));

@@ -2,6 +2,7 @@
 # in and asked for as anything that has `__index__`, and come as int; a bound may be any number, and any string.
 # What lends a buffer, Python before 3.12 has no name for: it is `Any`.
 
+import os
 from array import array
 from collections.abc import (
     ItemsView,
@@ -31,6 +32,7 @@ _Key = TypeVar("_Key")
 _Asked = TypeVar("_Asked")
 _KeyCo = TypeVar("_KeyCo", covariant=True)
 _BytesLike = bytes | bytearray | memoryview
+_Path = str | bytes | os.PathLike[str] | os.PathLike[bytes]
 
 class _Pairs(Protocol[_KeyCo]):
     def keys(self) -> Iterable[_KeyCo]: ...
@@ -57,6 +59,12 @@ class _Places(Generic[_T]):
 class _PlacedKeys(_Places[_Key], _Keys[_Key]): ...
 class _PlacedItems(_Places[tuple[_Key, int]], _Items[_Key]): ...
 class _PlacedValues(_Places[int], _Values): ...
+
+class _Saved:
+    def tobytes(self, *, name: str | _BytesLike = "array", format: SupportsIndex = 2) -> bytes: ...
+    def frombytes(self, bytes: Any, /) -> None: ...
+    def save(self, path: _Path, /) -> None: ...
+    def load(self, path: _Path, /) -> None: ...
 
 class _Ordered(Generic[_Key, _Asked]):
     def __reversed__(self) -> Iterator[_Key]: ...
@@ -86,7 +94,7 @@ class _Words(_Ordered[int, SupportsIndex]):
     @overload
     def keys_array(self, out: Any) -> int: ...
 
-class Judy1(_Words, MutableSet[int], Sequence[int]):
+class Judy1(_Words, _Saved, MutableSet[int], Sequence[int]):
     def __init__(self, keys: Iterable[SupportsIndex] = ()) -> None: ...
     @classmethod
     def from_sorted(cls, keys: Iterable[SupportsIndex], /) -> Self: ...
@@ -135,7 +143,7 @@ class Judy1(_Words, MutableSet[int], Sequence[int]):
     def __isub__(self, other: Iterable[Any]) -> Self: ...
     def __ixor__(self, other: Iterable[SupportsIndex]) -> Self: ...  # type: ignore[override]
 
-class _Dict(MutableMapping[_Key, int], Generic[_Key, _Asked]):
+class _Dict(_Saved, MutableMapping[_Key, int], Generic[_Key, _Asked]):
     @overload
     def __init__(self, other: _Pairs[_Asked] = ..., /, **more: SupportsIndex) -> None: ...
     @overload

@@ -21,7 +21,7 @@ KEYS, VALUES, ITEMS = range(3)
 FIRST, BOTH, SECOND = 1, 2, 4
 
 try:
-    _library = ctypes.PyDLL(os.environ.get("SELLUMAQ_LIBRARY", "libsellumaq.so.1"))
+    _library, _of_files = (ctypes.PyDLL(os.environ.get("SELLUMAQ_LIBRARY", "libsellumaq.so.1"), use_errno=told) for told in (False, True))
 except OSError as why:
     told = f"sellumaq has no extension here and finds no shared library, which SELLUMAQ_LIBRARY may name: {why}"
     raise ImportError(told) from None
@@ -33,8 +33,8 @@ _buffer = (*_key, ctypes.POINTER(ctypes.c_size_t), _slot)
 _sorted = (ctypes.c_void_p, ctypes.c_size_t, ctypes.POINTER(ctypes.c_size_t))
 
 # What calls answer that have more than yes and no to tell; a yes is 1 too.
-_FOUND, _NO_MEMORY, _FULL, _BAD_KEY = 1, 2, 3, 4
-_PUT = 0, 1
+_FOUND, _NO_MEMORY, _FULL, _BAD_KEY, _TOO_SMALL, _BAD_NAME, _TOO_MANY, _BAD_DUMP, _BAD_FORMAT, _SYSTEM = range(1, 11)
+_DONE, _PUT = 1, (0, 1)
 
 _MISSING = object()
 _NONE = iter(())
@@ -44,8 +44,8 @@ class _Handle(ctypes.Structure):
     _fields_ = [("array", ctypes.c_void_p)]
 
 
-def _call(name, result, *words):
-    call = getattr(_library, "sellumaq_" + name)
+def _call(name, result, *words, library=_library):
+    call = getattr(library, "sellumaq_" + name)
     call.restype = result
     call.argtypes = [ctypes.POINTER(_Handle), *words]
     return call
@@ -54,7 +54,39 @@ def _call(name, result, *words):
 def _calls(kind, result, **calls):
     """The calls of a kind that answer alike, by what they are given, and those that all kinds have."""
     told = {name: _call(f"{kind}_{name}", result, *words) for name, words in calls.items()}
-    return told | {name: _call(f"{kind}_{name}", _word) for name in ("len", "free")}
+    return told | {name: _call(f"{kind}_{name}", _word) for name in ("len", "free")} | _saved_calls(kind)
+
+
+def _saved_calls(kind):
+    """The calls by which a kind is saved and loaded; those of files tell why the system refuses one."""
+    fault, size = ctypes.POINTER(ctypes.c_uint32), ctypes.POINTER(ctypes.c_size_t)
+    return {
+        "dump": _call(f"{kind}_dump", ctypes.c_uint32, ctypes.c_uint32, *_key, *_key, size),
+        "load": _call(f"{kind}_load", ctypes.c_uint32, *_key, fault),
+        "save": _call(f"{kind}_save", ctypes.c_uint32, ctypes.c_char_p, library=_of_files),
+        "open": _call(f"{kind}_open", ctypes.c_uint32, ctypes.c_char_p, fault, library=_of_files),
+    }
+
+
+_fault_text = _library.sellumaq_fault_text
+_fault_text.restype, _fault_text.argtypes = ctypes.c_char_p, [ctypes.c_uint32]
+
+
+def _refused(told, fault=None, path=None):
+    """The error of a dump, a load, a save or an open that wasn't done."""
+    if told == _NO_MEMORY:
+        return MemoryError()
+    if told == _SYSTEM:
+        return OSError(ctypes.get_errno(), os.strerror(ctypes.get_errno()), path)
+    if told == _BAD_DUMP:
+        return ValueError(_fault_text(fault).decode())
+    if told == _TOO_MANY:
+        return OverflowError("more keys than a dump can say, 4,294,967,295")
+    if told == _BAD_NAME:
+        return ValueError("the name isn't 1 to 32 ASCII letters, digits, `_` and `-`")
+    if told == _BAD_FORMAT:
+        return ValueError("the format is neither 1 nor 2")
+    return ValueError("a key of more bytes than a dump can say, 1,024")
 
 
 def _word_calls(kind, **calls):
@@ -145,6 +177,14 @@ def _ascending(pairs):
         yield key, value
 
 
+def _path(path):
+    """A path as C takes it."""
+    encoded = os.fsencode(path)
+    if b"\0" in encoded:
+        raise ValueError("embedded null byte")
+    return encoded
+
+
 class _Array:
     """What all kinds have alike. `_passed` is what C is given for a key, or None where the object can't be one."""
 
@@ -173,6 +213,49 @@ class _Array:
     def clear(self):
         """Takes every key out and gives the memory back."""
         self._change("free")
+
+    def tobytes(self, *, name="array", format=2):
+        """The dump of the array, in the format JDY2 or JDY1, as judystore, C and Rust read it too. ValueError where none can say it."""
+        form, size, told = whole(format), ctypes.c_size_t(), _TOO_SMALL
+        if form not in (1, 2):
+            raise _refused(_BAD_FORMAT)
+        encoded = name.encode() if isinstance(name, str) else bytes(memoryview(name))
+        while told == _TOO_SMALL:
+            room = size.value
+            text = ctypes.create_string_buffer(room + 1)
+            told = self._calls["dump"](self._handle, form, encoded, len(encoded), text, room, size)
+        if told != _DONE:
+            raise _refused(told)
+        return ctypes.string_at(text, size.value)
+
+    def frombytes(self, lent, /):
+        """Replaces what the array holds by that of a dump, of either format, which may be any buffer. ValueError names the fault of one that is none;
+        the array is as it was then."""
+        with memoryview(lent) as view:
+            if not view.c_contiguous:
+                raise BufferError("the bytes of the buffer don't stand in a row")
+            dump = view.tobytes()
+        self._load("load", dump, len(dump))
+
+    def save(self, path, /):
+        """Saves the array to a file, as `tobytes` tells it, in place of an old one, at once: a file beside takes its name when the disk has it.
+        OSError where the system refuses that; the old file is as it was."""
+        path = os.fspath(path)
+        told = self._calls["save"](self._handle, _path(path))
+        if told != _DONE:
+            raise _refused(told, path=path)
+
+    def load(self, path, /):
+        """Replaces what the array holds by that of a file, as `frombytes` does. Nobody may write to the file meanwhile; `save` doesn't."""
+        path = os.fspath(path)
+        self._load("open", _path(path), path=path)
+
+    def _load(self, call, *words, path=None):
+        """Makes the array one of a dump. One call does it, so that no key comes or goes meanwhile."""
+        fault = ctypes.c_uint32()
+        told = self._change(call, *words, fault)
+        if told != _DONE:
+            raise _refused(told, fault, path)
 
     def _made(self, call, words, count, *strings):
         """Makes the array one of so many keys, of which a list of words tells."""
@@ -470,6 +553,18 @@ def _cut(text, ends):
 
 
 class _Text:
+    def _load(self, call, *words, path=None):
+        """What is loaded goes into a map from bytes first, whose keys must be str."""
+        made = self._of_bytes()
+        made._load(call, *words, path=path)
+        try:
+            for key in made._all_keys():
+                self._object(key)
+        except UnicodeDecodeError:
+            raise ValueError("not-text: the bytes of a key are no str in UTF-8") from None
+        dump = made.tobytes()
+        super()._load("load", dump, len(dump))
+
     @staticmethod
     def _bytes(key):
         if not isinstance(key, str):
@@ -627,12 +722,13 @@ class _OrderedStrings(_Strings):
             last, itself = pairs[-1][0], False
 
 
-class TextMap(_Text, _OrderedStrings):
-    pass
-
-
 class BytesMap(_Bytes, _OrderedStrings):
-    pass
+    def _all_keys(self):
+        return self._cursor(KEYS, None, None, False)
+
+
+class TextMap(_Text, _OrderedStrings):
+    _of_bytes = BytesMap
 
 
 class _Hash(_Strings):
@@ -647,6 +743,10 @@ class _Hash(_Strings):
         """Takes every key out and gives the memory back."""
         self._ahead = _NONE
         super().clear()
+
+    def _load(self, call, *words, path=None):
+        super()._load(call, *words, path=path)
+        self._ahead = _NONE
 
     def popitem(self):
         """Takes out a pair, which may be any, and answers it; KeyError where the dict is empty. Keys are listed an eighth of them at a time."""
@@ -680,9 +780,10 @@ class _Hash(_Strings):
         return keys if part == KEYS else list(zip(keys, values))
 
 
-class TextHash(_Text, _Hash):
-    pass
-
-
 class BytesHash(_Bytes, _Hash):
-    pass
+    def _all_keys(self):
+        return self._list(KEYS)
+
+
+class TextHash(_Text, _Hash):
+    _of_bytes = BytesHash

@@ -2,10 +2,26 @@
 
 from __future__ import annotations
 
-from collections.abc import Iterable, Mapping, MutableMapping
+from collections.abc import Callable, Iterable, Mapping, MutableMapping
 from typing import Any
 
 _MISSING = object()
+
+
+def from_dump(kind: type, dump: bytes) -> Any:
+    """The array of a kind that a pickle has as a dump."""
+    made = kind.__new__(kind)
+    made.frombytes(dump)
+    return made
+
+
+def reduced(array: Any, items: Callable[[Any], Any]) -> Any:
+    """What a pickle has of an array: its dump; or, where none can say it, as of byte strings of more than 1,024 bytes, its items."""
+    attributes = getattr(array, "__dict__", None) or None
+    try:
+        return from_dump, (type(array), array.tobytes()), attributes
+    except (ValueError, OverflowError):
+        return type(array), (items(array),), attributes
 
 
 def pairs_of(other: Any) -> Iterable[Any]:
@@ -83,7 +99,7 @@ class Copied:
         return self.copy()
 
     def __reduce__(self) -> Any:
-        return type(self), (dict(self.items()),), getattr(self, "__dict__", None) or None
+        return reduced(self, lambda array: dict(array.items()))
 
     def __or__(self, other: Any) -> Any:
         if not isinstance(other, Mapping):

@@ -9,7 +9,7 @@ from typing import TYPE_CHECKING, Any, SupportsIndex
 
 from . import _core
 from ._core import BOTH, FIRST, ITEMS, KEYS, MAX, SECOND, VALUES
-from ._maps import Copied, Dict
+from ._maps import Copied, Dict, reduced
 from ._places import Placed, PlacedDict
 
 if TYPE_CHECKING:
@@ -155,7 +155,7 @@ class Judy1(_core.WordSet, _Ordered, Placed, MutableSet, Sequence):
         return self.copy()
 
     def __reduce__(self) -> Any:
-        return type(self), (list(self),), getattr(self, "__dict__", None) or None
+        return reduced(self, list)
 
     def update(self, *others: Iterable[SupportsIndex]) -> None:
         """Puts the keys of iterables in. An error leaves those before it.

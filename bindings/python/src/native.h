@@ -100,6 +100,48 @@ void *make_room(void *list, size_t *room, size_t needed, size_t size);
 /* ValueError for the key at this place. */
 void raise_not_ascending(size_t place);
 
+/* saved.c */
+
+/* The calls by which a kind is saved and loaded. */
+typedef struct {
+    uint32_t (*dump)(const Handle *handle, uint32_t format, const char *name, size_t length, uint8_t *bytes, size_t room, size_t *size);
+    uint32_t (*load)(Handle *handle, const uint8_t *bytes, size_t count, uint32_t *fault);
+    uint32_t (*save)(const Handle *handle, const char *path);
+    uint32_t (*open)(Handle *handle, const char *path, uint32_t *fault);
+} SavedCalls;
+
+extern const SavedCalls judy1_saved, judyl_saved, judysl_saved, judyhs_saved;
+
+/* `tobytes(*, name="array", format=2)` and `save(path)`. */
+PyObject *dump_array(const Handle *handle, const SavedCalls *calls, PyObject *arguments, PyObject *keywords);
+PyObject *save_array(const Handle *handle, const SavedCalls *calls, PyObject *path);
+
+/* Makes a new array of what a buffer lends, or of a file; false with an error set, and then none is made. */
+bool load_array(const SavedCalls *calls, PyObject *lent, Handle *made);
+bool open_array(const SavedCalls *calls, PyObject *path, Handle *made);
+
+/* The methods of sets and maps by these. An example's line `sample` makes `array`, whose dump has so many bytes in the format JDY1. */
+#define SAVED_METHODS(type, sample, array, size) \
+    {"tobytes", (PyCFunction)(void (*)(void))type##_tobytes, METH_VARARGS | METH_KEYWORDS, \
+     DOC("tobytes($self, /, *, name='array', format=2)", \
+         "The dump of the array, in the format JDY2 or JDY1, as judystore, C and Rust read it too. ValueError where none can say it.", \
+         sample ">>> " array ".tobytes()[:4], len(" array ".tobytes(format=1))\n(b'JDY2', " size ")")}, \
+    {"frombytes", type##_frombytes, METH_O, \
+     DOC("frombytes($self, bytes, /)", \
+         "Replaces what the array holds by that of a dump, of either format, which may be any buffer. ValueError names the fault of one that\n" \
+         "is none; the array is as it was then.", \
+         sample ">>> other = type(" array ")(); other.frombytes(" array ".tobytes()); other == " array "\nTrue")}, \
+    {"save", type##_save, METH_O, \
+     DOC("save($self, path, /)", \
+         "Saves the array to a file, as `tobytes` tells it, in place of an old one, at once: a file beside takes its name when the disk has\n" \
+         "it. OSError where the system refuses that; the old file is as it was.", \
+         sample ">>> " array ".save('/nowhere/array')\nTraceback (most recent call last):\n" \
+                "FileNotFoundError: [Errno 2] No such file or directory: '/nowhere/array'")}, \
+    {"load", type##_load, METH_O, \
+     DOC("load($self, path, /)", \
+         "Replaces what the array holds by that of a file, as `frombytes` does. Nobody may write to the file meanwhile; `save` doesn't.", \
+         sample ">>> " array ".load('/dev/null')\nTraceback (most recent call last):\nValueError: truncated: the bytes end within the dump")}
+
 /* word_cursor.c and string_cursor.c */
 bool is_word_cursor(PyObject *object);
 bool is_string_cursor(PyObject *object);

@@ -24,8 +24,7 @@ static bool grow(Told *told, size_t bytes)
     return more != NULL;
 }
 
-/* Asks for so many keys before an object is made of one, so that the map can't change meanwhile. False where there is no memory. */
-static bool tell(const sellumaq_judyhs *map, size_t count, Told *told)
+bool tell_keys(const sellumaq_judyhs *map, size_t count, Told *told)
 {
     size_t used = 0, room = 8 * count < LEAST_ROOM ? LEAST_ROOM : 8 * count, taken;
     told->entries = PyMem_Malloc(count * sizeof *told->entries);
@@ -59,7 +58,7 @@ static PyObject *make_list(const Strings *map, enum part part, const Told *told)
     return list;
 }
 
-static void forget(Told *told)
+void forget_told(Told *told)
 {
     PyMem_Free(told->bytes);
     PyMem_Free(told->entries);
@@ -70,14 +69,14 @@ PyObject *list_of(Strings *map, enum part part)
 {
     Told told = {NULL, NULL, 0};
     const sellumaq_judyhs *hashed = &map->handle.hashed;
-    PyObject *list = tell(hashed, sellumaq_judyhs_len(hashed), &told) ? make_list(map, part, &told) : PyErr_NoMemory();
-    forget(&told);
+    PyObject *list = tell_keys(hashed, sellumaq_judyhs_len(hashed), &told) ? make_list(map, part, &told) : PyErr_NoMemory();
+    forget_told(&told);
     return list;
 }
 
 void forget_ahead(Strings *map)
 {
-    forget(&map->ahead);
+    forget_told(&map->ahead);
     map->place = map->begin = 0;
 }
 
@@ -85,7 +84,7 @@ static bool tell_ahead(Strings *map)
 {
     size_t count = sellumaq_judyhs_len(&map->handle.hashed), most = count / SHARE_AHEAD + LEAST_AHEAD;
     forget_ahead(map);
-    bool told = tell(&map->handle.hashed, count < most ? count : most, &map->ahead);
+    bool told = tell_keys(&map->handle.hashed, count < most ? count : most, &map->ahead);
     if (!told)
         forget_ahead(map);
     return told;

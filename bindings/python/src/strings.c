@@ -3,6 +3,9 @@
 
 #include "strings.h"
 
+static int judysl_has_text(const Handle *handle) { return map_has_text(&handle->strings); }
+static int judyhs_has_text(const Handle *handle) { return hash_has_text(&handle->hashed); }
+
 #define STRING_CALLS(kind, member)                                                                                  \
     static uint32_t kind##_put(Handle *handle, const uint8_t *key, size_t length, uint64_t value)                    \
     {                                                                                                                \
@@ -18,7 +21,8 @@
     }                                                                                                                \
     static uint64_t kind##_len(Handle *handle) { return sellumaq_##kind##_len(&handle->member); }                    \
     static uint64_t kind##_free(Handle *handle) { return sellumaq_##kind##_free(&handle->member); }                  \
-    static const StringCalls kind##_calls = {kind##_put, kind##_get, kind##_remove, kind##_len, kind##_free};
+    static const StringCalls kind##_calls = {kind##_put,  kind##_get,     kind##_remove, kind##_len,                  \
+                                             kind##_free, &kind##_saved, kind##_has_text};
 
 STRING_CALLS(judysl, strings)
 STRING_CALLS(judyhs, hashed)
@@ -212,6 +216,50 @@ static PyObject *strings_clear(PyObject *object, PyObject *Py_UNUSED(none))
     Py_RETURN_NONE;
 }
 
+/* Makes the map one that was loaded, unless its keys must be str and one isn't. */
+static PyObject *become(Strings *self, Handle made)
+{
+    int is_well = self->is_text ? self->calls->has_text(&made) : 1;
+    if (is_well == 1) {
+        forget_ahead(self);
+        note_change(self, true);
+        self->calls->free(&self->handle);
+        self->handle = made;
+        Py_RETURN_NONE;
+    }
+    self->calls->free(&made);
+    if (is_well < 0)
+        return PyErr_NoMemory();
+    PyErr_SetString(PyExc_ValueError, "not-text: the bytes of a key are no str in UTF-8");
+    return NULL;
+}
+
+static PyObject *strings_tobytes(PyObject *object, PyObject *arguments, PyObject *keywords)
+{
+    Strings *self = (Strings *)object;
+    return dump_array(&self->handle, self->calls->saved, arguments, keywords);
+}
+
+static PyObject *strings_frombytes(PyObject *object, PyObject *lent)
+{
+    Strings *self = (Strings *)object;
+    Handle made;
+    return load_array(self->calls->saved, lent, &made) ? become(self, made) : NULL;
+}
+
+static PyObject *strings_save(PyObject *object, PyObject *path)
+{
+    Strings *self = (Strings *)object;
+    return save_array(&self->handle, self->calls->saved, path);
+}
+
+static PyObject *strings_load(PyObject *object, PyObject *path)
+{
+    Strings *self = (Strings *)object;
+    Handle made;
+    return open_array(self->calls->saved, path, &made) ? become(self, made) : NULL;
+}
+
 static PyObject *strings_get(PyObject *self, PyObject *const *arguments, Py_ssize_t count)
 {
     uint64_t value;
@@ -346,7 +394,8 @@ static PyObject *hash_popitem(PyObject *object, PyObject *Py_UNUSED(none))
          AGES ">>> ages.get('Ada'), ages.get('Bob', 7)\n(36, 7)")}, \
     {"pop", (PyCFunction)(void (*)(void))strings_pop, METH_FASTCALL, \
      DOC("pop($self, key, default=..., /)", "Takes a key out and answers its value, or the default; KeyError where there is neither.", \
-         AGES ">>> ages.pop('Ada'), ages.pop('Ada', 7)\n(36, 7)")}
+         AGES ">>> ages.pop('Ada'), ages.pop('Ada', 7)\n(36, 7)")}, \
+    SAVED_METHODS(strings, AGES, "ages", "58")
 
 static PyMethodDef map_methods[] = {
     STRING_METHODS,

@@ -11,6 +11,8 @@ typedef struct {
     bool (*remove)(Handle *handle, const uint8_t *key, size_t length, uint64_t *value);
     uint64_t (*len)(Handle *handle);
     uint64_t (*free)(Handle *handle);
+    const SavedCalls *saved;
+    int (*has_text)(const Handle *handle); /* whether each key is a str; -1 where there is no memory for a list of them */
 } StringCalls;
 
 /* What a walk told of keys: their bytes, one key behind the other, and the length and the value of each. */
@@ -73,6 +75,15 @@ PyObject *next_ahead(Strings *map);
 
 /* Gives the memory back of what was told ahead. */
 void forget_ahead(Strings *map);
+
+/* Asks for so many keys of a map without order before an object is made of one, so that the map can't change meanwhile. False where there is no
+ * memory. */
+bool tell_keys(const sellumaq_judyhs *map, size_t count, Told *told);
+void forget_told(Told *told);
+
+/* string_text.c: whether each key is a str. Of a map without order they are listed: -1 where there is no memory for that. */
+bool map_has_text(const sellumaq_judysl *map);
+int hash_has_text(const sellumaq_judyhs *map);
 
 /* string_fill.c: of maps in order `_begin`, by which `_fill` begins, and `_make`, in which `from_sorted` ends. */
 PyObject *strings_begin(PyObject *object, PyObject *pairs);

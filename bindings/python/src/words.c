@@ -24,7 +24,7 @@
     static const WordCalls kind##_calls = {                                                               \
         kind##_first,      kind##_next, kind##_last, kind##_prev,  kind##_first_empty, kind##_last_empty, \
         kind##_by_count,   kind##_has,  kind##_remove, kind##_len, kind##_count,       kind##_free,       \
-        kind##_put,        kind##_from_sorted,                                                            \
+        kind##_put,        kind##_from_sorted, &kind##_saved,                                             \
     };
 
 static bool judy1_has(Handle *handle, uint64_t key) { return sellumaq_judy1_test(&handle->set, key); }
@@ -118,6 +118,41 @@ static PyObject *words_clear(PyObject *object, PyObject *Py_UNUSED(none))
     count_changes(self, 1, 0);
     self->calls->free(&self->handle);
     Py_RETURN_NONE;
+}
+
+/* Makes the array one that was loaded. */
+static PyObject *become(Words *self, Handle made)
+{
+    count_changes(self, 1, 0);
+    self->calls->free(&self->handle);
+    self->handle = made;
+    Py_RETURN_NONE;
+}
+
+static PyObject *words_tobytes(PyObject *object, PyObject *arguments, PyObject *keywords)
+{
+    Words *self = (Words *)object;
+    return dump_array(&self->handle, self->calls->saved, arguments, keywords);
+}
+
+static PyObject *words_frombytes(PyObject *object, PyObject *lent)
+{
+    Words *self = (Words *)object;
+    Handle made;
+    return load_array(self->calls->saved, lent, &made) ? become(self, made) : NULL;
+}
+
+static PyObject *words_save(PyObject *object, PyObject *path)
+{
+    Words *self = (Words *)object;
+    return save_array(&self->handle, self->calls->saved, path);
+}
+
+static PyObject *words_load(PyObject *object, PyObject *path)
+{
+    Words *self = (Words *)object;
+    Handle made;
+    return open_array(self->calls->saved, path, &made) ? become(self, made) : NULL;
 }
 
 /* Takes a key out: 1, 0 where it isn't there, -1 with an error set. */
@@ -281,6 +316,7 @@ static PyObject *cursor(PyObject *self, PyTypeObject *defining, PyObject *const 
      DOC("bisect_left($self, number, /)", "How many keys there are below a number.", SOME ">>> some.bisect_left(20)\n1")}, \
     {"bisect_right", bisect_right, METH_O, \
      DOC("bisect_right($self, number, /)", "How many keys there are up to a number.", SOME ">>> some.bisect_right(20)\n2")}, \
+    SAVED_METHODS(words, SOME, "some", "55"), \
     {"_fill", words_fill, METH_O, "Puts the items of an iterable in."}, \
     {"_make", words_make, METH_O, "Makes the array one of the items of an iterable, whose keys must ascend."}, \
     {"_at", item_at, METH_O, "The key at a place, or the list of those of a slice."}, \

@@ -18,6 +18,7 @@ typedef struct {
     /* An item of a set is a key, one of a map a key and its value behind it. */
     uint32_t (*put)(Handle *handle, const uint64_t *item);
     uint32_t (*from_sorted)(Handle *handle, const uint64_t *items, size_t count, size_t *place);
+    const SavedCalls *saved;
 } WordCalls;
 
 typedef struct {

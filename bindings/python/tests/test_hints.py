@@ -17,6 +17,7 @@ PACKAGE = os.path.dirname(os.path.abspath(sellumaq.__file__))
 # A program as mypy must see it: each `assert_type` holds, each line that is told to be wrong is wrong, and no other is.
 PROGRAM = """
 from collections.abc import Iterator, MutableMapping, MutableSet
+from pathlib import Path
 from typing import assert_type
 
 from sellumaq import MAX, Judy1, JudyHS, JudyHSBytes, JudyL, JudySL, JudySLBytes
@@ -47,6 +48,10 @@ assert_type(squares.items()[0], tuple[int, int])
 assert_type(squares.peekitem(), tuple[int, int])
 assert_type(squares.copy() | {1: 2}, JudyL)
 assert_type(JudyL.from_sorted([(1, 2)]), JudyL)
+assert_type(squares.tobytes(name="squares", format=1), bytes)
+squares.frombytes(memoryview(squares.tobytes()))
+squares.save(Path("squares"))
+squares.load(5)  # type: ignore[arg-type]
 squares[1] = "a"  # type: ignore[assignment]
 squares["a"] = 1  # type: ignore[index]
 

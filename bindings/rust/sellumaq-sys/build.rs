@@ -1,5 +1,5 @@
-//! Builds libsellumaq from its compiled text, `compiled/sellumaq.s` and `compiled/system.c`, and links it statically.
-//! A C compiler and binutils are all that it needs.
+//! Builds libsellumaq from its compiled text, `compiled/sellumaq.s` and `compiled/system.c`, and from `files.c`, which saves arrays,
+//! and links it statically. A C compiler and binutils are all that it needs.
 //!
 //! What it reads of the environment:
 //!
@@ -83,12 +83,15 @@ fn build(folder: &str) -> Done<()> {
     drop(fs::remove_file(Path::new(folder).join("libsellumaq.a")));
     refuse_other_targets()?;
     let (calls, system) = (text("sellumaq.s")?, text("system.c")?);
+    let (files, _) = (text("files.c")?, text("sellumaq.h")?);
     let run = |tool: &Tool, arguments: &[&str]| tool.run(folder, arguments);
     let c = Tool::find("CC", "cc", "C compiler");
     run(&c, &["-c", &calls, "-o", "calls.o"])?;
     run(&c, &["-O2", "-fPIC", "-c", &system, "-o", "system.o"])?;
+    run(&c, &["-O2", "-fPIC", "-c", &files, "-o", "files.o"])?;
     let ld = Tool::find("LD", "ld", "linker");
-    run(&ld, &["-r", "calls.o", "system.o", "-o", "sellumaq.o"])?;
+    let objects = ["calls.o", "system.o", "files.o"];
+    run(&ld, &[&["-r", "-o", "sellumaq.o"], &objects[..]].concat())?;
     let objcopy = Tool::find("OBJCOPY", "objcopy", "program that hides names");
     let kept = "--keep-global-symbol=sellumaq_*";
     run(&objcopy, &["--wildcard", kept, "sellumaq.o"])?;
@@ -118,8 +121,8 @@ fn refuse_other_targets() -> Done<()> {
 /// Where a file of the text is: in a crate that was packed or installed it has a copy, and else it is the repository's.
 fn text(name: &str) -> Done<String> {
     let crate_folder = told("CARGO_MANIFEST_DIR");
-    let places =
-        ["compiled", "../../../compiled"].map(|folder| format!("{crate_folder}/{folder}/{name}"));
+    let places = ["compiled", "../../../compiled", "../../c"]
+        .map(|folder| format!("{crate_folder}/{folder}/{name}"));
     match places.into_iter().find(|file| Path::new(file).is_file()) {
         Some(file) => {
             println!("cargo:rerun-if-changed={file}");

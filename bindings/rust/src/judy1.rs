@@ -1,5 +1,6 @@
 //! Sets of words, and their iterators.
 use crate::array::array;
+use crate::saved::{saved, OfTypes};
 use crate::sorted::at_once;
 use crate::span::{Found, Span};
 use crate::types::Key;
@@ -54,6 +55,17 @@ const GROUP: usize = 64;
 
 /// A search of C from a word for another.
 type Search = unsafe extern "C" fn(*const sys::sellumaq_judy1, u64, *mut u64) -> bool;
+
+saved!(
+    Judy1<K: Key>; sellumaq_judy1_dump, sellumaq_judy1_dump_size, sellumaq_judy1_load, sellumaq_judy1_save, sellumaq_judy1_open;
+    "let array = sellumaq::Judy1::from([1, 2, 10]);", "<sellumaq::Judy1>"
+);
+
+impl<K: Key> OfTypes for Judy1<K> {
+    fn is_of_types(&self) -> Result<bool, NoMemory> {
+        Ok(self.greatest(u64::MAX).map_or(true, |key| key <= K::LAST))
+    }
+}
 
 // Keys as the library knows them.
 impl<K: Key> Judy1<K> {

@@ -3,8 +3,10 @@ use crate::array::array;
 use crate::entry::entries;
 use crate::keyed::{keyed_map, InsertError};
 use crate::list::List;
+use crate::saved::{saved, OfTypes};
 use crate::types::{Value, ZeroValue};
 use crate::walk::halves;
+use crate::NoMemory;
 use sellumaq_sys as sys;
 use std::fmt;
 use std::iter::FusedIterator;
@@ -40,6 +42,27 @@ entries!(
     judyhs, InsertError, InsertError::end; K, K::as_ref => &[u8];
     "let mut map = sellumaq::JudyHs::from([(\"a\", 10), (\"b\", 20)]);", "\"a\"", "\"c\"", "b\"a\"", "b\"c\""
 );
+
+saved!(
+    JudyHs<V: Value>; sellumaq_judyhs_dump, sellumaq_judyhs_dump_size, sellumaq_judyhs_load, sellumaq_judyhs_save, sellumaq_judyhs_open;
+    "let array = sellumaq::JudyHs::from([(\"a\", 10), (\"b\", 20)]);", "<sellumaq::JudyHs>"
+);
+
+impl<V: Value> OfTypes for JudyHs<V> {
+    fn is_of_types(&self) -> Result<bool, NoMemory> {
+        if V::EACH {
+            return Ok(true);
+        }
+        // SAFETY: the map is borrowed.
+        let mut list = unsafe { List::try_of(self.handle, self.len()) }?;
+        while let Some((_, bits)) = list.next() {
+            if !V::is_held(bits) {
+                return Ok(false);
+            }
+        }
+        Ok(true)
+    }
+}
 
 impl<V: Value> JudyHs<V> {
     pub(crate) fn list(&self) -> List {

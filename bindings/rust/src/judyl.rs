@@ -2,6 +2,7 @@
 use crate::array::array;
 use crate::entry::entries;
 use crate::ordered::ordered_map;
+use crate::saved::{saved, OfTypes};
 use crate::slots::slot_walks;
 use crate::sorted::at_once;
 use crate::span::{Found, Span};
@@ -141,6 +142,21 @@ impl SlotSteps {
     fn next_back<V: Value, K: Key>(&mut self, map: &JudyL<V, K>) -> Option<(K, NonNull<V>)> {
         let key = K::of_word(self.0.next_back(&Lending(map))?.0);
         Some((key, map.find_slot(&key)?))
+    }
+}
+
+saved!(
+    JudyL<V: Value, K: Key>; sellumaq_judyl_dump, sellumaq_judyl_dump_size, sellumaq_judyl_load, sellumaq_judyl_save, sellumaq_judyl_open;
+    "let array = sellumaq::JudyL::from([(1, 10), (2, 20), (10, 30)]);", "<sellumaq::JudyL>"
+);
+
+impl<V: Value, K: Key> OfTypes for JudyL<V, K> {
+    fn is_of_types(&self) -> Result<bool, NoMemory> {
+        let last = self.search(sys::sellumaq_judyl_last, u64::MAX);
+        let are_keys = last.map_or(true, |key| key <= K::LAST);
+        let pairs = Way::of(Span::of::<K>(..));
+        Ok(are_keys
+            && (V::EACH || pairs.fold(self, true, |held, (_, bits)| held && V::is_held(bits))))
     }
 }
 

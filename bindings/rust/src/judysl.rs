@@ -4,9 +4,11 @@ use crate::edge::Edge;
 use crate::entry::entries;
 use crate::keyed::{keyed_map, InsertError, MAX_KEY};
 use crate::ordered::ordered_map;
+use crate::saved::{saved, OfTypes};
 use crate::slots::slot_walks;
 use crate::types::{Value, ZeroValue};
 use crate::walk::walks;
+use crate::NoMemory;
 use sellumaq_sys as sys;
 use std::cmp::Ordering;
 use std::fmt;
@@ -61,6 +63,27 @@ entries!(
     judysl, InsertError, InsertError::end; K, K::as_ref => &[u8];
     "let mut map = sellumaq::JudySl::from([(\"a\", 10), (\"b\", 20)]);", "\"a\"", "\"c\"", "b\"a\"", "b\"c\""
 );
+
+saved!(
+    JudySl<V: Value>; sellumaq_judysl_dump, sellumaq_judysl_dump_size, sellumaq_judysl_load, sellumaq_judysl_save, sellumaq_judysl_open;
+    "let array = sellumaq::JudySl::from([(\"a\", 10), (\"b\", 20)]);", "<sellumaq::JudySl>"
+);
+
+impl<V: Value> OfTypes for JudySl<V> {
+    fn is_of_types(&self) -> Result<bool, NoMemory> {
+        let mut entries = Way::of(&(..));
+        while let Some((_, bits)) = if V::EACH {
+            None
+        } else {
+            entries.next_entry(self)
+        } {
+            if !V::is_held(bits) {
+                return Ok(false);
+            }
+        }
+        Ok(true)
+    }
+}
 
 impl<V: Value> JudySl<V> {
     fn item((key, bits): (Vec<u8>, u64)) -> (Vec<u8>, V) {

@@ -33,6 +33,16 @@
 //! Arrays may be sent to other threads and be read by several at a time, which is read off the library's code and tested, and no part of
 //! its proofs. An insert without memory ends the program by `handle_alloc_error`; `try_insert` answers an error.
 //!
+//! Arrays are saved to files and loaded, and turned to bytes and back, as C, Python and the program judystore read them too.
+//!
+//! ```
+//! use sellumaq::JudyL;
+//!
+//! let bytes = JudyL::from([(4, 2), (9, 3)]).to_bytes()?;
+//! assert_eq!(<JudyL>::from_bytes(bytes)?[9], 3);
+//! # Ok::<(), Box<dyn std::error::Error>>(())
+//! ```
+//!
 //! With the feature `serde` arrays have Serde's two traits: a set is a sequence, a map is a map, and strings are bytes.
 #![warn(missing_docs, clippy::undocumented_unsafe_blocks, clippy::pedantic)]
 #![deny(unsafe_op_in_unsafe_fn)]
@@ -53,6 +63,7 @@ pub mod judysl;
 mod keyed;
 mod list;
 mod ordered;
+mod saved;
 #[cfg(feature = "serde")]
 mod serial;
 mod slots;
@@ -70,6 +81,7 @@ pub use judyhs::JudyHs;
 pub use judyl::JudyL;
 pub use judysl::JudySl;
 pub use keyed::{InsertError, MAX_KEY};
+pub use saved::{DumpFault, LoadError, LoadFault, SaveError};
 pub use sorted::{FromSortedError, NotAscending};
 pub use types::{Key, Value, ZeroValue};
 

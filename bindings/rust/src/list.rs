@@ -25,27 +25,38 @@ impl List {
     ///
     /// The handle is an array's that isn't changed meanwhile.
     pub unsafe fn of(handle: sys::sellumaq_judyhs, count: usize) -> List {
+        // SAFETY: as the caller says.
+        unsafe { List::try_of(handle, count) }.unwrap_or_else(no_room)
+    }
+
+    /// The same, or an error where there is no memory for the list.
+    ///
+    /// # Safety
+    ///
+    /// As of `of`.
+    pub unsafe fn try_of(handle: sys::sellumaq_judyhs, count: usize) -> Result<List, NoMemory> {
         let mut list = List {
             bytes: Vec::new(),
             keys: 0..0,
-            entries: Vec::with_capacity(count),
+            entries: Vec::new(),
             places: 0..count,
         };
         let mut room = LEAST_ROOM.max(count * 8);
+        list.entries.try_reserve(count).map_err(|_| NoMemory)?;
         while list.entries.len() < count {
-            list.bytes.reserve(room);
+            list.bytes.try_reserve(room).map_err(|_| NoMemory)?;
             // SAFETY: as the caller says.
-            unsafe { list.go_on(&handle) };
+            unsafe { list.go_on(&handle) }?;
             room *= 2;
         }
         list.keys = 0..list.bytes.len();
-        list
+        Ok(list)
     }
 
     // Takes the pairs behind those that it has, as many as there is room for: none where the next key has more bytes than that.
     //
     // SAFETY: as of `of`.
-    unsafe fn go_on(&mut self, handle: &sys::sellumaq_judyhs) {
+    unsafe fn go_on(&mut self, handle: &sys::sellumaq_judyhs) -> Result<(), NoMemory> {
         let (behind, mut count) = (self.entries.len(), 0);
         let bytes = self.bytes.spare_capacity_mut();
         let entries = self.entries.spare_capacity_mut();
@@ -56,13 +67,14 @@ impl List {
         if !unsafe {
             sys::sellumaq_judyhs_walk(handle, behind, to, room, told, capacity, &mut count)
         } {
-            no_room::<()>(NoMemory);
+            return Err(NoMemory);
         }
         // SAFETY: the call wrote so many entries.
         unsafe { self.entries.set_len(behind + count) };
         let written: usize = self.entries[behind..].iter().map(|it| it.length).sum();
         // SAFETY: it wrote as many bytes as their keys have.
         unsafe { self.bytes.set_len(self.bytes.len() + written) };
+        Ok(())
     }
 
     /// How many pairs are still to come.

@@ -70,6 +70,12 @@ mod sealed {
     /// A value has at most the bytes and the alignment of a word, and no byte of it is padding. It stands in the first bytes of the word
     /// that `bits` answers.
     pub unsafe trait Value {
+        /// Whether each word holds a value.
+        const EACH: bool = false;
+
+        /// Whether a word holds a value, with zeros beyond it.
+        fn is_held(bits: u64) -> bool;
+
         /// The word that holds a value.
         fn bits(self) -> u64;
 
@@ -84,12 +90,19 @@ mod sealed {
 }
 
 macro_rules! value {
-    ($type:ty; $value:ident => $to:expr; $bits:ident => $from:expr) => {
+    ($type:ty; $value:ident => $to:expr; $bits:ident => $from:expr, if $held:expr $(, each $each:expr)?) => {
         const _: () = assert!(size_of::<$type>() <= 8 && align_of::<$type>() <= 8);
 
         // SAFETY: that it fits is asserted above. It is an integer or stands in memory as one, which has no padding. On a little-endian machine
         // the first bytes of a word are its lowest, which the integer fills by `bits`.
         unsafe impl sealed::Value for $type {
+            $(const EACH: bool = $each;)?
+
+            #[inline]
+            fn is_held($bits: u64) -> bool {
+                $held
+            }
+
             #[inline]
             fn bits(self) -> u64 {
                 let $value = self;
@@ -134,11 +147,17 @@ macro_rules! integers {
 
         impl Key for $integer {}
 
-        value!($integer; value => value as $unsigned as u64; bits => bits as $integer);
+        value!(
+            $integer; value => value as $unsigned as u64; bits => bits as $integer,
+            if $unsigned::try_from(bits).is_ok(), each size_of::<$integer>() == 8
+        );
         value!($non_zero; value => value.get() as $unsigned as u64; bits => {
             $non_zero::new(bits as $integer).expect("a value that is never zero")
-        });
-        value!(Option<$non_zero>; value => value.map_or(0, sealed::Value::bits); bits => $non_zero::new(bits as $integer));
+        }, if bits > 0 && $unsigned::try_from(bits).is_ok());
+        value!(
+            Option<$non_zero>; value => value.map_or(0, sealed::Value::bits); bits => $non_zero::new(bits as $integer),
+            if $unsigned::try_from(bits).is_ok(), each size_of::<$integer>() == 8
+        );
         zero_value!($integer, Option<$non_zero>);
     )* };
 }
@@ -156,6 +175,9 @@ integers! {
     isize as usize, NonZeroIsize;
 }
 
-value!(bool; value => u64::from(value); bits => bits != 0);
-value!(char; value => u64::from(value); bits => char::from_u32(bits as u32).expect("a character"));
+value!(bool; value => u64::from(value); bits => bits != 0, if bits <= 1);
+value!(
+    char; value => u64::from(value); bits => char::from_u32(bits as u32).expect("a character"),
+    if u32::try_from(bits).map_or(false, |it| char::from_u32(it).is_some())
+);
 zero_value!(bool, char);

@@ -1,7 +1,7 @@
 //! Inserts that are refused for want of memory: each says so and leaves the array as it was. Memory is refused by tests/refuse_alloc.c where
 //! that is preloaded, as `make bindings-test` does; where it isn't, nothing is tried.
 use sellumaq::judyl::Entry;
-use sellumaq::{InsertError, Judy1, JudyHs, JudyL, JudySl, NoMemory};
+use sellumaq::{DumpFault, InsertError, Judy1, JudyHs, JudyL, JudySl, LoadFault, NoMemory};
 use std::collections::{BTreeMap, BTreeSet};
 use std::num::NonZeroU8;
 
@@ -178,4 +178,41 @@ fn a_map_of_byte_strings_without_memory() {
     map_without_memory!(JudyHs, |map: &JudyHs, plain: &BTreeMap<Vec<u8>, u64>| {
         strings().all(|key| map.get(&key) == plain.get(&key).copied())
     });
+}
+
+/// Arrays that are turned to bytes and made of them: each refusal is told, and the bytes and arrays are those of the plenty.
+macro_rules! saved_without_memory {
+    ($($type:ty, $array:expr, $least:literal;)*) => { $(
+        let refuser = match Refuser::find() {
+            Some(refuser) => refuser,
+            None => return,
+        };
+        let mut array: $type = $array;
+        let bytes = array.to_bytes().unwrap();
+        let (written, _) = refuser.in_turn(
+            &mut array,
+            DumpFault::NoMemory,
+            |array| array.to_bytes(),
+            |array| array.to_bytes().as_ref() == Ok(&bytes),
+        );
+        let (read, failed) = refuser.in_turn(
+            &mut array,
+            LoadFault::NoMemory,
+            |_| <$type>::from_bytes(&bytes),
+            |_| true,
+        );
+        assert!(written == bytes && read == array && failed > $least, "{failed}");
+    )* };
+}
+
+#[test]
+fn bytes_without_memory() {
+    saved_without_memory!(
+        Judy1, words().collect(), 10;
+        JudyL, words().zip(words()).collect(), 10;
+        JudyL<u8>, words().map(|word| (word, word as u8)).collect(), 10;
+        JudySl, strings().zip(0..).collect(), 10;
+        JudyHs, strings().zip(0..).collect(), 10;
+        JudyHs<u8>, strings().zip(0..).collect(), 12;
+    );
 }

@@ -85,6 +85,35 @@ pub const SELLUMAQ_BAD_KEY: u32 = 4;
 /// The key found doesn't fit the caller's buffer.
 pub const SELLUMAQ_TOO_SMALL: u32 = 5;
 
+/// Of `dump`, `load`, `save` and `open`: it is done.
+pub const SELLUMAQ_DONE: u32 = 1;
+/// Of `dump`: the name isn't 1 to 32 ASCII letters, digits, `_` and `-`.
+pub const SELLUMAQ_BAD_NAME: u32 = 6;
+/// Of `dump`: there are more than 4,294,967,295 keys, which no dump can say.
+pub const SELLUMAQ_TOO_MANY: u32 = 7;
+/// Of `load`: the bytes are no dump of one such array, and `*fault` says why.
+pub const SELLUMAQ_BAD_DUMP: u32 = 8;
+/// Of `dump`: the format is neither 1 nor 2.
+pub const SELLUMAQ_BAD_FORMAT: u32 = 9;
+/// Of `save` and `open`: a call of the system failed, and errno says why.
+pub const SELLUMAQ_SYSTEM: u32 = 10;
+
+/// The faults of a load, of which `sellumaq_fault_text` tells more.
+pub const SELLUMAQ_DUMP_TRUNCATED: u32 = 1;
+pub const SELLUMAQ_DUMP_BAD_MAGIC: u32 = 2;
+pub const SELLUMAQ_DUMP_TOO_MANY: u32 = 3;
+pub const SELLUMAQ_DUMP_BAD_NAME: u32 = 4;
+pub const SELLUMAQ_DUMP_SAME_NAME: u32 = 5;
+pub const SELLUMAQ_DUMP_BAD_KIND: u32 = 6;
+pub const SELLUMAQ_DUMP_BAD_LIMIT: u32 = 7;
+pub const SELLUMAQ_DUMP_BAD_COUNT: u32 = 8;
+pub const SELLUMAQ_DUMP_BAD_KEY: u32 = 9;
+pub const SELLUMAQ_DUMP_BAD_ORDER: u32 = 10;
+pub const SELLUMAQ_DUMP_TRAILING: u32 = 11;
+pub const SELLUMAQ_DUMP_BAD_PREFIX: u32 = 12;
+pub const SELLUMAQ_DUMP_NOT_ONE: u32 = 13;
+pub const SELLUMAQ_DUMP_OTHER_KIND: u32 = 14;
+
 /// The most bytes of a key of a map from strings.
 pub const SELLUMAQ_KEY_BYTES: usize = 1024;
 /// The most bytes of a key of a map from byte strings.
@@ -535,4 +564,107 @@ extern "C" {
     ) -> bool;
     pub fn sellumaq_judyhs_len(map: *const sellumaq_judyhs) -> u64;
     pub fn sellumaq_judyhs_free(map: *mut sellumaq_judyhs) -> u64;
+}
+
+// One array as bytes, and in a file. A path ends with a zero byte, as C's do.
+extern "C" {
+    pub fn sellumaq_judy1_dump(
+        set: *const sellumaq_judy1,
+        format: u32,
+        name: *const u8,
+        length: usize,
+        bytes: *mut u8,
+        room: usize,
+        size: *mut usize,
+    ) -> u32;
+    pub fn sellumaq_judy1_dump_size(
+        set: *const sellumaq_judy1,
+        format: u32,
+        name: *const u8,
+        length: usize,
+        size: *mut usize,
+    ) -> u32;
+    pub fn sellumaq_judy1_load(
+        set: *mut sellumaq_judy1,
+        bytes: *const u8,
+        count: usize,
+        fault: *mut u32,
+    ) -> u32;
+    pub fn sellumaq_judy1_save(set: *const sellumaq_judy1, path: *const i8) -> u32;
+    pub fn sellumaq_judy1_open(set: *mut sellumaq_judy1, path: *const i8, fault: *mut u32) -> u32;
+    pub fn sellumaq_judyl_dump(
+        map: *const sellumaq_judyl,
+        format: u32,
+        name: *const u8,
+        length: usize,
+        bytes: *mut u8,
+        room: usize,
+        size: *mut usize,
+    ) -> u32;
+    pub fn sellumaq_judyl_dump_size(
+        map: *const sellumaq_judyl,
+        format: u32,
+        name: *const u8,
+        length: usize,
+        size: *mut usize,
+    ) -> u32;
+    pub fn sellumaq_judyl_load(
+        map: *mut sellumaq_judyl,
+        bytes: *const u8,
+        count: usize,
+        fault: *mut u32,
+    ) -> u32;
+    pub fn sellumaq_judyl_save(map: *const sellumaq_judyl, path: *const i8) -> u32;
+    pub fn sellumaq_judyl_open(map: *mut sellumaq_judyl, path: *const i8, fault: *mut u32) -> u32;
+    pub fn sellumaq_judysl_dump(
+        map: *const sellumaq_judysl,
+        format: u32,
+        name: *const u8,
+        length: usize,
+        bytes: *mut u8,
+        room: usize,
+        size: *mut usize,
+    ) -> u32;
+    pub fn sellumaq_judysl_dump_size(
+        map: *const sellumaq_judysl,
+        format: u32,
+        name: *const u8,
+        length: usize,
+        size: *mut usize,
+    ) -> u32;
+    pub fn sellumaq_judysl_load(
+        map: *mut sellumaq_judysl,
+        bytes: *const u8,
+        count: usize,
+        fault: *mut u32,
+    ) -> u32;
+    pub fn sellumaq_judysl_save(map: *const sellumaq_judysl, path: *const i8) -> u32;
+    pub fn sellumaq_judysl_open(map: *mut sellumaq_judysl, path: *const i8, fault: *mut u32)
+        -> u32;
+    pub fn sellumaq_judyhs_dump(
+        map: *const sellumaq_judyhs,
+        format: u32,
+        name: *const u8,
+        length: usize,
+        bytes: *mut u8,
+        room: usize,
+        size: *mut usize,
+    ) -> u32;
+    pub fn sellumaq_judyhs_dump_size(
+        map: *const sellumaq_judyhs,
+        format: u32,
+        name: *const u8,
+        length: usize,
+        size: *mut usize,
+    ) -> u32;
+    pub fn sellumaq_judyhs_load(
+        map: *mut sellumaq_judyhs,
+        bytes: *const u8,
+        count: usize,
+        fault: *mut u32,
+    ) -> u32;
+    pub fn sellumaq_judyhs_save(map: *const sellumaq_judyhs, path: *const i8) -> u32;
+    pub fn sellumaq_judyhs_open(map: *mut sellumaq_judyhs, path: *const i8, fault: *mut u32)
+        -> u32;
+    pub fn sellumaq_fault_text(fault: u32) -> *const i8;
 }

@@ -30,6 +30,7 @@ fn of_c(words: &str) -> String {
         .next()
         .unwrap()
     {
+        "char" => "i8",
         "uint8_t" => "u8",
         "uint32_t" => "u32",
         "uint64_t" => "u64",
