@@ -64,6 +64,7 @@ enum {
     SELLUMAQ_ADDED = 1,     /* of these: the key was absent, and is there now; of `from_sorted`, `union` and fellows: the array is made */
     SELLUMAQ_NONE = 0,      /* of strings: there is no such key */
     SELLUMAQ_FOUND = 1,     /* of strings and byte strings: the key is there, and what was asked of it is told */
+    SELLUMAQ_DONE = 1,      /* of `dump`, `load`, `split_off`, `append`, `copy_range` and fellows: it is done */
     SELLUMAQ_NO_MEMORY = 2, /* the key is absent, there is no memory for it, and nothing changed; of `from_sorted`: none for the keys */
     SELLUMAQ_FULL = 3,      /* of strings and byte strings (words have no limit but memory): the key is absent, and the map holds 4,294,967,295
                              * keys; of `from_sorted`: the keys are more than that */
@@ -118,6 +119,10 @@ size_t sellumaq_judy1_walk(const sellumaq_judy1 *set, uint64_t from, uint64_t *k
  * is no memory for them. */
 uint32_t sellumaq_judy1_from_sorted(sellumaq_judy1 *set, const uint64_t *keys, size_t count, size_t *place);
 
+/* Makes the set one of `count` keys in any order, of which some may be alike, in place of what it held, whose memory is given back: SELLUMAQ_DONE.
+ * Else it is as it was: SELLUMAQ_NO_MEMORY. A copy of the keys is sorted, which takes 16 bytes more for each. */
+uint32_t sellumaq_judy1_from_unsorted(sellumaq_judy1 *set, const uint64_t *keys, size_t count);
+
 /* How many keys there are. */
 uint64_t sellumaq_judy1_len(const sellumaq_judy1 *set);
 
@@ -134,6 +139,29 @@ uint64_t sellumaq_judy1_count_empty(const sellumaq_judy1 *set, uint64_t from, ui
 /* Takes the keys from one word to another out, both included, and answers how many they were. It can't fail. Where more keys go than stay, the
  * others are put into new nodes, if there is memory. */
 uint64_t sellumaq_judy1_remove_range(sellumaq_judy1 *set, uint64_t from, uint64_t to);
+
+/* Takes all keys out but those from one word to another, both included, and answers how many went: all where the first is above the second. It
+ * can't fail. Where more keys go than stay, these are put into new nodes, if there is memory. */
+uint64_t sellumaq_judy1_retain_range(sellumaq_judy1 *set, uint64_t from, uint64_t to);
+
+/* Makes `made` the set of the keys from one word to another, both included, with nodes as small as they allow, in place of what it held:
+ * SELLUMAQ_DONE. Else it is as it was: SELLUMAQ_NO_MEMORY. The set stays. The two handles are two. */
+uint32_t sellumaq_judy1_copy_range(sellumaq_judy1 *made, const sellumaq_judy1 *set, uint64_t from, uint64_t to);
+
+/* Moves the keys from a word on to `made`, in place of what that held: SELLUMAQ_DONE. Else both are as they were: SELLUMAQ_NO_MEMORY.
+ * The two handles are two. */
+uint32_t sellumaq_judy1_split_off(sellumaq_judy1 *made, sellumaq_judy1 *set, uint64_t at);
+
+/* Moves all keys of `other` into the set, and leaves `other` empty: SELLUMAQ_DONE. Else both are as they were: SELLUMAQ_NO_MEMORY, or
+ * SELLUMAQ_FULL where they would have all 2^64 words. The two handles are two. */
+uint32_t sellumaq_judy1_append(sellumaq_judy1 *set, sellumaq_judy1 *other);
+
+/* Puts each word from one to another in, both included, or turns each of them round: one that is a key goes, and one that is none comes. Nothing
+ * changes where the first is above the second. SELLUMAQ_DONE. Else the set is as it was: SELLUMAQ_NO_MEMORY, or SELLUMAQ_FULL for all 2^64 words.
+ * All nodes are made anew. Words side by side take two bits of memory each, and where a range is so wide that not even one bit for each of its
+ * words is to be had, that is told at once. */
+uint32_t sellumaq_judy1_insert_range(sellumaq_judy1 *set, uint64_t from, uint64_t to);
+uint32_t sellumaq_judy1_flip(sellumaq_judy1 *set, uint64_t from, uint64_t to);
 
 /* Makes `made` a copy, with nodes as small as its keys allow, in place of what it held: SELLUMAQ_ADDED. Else it is as it was:
  * SELLUMAQ_NO_MEMORY. The two handles are two. */
@@ -234,6 +262,10 @@ size_t sellumaq_judyl_walk(const sellumaq_judyl *map, uint64_t from, sellumaq_pa
 /* Makes the map one of `count` keys that strictly ascend, each with its value, as `sellumaq_judy1_from_sorted` does. */
 uint32_t sellumaq_judyl_from_sorted(sellumaq_judyl *map, const sellumaq_pair *pairs, size_t count, size_t *place);
 
+/* Makes the map one of `count` keys in any order, each with its value, as `sellumaq_judy1_from_unsorted` does. Of pairs with one key the last
+ * one's value stays. */
+uint32_t sellumaq_judyl_from_unsorted(sellumaq_judyl *map, const sellumaq_pair *pairs, size_t count);
+
 /* How many keys there are. */
 uint64_t sellumaq_judyl_len(const sellumaq_judyl *map);
 
@@ -254,6 +286,22 @@ uint64_t sellumaq_judyl_count_empty(const sellumaq_judyl *map, uint64_t from, ui
 /* Takes the keys from one word to another out, both included, and answers how many they were. It can't fail. Where more keys go than stay, the
  * others are put into new nodes, if there is memory. */
 uint64_t sellumaq_judyl_remove_range(sellumaq_judyl *map, uint64_t from, uint64_t to);
+
+/* Takes all keys out but those from one word to another, both included, and answers how many went: all where the first is above the second. It
+ * can't fail. Where more keys go than stay, these are put into new nodes, if there is memory. */
+uint64_t sellumaq_judyl_retain_range(sellumaq_judyl *map, uint64_t from, uint64_t to);
+
+/* Makes `made` the map of the keys from one word to another, both included, and their values, with nodes as small as they allow, in place of what
+ * it held: SELLUMAQ_DONE. Else it is as it was: SELLUMAQ_NO_MEMORY. The map stays. The two handles are two. */
+uint32_t sellumaq_judyl_copy_range(sellumaq_judyl *made, const sellumaq_judyl *map, uint64_t from, uint64_t to);
+
+/* Moves the keys from a word on, with their values, to `made`, in place of what that held: SELLUMAQ_DONE. Else both are as they were:
+ * SELLUMAQ_NO_MEMORY. The two handles are two. */
+uint32_t sellumaq_judyl_split_off(sellumaq_judyl *made, sellumaq_judyl *map, uint64_t at);
+
+/* Moves all keys of `other` into the map, and leaves `other` empty: SELLUMAQ_DONE. A key that both have keeps the map's value. Else both are as
+ * they were: SELLUMAQ_NO_MEMORY, or SELLUMAQ_FULL where they would have all 2^64 words. The two handles are two. */
+uint32_t sellumaq_judyl_append(sellumaq_judyl *map, sellumaq_judyl *other);
 
 /* Makes `made` a copy, with nodes as small as its keys allow, in place of what it held: SELLUMAQ_ADDED. Else it is as it was:
  * SELLUMAQ_NO_MEMORY. The two handles are two. */
