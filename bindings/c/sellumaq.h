@@ -421,6 +421,38 @@ uint64_t sellumaq_judysl_count(const sellumaq_judysl *map, const uint8_t *from, 
  * keys between. */
 uint32_t sellumaq_judysl_by_count(const sellumaq_judysl *map, uint64_t n, uint8_t *buffer, size_t capacity, size_t *length, uint64_t *value);
 
+/* Takes the keys from one string to another out, both included, and answers how many they were: 0 where the first is above the second, and where
+ * the map can't hold one of the two. It can't fail. */
+uint64_t sellumaq_judysl_remove_range(sellumaq_judysl *map, const uint8_t *from, size_t from_length, const uint8_t *to, size_t to_length);
+
+/* Takes the keys that begin with a string out, and answers how many they were: 0 where the map can't hold it, and all where it is empty. It can't
+ * fail. */
+uint64_t sellumaq_judysl_remove_prefix(sellumaq_judysl *map, const uint8_t *prefix, size_t length);
+
+/* Makes `made` a copy, in place of what it held: SELLUMAQ_ADDED. Else it is as it was: SELLUMAQ_NO_MEMORY. The two handles are two. */
+uint32_t sellumaq_judysl_copy(sellumaq_judysl *made, const sellumaq_judysl *map);
+
+/* How many keys both have; the one or the other; the one and not the other; exactly one of them. Neither map changes. It takes a walk over the map
+ * that has fewer keys, each of which is looked up in the other, and no memory. */
+uint64_t sellumaq_judysl_intersection_count(const sellumaq_judysl *one, const sellumaq_judysl *other);
+uint64_t sellumaq_judysl_union_count(const sellumaq_judysl *one, const sellumaq_judysl *other);
+uint64_t sellumaq_judysl_difference_count(const sellumaq_judysl *one, const sellumaq_judysl *other);
+uint64_t sellumaq_judysl_symmetric_difference_count(const sellumaq_judysl *one, const sellumaq_judysl *other);
+
+/* Makes `made` the map of the keys that the one or the other has; that both have; that the one has and not the other; that exactly one of them
+ * has. What it held is given back: SELLUMAQ_ADDED. Else it is as it was: SELLUMAQ_NO_MEMORY, or SELLUMAQ_FULL where they are more than
+ * 4,294,967,295. The two stay. The three handles are three. The values are those of the one, but where it lacks the key. */
+uint32_t sellumaq_judysl_union(sellumaq_judysl *made, const sellumaq_judysl *one, const sellumaq_judysl *other);
+uint32_t sellumaq_judysl_intersection(sellumaq_judysl *made, const sellumaq_judysl *one, const sellumaq_judysl *other);
+uint32_t sellumaq_judysl_difference(sellumaq_judysl *made, const sellumaq_judysl *one, const sellumaq_judysl *other);
+uint32_t sellumaq_judysl_symmetric_difference(sellumaq_judysl *made, const sellumaq_judysl *one, const sellumaq_judysl *other);
+
+/* Whether each key of the one is a key of the other; whether none is; whether both have the same keys, whatever their values are. The walk ends where
+ * that is known. */
+bool sellumaq_judysl_is_subset(const sellumaq_judysl *one, const sellumaq_judysl *other);
+bool sellumaq_judysl_is_disjoint(const sellumaq_judysl *one, const sellumaq_judysl *other);
+bool sellumaq_judysl_has_same_keys(const sellumaq_judysl *one, const sellumaq_judysl *other);
+
 /* Gives all memory back, and answers how many keys there were. The handle is the empty array then. */
 uint64_t sellumaq_judysl_free(sellumaq_judysl *map);
 
