@@ -124,6 +124,10 @@ size_t sellumaq_judy1_walk(const sellumaq_judy1 *set, uint64_t from, uint64_t *k
  * is no memory for them. */
 uint32_t sellumaq_judy1_from_sorted(sellumaq_judy1 *set, const uint64_t *keys, size_t count, size_t *place);
 
+/* Makes the set one of `count` keys in any order, of which some may be alike, in place of what it held, whose memory is given back: SELLUMAQ_DONE.
+ * Else it is as it was: SELLUMAQ_NO_MEMORY. A copy of the keys is sorted, which takes 16 bytes more for each. */
+uint32_t sellumaq_judy1_from_unsorted(sellumaq_judy1 *set, const uint64_t *keys, size_t count);
+
 /* How many keys there are. */
 uint64_t sellumaq_judy1_len(const sellumaq_judy1 *set);
 
@@ -140,6 +144,29 @@ uint64_t sellumaq_judy1_count_empty(const sellumaq_judy1 *set, uint64_t from, ui
 /* Takes the keys from one word to another out, both included, and answers how many they were. It can't fail. Where more keys go than stay, the
  * others are put into new nodes, if there is memory. */
 uint64_t sellumaq_judy1_remove_range(sellumaq_judy1 *set, uint64_t from, uint64_t to);
+
+/* Takes all keys out but those from one word to another, both included, and answers how many went: all where the first is above the second. It
+ * can't fail. Where more keys go than stay, these are put into new nodes, if there is memory. */
+uint64_t sellumaq_judy1_retain_range(sellumaq_judy1 *set, uint64_t from, uint64_t to);
+
+/* Makes `made` the set of the keys from one word to another, both included, with nodes as small as they allow, in place of what it held:
+ * SELLUMAQ_DONE. Else it is as it was: SELLUMAQ_NO_MEMORY. The set stays. The two handles are two. */
+uint32_t sellumaq_judy1_copy_range(sellumaq_judy1 *made, const sellumaq_judy1 *set, uint64_t from, uint64_t to);
+
+/* Moves the keys from a word on to `made`, in place of what that held: SELLUMAQ_DONE. Else both are as they were: SELLUMAQ_NO_MEMORY.
+ * The two handles are two. */
+uint32_t sellumaq_judy1_split_off(sellumaq_judy1 *made, sellumaq_judy1 *set, uint64_t at);
+
+/* Moves all keys of `other` into the set, and leaves `other` empty: SELLUMAQ_DONE. Else both are as they were: SELLUMAQ_NO_MEMORY, or
+ * SELLUMAQ_FULL where they would have all 2^64 words. The two handles are two. */
+uint32_t sellumaq_judy1_append(sellumaq_judy1 *set, sellumaq_judy1 *other);
+
+/* Puts each word from one to another in, both included, or turns each of them round: one that is a key goes, and one that is none comes. Nothing
+ * changes where the first is above the second. SELLUMAQ_DONE. Else the set is as it was: SELLUMAQ_NO_MEMORY, or SELLUMAQ_FULL for all 2^64 words.
+ * All nodes are made anew. Words side by side take two bits of memory each, and where a range is so wide that not even one bit for each of its
+ * words is to be had, that is told at once. */
+uint32_t sellumaq_judy1_insert_range(sellumaq_judy1 *set, uint64_t from, uint64_t to);
+uint32_t sellumaq_judy1_flip(sellumaq_judy1 *set, uint64_t from, uint64_t to);
 
 /* Makes `made` a copy, with nodes as small as its keys allow, in place of what it held: SELLUMAQ_ADDED. Else it is as it was:
  * SELLUMAQ_NO_MEMORY. The two handles are two. */
@@ -240,6 +267,10 @@ size_t sellumaq_judyl_walk(const sellumaq_judyl *map, uint64_t from, sellumaq_pa
 /* Makes the map one of `count` keys that strictly ascend, each with its value, as `sellumaq_judy1_from_sorted` does. */
 uint32_t sellumaq_judyl_from_sorted(sellumaq_judyl *map, const sellumaq_pair *pairs, size_t count, size_t *place);
 
+/* Makes the map one of `count` keys in any order, each with its value, as `sellumaq_judy1_from_unsorted` does. Of pairs with one key the last
+ * one's value stays. */
+uint32_t sellumaq_judyl_from_unsorted(sellumaq_judyl *map, const sellumaq_pair *pairs, size_t count);
+
 /* How many keys there are. */
 uint64_t sellumaq_judyl_len(const sellumaq_judyl *map);
 
@@ -260,6 +291,22 @@ uint64_t sellumaq_judyl_count_empty(const sellumaq_judyl *map, uint64_t from, ui
 /* Takes the keys from one word to another out, both included, and answers how many they were. It can't fail. Where more keys go than stay, the
  * others are put into new nodes, if there is memory. */
 uint64_t sellumaq_judyl_remove_range(sellumaq_judyl *map, uint64_t from, uint64_t to);
+
+/* Takes all keys out but those from one word to another, both included, and answers how many went: all where the first is above the second. It
+ * can't fail. Where more keys go than stay, these are put into new nodes, if there is memory. */
+uint64_t sellumaq_judyl_retain_range(sellumaq_judyl *map, uint64_t from, uint64_t to);
+
+/* Makes `made` the map of the keys from one word to another, both included, and their values, with nodes as small as they allow, in place of what
+ * it held: SELLUMAQ_DONE. Else it is as it was: SELLUMAQ_NO_MEMORY. The map stays. The two handles are two. */
+uint32_t sellumaq_judyl_copy_range(sellumaq_judyl *made, const sellumaq_judyl *map, uint64_t from, uint64_t to);
+
+/* Moves the keys from a word on, with their values, to `made`, in place of what that held: SELLUMAQ_DONE. Else both are as they were:
+ * SELLUMAQ_NO_MEMORY. The two handles are two. */
+uint32_t sellumaq_judyl_split_off(sellumaq_judyl *made, sellumaq_judyl *map, uint64_t at);
+
+/* Moves all keys of `other` into the map, and leaves `other` empty: SELLUMAQ_DONE. A key that both have keeps the map's value. Else both are as
+ * they were: SELLUMAQ_NO_MEMORY, or SELLUMAQ_FULL where they would have all 2^64 words. The two handles are two. */
+uint32_t sellumaq_judyl_append(sellumaq_judyl *map, sellumaq_judyl *other);
 
 /* Makes `made` a copy, with nodes as small as its keys allow, in place of what it held: SELLUMAQ_ADDED. Else it is as it was:
  * SELLUMAQ_NO_MEMORY. The two handles are two. */
@@ -378,6 +425,38 @@ uint64_t sellumaq_judysl_count(const sellumaq_judysl *map, const uint8_t *from, 
  * It takes one way down the map; in each level but the first the entries up to the key's own are read, from the end that is nearer by the
  * keys between. */
 uint32_t sellumaq_judysl_by_count(const sellumaq_judysl *map, uint64_t n, uint8_t *buffer, size_t capacity, size_t *length, uint64_t *value);
+
+/* Takes the keys from one string to another out, both included, and answers how many they were: 0 where the first is above the second, and where
+ * the map can't hold one of the two. It can't fail. */
+uint64_t sellumaq_judysl_remove_range(sellumaq_judysl *map, const uint8_t *from, size_t from_length, const uint8_t *to, size_t to_length);
+
+/* Takes the keys that begin with a string out, and answers how many they were: 0 where the map can't hold it, and all where it is empty. It can't
+ * fail. */
+uint64_t sellumaq_judysl_remove_prefix(sellumaq_judysl *map, const uint8_t *prefix, size_t length);
+
+/* Makes `made` a copy, in place of what it held: SELLUMAQ_ADDED. Else it is as it was: SELLUMAQ_NO_MEMORY. The two handles are two. */
+uint32_t sellumaq_judysl_copy(sellumaq_judysl *made, const sellumaq_judysl *map);
+
+/* How many keys both have; the one or the other; the one and not the other; exactly one of them. Neither map changes. It takes a walk over the map
+ * that has fewer keys, each of which is looked up in the other, and no memory. */
+uint64_t sellumaq_judysl_intersection_count(const sellumaq_judysl *one, const sellumaq_judysl *other);
+uint64_t sellumaq_judysl_union_count(const sellumaq_judysl *one, const sellumaq_judysl *other);
+uint64_t sellumaq_judysl_difference_count(const sellumaq_judysl *one, const sellumaq_judysl *other);
+uint64_t sellumaq_judysl_symmetric_difference_count(const sellumaq_judysl *one, const sellumaq_judysl *other);
+
+/* Makes `made` the map of the keys that the one or the other has; that both have; that the one has and not the other; that exactly one of them
+ * has. What it held is given back: SELLUMAQ_ADDED. Else it is as it was: SELLUMAQ_NO_MEMORY, or SELLUMAQ_FULL where they are more than
+ * 4,294,967,295. The two stay. The three handles are three. The values are those of the one, but where it lacks the key. */
+uint32_t sellumaq_judysl_union(sellumaq_judysl *made, const sellumaq_judysl *one, const sellumaq_judysl *other);
+uint32_t sellumaq_judysl_intersection(sellumaq_judysl *made, const sellumaq_judysl *one, const sellumaq_judysl *other);
+uint32_t sellumaq_judysl_difference(sellumaq_judysl *made, const sellumaq_judysl *one, const sellumaq_judysl *other);
+uint32_t sellumaq_judysl_symmetric_difference(sellumaq_judysl *made, const sellumaq_judysl *one, const sellumaq_judysl *other);
+
+/* Whether each key of the one is a key of the other; whether none is; whether both have the same keys, whatever their values are. The walk ends where
+ * that is known. */
+bool sellumaq_judysl_is_subset(const sellumaq_judysl *one, const sellumaq_judysl *other);
+bool sellumaq_judysl_is_disjoint(const sellumaq_judysl *one, const sellumaq_judysl *other);
+bool sellumaq_judysl_has_same_keys(const sellumaq_judysl *one, const sellumaq_judysl *other);
 
 /* Gives all memory back, and answers how many keys there were. The handle is the empty array then. */
 uint64_t sellumaq_judysl_free(sellumaq_judysl *map);

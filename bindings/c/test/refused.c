@@ -1,37 +1,7 @@
 /* A first insert into a handle of zeros that is refused memory, at each of its calls for memory: the handle is zeros again, and nothing is kept. */
-#include <stddef.h>
-
 #include "../sellumaq.h"
 #include "check.h"
-
-extern void *__libc_malloc(size_t size);
-extern void *__libc_realloc(void *block, size_t size);
-extern void __libc_free(void *block);
-
-/* The blocks that are held, and how many calls are answered before each later one is refused; none is for -1. */
-static long held, answered = -1;
-
-static bool refused(void) {
-    if (answered > 0) answered--;
-    else if (!answered) return true;
-    return false;
-}
-
-void *malloc(size_t size) {
-    void *block = refused() ? NULL : __libc_malloc(size);
-    held += block != NULL;
-    return block;
-}
-
-void *realloc(void *block, size_t size) {
-    if (!block) return malloc(size);
-    return refused() ? NULL : __libc_realloc(block, size);
-}
-
-void free(void *block) {
-    held -= block != NULL;
-    __libc_free(block);
-}
+#include "refusing.h"
 
 /* The inserts into each kind; an answer of no memory is told as one. */
 static uint8_t key[40] = "a string of more than a few bytes";

@@ -30,7 +30,8 @@ _word = ctypes.c_uint64
 _slot = ctypes.POINTER(_word)
 _key = (ctypes.c_char_p, ctypes.c_size_t)
 _buffer = (*_key, ctypes.POINTER(ctypes.c_size_t), _slot)
-_sorted = (ctypes.c_void_p, ctypes.c_size_t, ctypes.POINTER(ctypes.c_size_t))
+_list = (ctypes.c_void_p, ctypes.c_size_t)
+_sorted = (*_list, ctypes.POINTER(ctypes.c_size_t))
 
 # What calls answer that have more than yes and no to tell; a yes is 1 too.
 _FOUND, _NO_MEMORY, _FULL, _BAD_KEY, _TOO_SMALL, _BAD_NAME, _TOO_MANY, _BAD_DUMP, _BAD_FORMAT, _SYSTEM = range(1, 11)
@@ -49,6 +50,18 @@ def _call(name, result, *words, library=_library):
     call.restype = result
     call.argtypes = [ctypes.POINTER(_Handle), *words]
     return call
+
+
+_OF_TWO = "union", "intersection", "difference", "symmetric_difference"
+
+
+def _two_calls(kind):
+    """The calls of a kind that copy an array or make one of two, and those that tell of two."""
+    handle = ctypes.POINTER(_Handle)
+    made = {name: _call(f"{kind}_{name}", ctypes.c_uint32, handle, handle) for name in _OF_TWO}
+    told = {name: _call(f"{kind}_{name}", ctypes.c_bool, handle) for name in ("is_subset", "is_disjoint", "has_same_keys")}
+    common = _call(f"{kind}_intersection_count", _word, handle)
+    return made | told | {"copy": _call(f"{kind}_copy", ctypes.c_uint32, handle), "intersection_count": common}
 
 
 def _calls(kind, result, **calls):
@@ -91,7 +104,9 @@ def _refused(told, fault=None, path=None):
 
 def _word_calls(kind, **calls):
     searches = dict.fromkeys(("first", "last", "first_empty", "last_empty", "by_count"), (_word, _slot))
-    return _calls(kind, ctypes.c_bool, **searches, **calls) | {"count": _call(f"{kind}_count", _word, _word, _word)}
+    counts = {name: _call(f"{kind}_{name}", _word, _word, _word) for name in ("count", "remove_range", "retain_range")}
+    unsorted = {"from_unsorted": _call(f"{kind}_from_unsorted", ctypes.c_uint32, *_list)}
+    return _calls(kind, ctypes.c_bool, **searches, **calls) | counts | unsorted | _two_calls(kind)
 
 
 def _string_calls(kind, *scans):
@@ -268,6 +283,26 @@ class _Array:
         if told not in _PUT:
             raise MemoryError
 
+    def _is_like(self, other):
+        """Whether another array is of this kind, with keys of the same type."""
+        return all(getattr(other, name, None) is getattr(self, name, None) for name in ("_calls", "_objects"))
+
+    def _become_of(self, call, *others):
+        """Makes the array what a call makes of others. What the array becomes it becomes by one call, so that no thread finds it half made."""
+        if not all(map(self._is_like, others)):
+            raise TypeError("not an array of this kind")
+        handles, made = [other._handle for other in others], _Handle()
+        if all(other is not self for other in others):
+            told = self._change(call, *handles)
+        else:
+            told = self._calls[call](made, *handles)
+            told = self._change("copy", made) if told == _DONE else told
+            self._calls["free"](made)
+        if told == _FULL:
+            raise OverflowError("the dict is full")
+        if told != _DONE:
+            raise MemoryError
+
     def _has(self, call, key, *more):
         """What a call answers for a key; what can be none isn't there."""
         passed = self._passed(key)
@@ -370,6 +405,18 @@ class _Words(_Array):
             return tuple(each.value for each in told)
         raise IndexError(f"no key at place {place!r}")
 
+    def _remove_range(self, low, high):
+        """Takes the keys from one word to another out, and answers how many they were."""
+        return self._change("remove_range", _checked(low), _checked(high))
+
+    def _keep_range(self, low, high):
+        """Takes all other keys out, and answers how many they were."""
+        return self._change("retain_range", _checked(low), _checked(high))
+
+    def _put_at_once(self, words, width):
+        """Puts items of a buffer into an empty array at once, if there is memory for that."""
+        return len(words) and not _Array.__len__(self) and self._change("from_unsorted", words, len(words) // width) == _DONE
+
     def _cursor(self, part, low, high, reverse):
         name, key, value = ("last" if reverse else "first"), _word(), _word()
         call = self._calls[name if part == KEYS else name + "_entry"]
@@ -381,11 +428,24 @@ class _Words(_Array):
             at = found - 1 if reverse else found + 1
 
 
+# The call that makes what is wanted of two sets, and which of these it is given.
+_COMBINED = {
+    FIRST: ("difference", 0, 1),
+    BOTH: ("intersection", 0, 1),
+    SECOND: ("difference", 1, 0),
+    FIRST | BOTH: ("copy", 0),
+    FIRST | SECOND: ("symmetric_difference", 0, 1),
+    BOTH | SECOND: ("copy", 1),
+    FIRST | BOTH | SECOND: ("union", 0, 1),
+}
+
+
 class WordSet(_Words):
     _kind = _word_calls("judy1", unset=(_word,), test=(_word,)) | {
         "set": _call("judy1_set", ctypes.c_uint32, _word),
         "from_keys": _call("judy1_from_sorted", ctypes.c_uint32, *_sorted),
         "list_keys": _call("judy1_walk", ctypes.c_size_t, _word, _slot, ctypes.c_size_t),
+        **{name: _call(f"judy1_{name}", ctypes.c_uint32, _word, _word) for name in ("insert_range", "flip")},
     }
 
     def __contains__(self, key):
@@ -419,6 +479,8 @@ class WordSet(_Words):
 
     def _fill(self, keys):
         words = _lent(keys, 1)
+        if words is not None and self._put_at_once(words, 1):
+            return
         for key in keys if words is None else words:
             WordSet.add(self, key)
 
@@ -444,17 +506,41 @@ class WordSet(_Words):
             if count < room:
                 return keys[:count]
 
-    def _wanted(self, wanted, second):
-        one, other = set(WordSet._keys(self)), set(WordSet._keys(second))
-        parts = (FIRST, one - other), (BOTH, one & other), (SECOND, other - one)
-        return sorted(key for whose, keys in parts if wanted & whose for key in keys)
-
     def _combine(self, wanted, first, second):
-        keys = WordSet._wanted(first, wanted, second)
-        self._made("from_keys", keys, len(keys))
+        if not (isinstance(first, WordSet) and isinstance(second, WordSet)):
+            raise TypeError("not a set of words")
+        # The library is never handed one set twice.
+        if first is second:
+            wanted = FIRST | BOTH if wanted & BOTH else 0
+        if not wanted:
+            return self.clear()
+        call, *places = _COMBINED[wanted]
+        self._become_of(call, *((first, second)[place] for place in places))
+
+    def _common(self, second):
+        return _Array.__len__(self) if self is second else self._calls["intersection_count"](self._handle, second._handle)
+
+    def _count_of(self, wanted, second):
+        common = WordSet._common(self, second)
+        counts = (FIRST, _Array.__len__(self) - common), (BOTH, common), (SECOND, _Array.__len__(second) - common)
+        return sum(count for whose, count in counts if wanted & whose)
 
     def _has_any(self, wanted, second):
-        return bool(WordSet._wanted(self, wanted, second))
+        return WordSet._count_of(self, wanted, second) > 0
+
+    def _change_range(self, call, low, high):
+        had = _Array.__len__(self)
+        if self._change(call, _checked(low), _checked(high)) != _DONE:
+            raise MemoryError
+        return _Array.__len__(self) - had
+
+    def _put_range(self, low, high):
+        """Puts the words from one to another in, and answers how many were absent."""
+        return self._change_range("insert_range", low, high)
+
+    def _flip(self, low, high):
+        """Takes the keys from one word to another out, and puts the other words in; how many keys more there are."""
+        return self._change_range("flip", low, high)
 
     def _make(self, keys):
         words = _lent(keys, 1)
@@ -481,7 +567,11 @@ class WordMap(_Words, _Map):
         return self._told_at(place, "by_count_entry", _word(), _word())
 
     def _copy(self, other):
-        WordMap._make(self, WordMap._cursor(other, ITEMS, 0, MAX, False))
+        self._become_of("copy", other)
+
+    def _join(self, other):
+        if other is not self:
+            self._become_of("union", other, self)
 
     def get_many(self, keys, /, out=None):
         """The values of the keys of an iterable, in a list, with None where one isn't there; or in a buffer, and then how many are there."""
@@ -495,6 +585,8 @@ class WordMap(_Words, _Map):
 
     def _fill(self, pairs):
         words = _lent(pairs, 2)
+        if words is not None and self._put_at_once(words, 2):
+            return
         for key, value in pairs if words is None else zip(words[::2], words[1::2]):
             WordMap.__setitem__(self, key, value)
 
@@ -619,6 +711,9 @@ class _OrderedStrings(_Strings):
         "by_count": _call("judysl_by_count", ctypes.c_uint32, _word, *_buffer),
         "from_strings": _call("judysl_from_sorted", ctypes.c_uint32, *_key, *_sorted),
         "walk": _call("judysl_walk", ctypes.c_size_t, *_key, ctypes.c_bool, *_key, _slot, ctypes.c_size_t),
+        "remove_range": _call("judysl_remove_range", _word, *_key, *_key),
+        "remove_prefix": _call("judysl_remove_prefix", _word, *_key),
+        **_two_calls("judysl"),
     }
 
     def _begin(self, _):
@@ -633,14 +728,24 @@ class _OrderedStrings(_Strings):
             yield string, word
 
     def _make(self, pairs):
-        self._become(list(_ascending(self._read(pairs))))
-
-    def _copy(self, other):
-        self._become(_OrderedStrings._stored(other))
-
-    def _become(self, pairs):
+        pairs = list(_ascending(self._read(pairs)))
         text, entries = b"".join(key for key, _ in pairs), [word for key, value in pairs for word in (len(key), value)]
         self._made("from_strings", entries, len(pairs), text, len(text))
+
+    def _copy(self, other):
+        self._become_of("copy", other)
+
+    def _join(self, other):
+        if other is not self:
+            self._become_of("union", other, self)
+
+    def _remove_range(self, low, high):
+        """Takes the keys from one string to another out, and answers how many they were."""
+        return self._change("remove_range", low, len(low), high, len(high))
+
+    def _remove_prefix(self, prefix):
+        """Takes the keys out that begin with a string, and answers how many they were."""
+        return self._change("remove_prefix", prefix, len(prefix))
 
     def bisect_left(self, string):
         """How many keys there are below a string."""
@@ -710,16 +815,6 @@ class _OrderedStrings(_Strings):
         count = self._calls["walk"](self._handle, key, len(key), itself, text, room, entries, most)
         ends, values = _entries_of(entries, count)
         return ctypes.string_at(text, ends[-1] if ends else 0), ends, values
-
-    def _stored(self):
-        """All pairs, as C has them."""
-        (last, itself), pairs = (b"", True), []
-        while True:
-            text, ends, values = self._page(last, itself, _PAIRS)
-            if not ends:
-                return pairs
-            pairs += zip(_cut(text, ends), values)
-            last, itself = pairs[-1][0], False
 
 
 class BytesMap(_Bytes, _OrderedStrings):

@@ -5,7 +5,12 @@ from __future__ import annotations
 from collections.abc import Callable, Iterable, Mapping, MutableMapping
 from typing import Any
 
+from ._core import ITEMS
+
 _MISSING = object()
+
+# Pairs are put in one by one where they are at most one for so many that are there.
+MANY = 8
 
 
 def from_dump(kind: type, dump: bytes) -> Any:
@@ -128,3 +133,43 @@ class Copied:
 
     def __repr__(self) -> str:
         return type(self).__name__ + "({" + ", ".join(f"{key!r}: {value}" for key, value in self.items()) + "})"
+
+
+class Joined(Copied):
+    """The same of dicts in order, by the calls of C over two arrays of the type `_alike`; `_all` are the bounds of a walk through one."""
+
+    _alike: type[Any]
+    _all: tuple[Any, Any]
+
+    def copy(self) -> Any:
+        """Another dict of the same pairs.
+
+        >>> from sellumaq import JudyL
+        >>> JudyL({1: 2}).copy()
+        JudyL({1: 2})
+        """
+        made = type(self)()
+        made._copy(self)
+        return made
+
+    __copy__ = copy
+
+    def _put_map(self, other: Any) -> None:
+        """Puts another's pairs in: few one by one, up to one that there is no memory for; else all or none."""
+        if self._alike.__len__(other) < self._alike.__len__(self) // MANY:
+            self._fill(self._alike._cursor(other, ITEMS, *self._all, False))
+        else:
+            self._join(other)
+
+    def __or__(self, other: Any) -> Any:
+        if not isinstance(other, self._alike):
+            return super().__or__(other)
+        made = self.copy()
+        made._put_map(other)
+        return made
+
+    def __ior__(self, other: Any) -> Any:
+        if not isinstance(other, self._alike):
+            return super().__ior__(other)
+        self._put_map(other)
+        return self

@@ -8,7 +8,7 @@ from typing import Any
 
 from . import _core, _views
 from ._core import ITEMS, KEYS, VALUES
-from ._maps import Copied, Dict
+from ._maps import Copied, Dict, Joined
 from ._places import PlacedDict
 
 
@@ -38,8 +38,10 @@ class _Strings(Dict):
             self[key] = value
 
 
-class _Ordered(PlacedDict, Copied, _Strings):
+class _Ordered(PlacedDict, Joined, _Strings):
     """What both kinds of JudySL have alike. A bound may be any string, also one that can't be a key."""
+
+    _all = None, None
 
     def _fill(self, pairs: Iterable[Any]) -> None:
         left = iter(pairs)
@@ -91,6 +93,27 @@ class _Ordered(PlacedDict, Copied, _Strings):
         out = [bound for bound, kept in zip((minimum, maximum), inclusive) if not kept and bound is not None]
         return (key for key in keys if key not in out) if out else keys
 
+    def discard_range(self, start: Any = None, stop: Any = None) -> int:
+        """Takes the keys from start on and below stop out, and answers how many they were. It can't want memory, but for the two strings.
+
+        >>> from sellumaq import JudySL
+        >>> ages = JudySL(a=1, b=2, c=3)
+        >>> ages.discard_range("aa", "c"), ages
+        (1, JudySL({'a': 1, 'c': 3}))
+        """
+        ends = next(self.irange(start), None), next(self.irange(None, stop, (True, False), True), None)
+        return 0 if None in ends else self._remove_range(*map(self._encoded, ends))
+
+    def discard_prefix(self, prefix: Any) -> int:
+        """Takes the keys out that begin with a string, and answers how many they were.
+
+        >>> from sellumaq import JudySL
+        >>> ages = JudySL(a=1, ab=2, b=3)
+        >>> ages.discard_prefix("a"), ages
+        (2, JudySL({'b': 3}))
+        """
+        return self._remove_prefix(self._encoded(prefix))
+
     def _at(self, place: Any) -> Any:
         if isinstance(place, slice):
             return self._some(KEYS, place)
@@ -118,6 +141,8 @@ class JudySL(_core.TextMap, _Text, _Ordered):
     (36, None, 41, ['Grace', 'Ada'])
     """
 
+    _alike = _core.TextMap
+
 
 class JudySLBytes(_core.BytesMap, _Bytes, _Ordered):
     """A dict from bytes without a zero, at most 1,024 of them, to words, in order.
@@ -125,6 +150,8 @@ class JudySLBytes(_core.BytesMap, _Bytes, _Ordered):
     >>> JudySLBytes([(b"b", 1), (bytearray(b"a"), 2)])
     JudySLBytes({b'a': 2, b'b': 1})
     """
+
+    _alike = _core.BytesMap
 
 
 class _Unordered(Copied, _Strings):

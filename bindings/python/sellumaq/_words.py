@@ -9,7 +9,7 @@ from typing import TYPE_CHECKING, Any, SupportsIndex
 
 from . import _core
 from ._core import BOTH, FIRST, ITEMS, KEYS, MAX, SECOND, VALUES
-from ._maps import Copied, Dict, reduced
+from ._maps import Copied, Dict, Joined, reduced
 from ._places import Placed, PlacedDict
 
 if TYPE_CHECKING:
@@ -48,6 +48,33 @@ class _Ordered:
         low = 0 if minimum is None else max(whole(minimum) + (not inclusive[0]), 0)
         high = MAX if maximum is None else min(whole(maximum) - (not inclusive[1]), MAX)
         return self._cursor(KEYS, low, high, reverse) if low <= high else iter(())
+
+    @staticmethod
+    def _bounds(start: SupportsIndex | None, stop: SupportsIndex | None) -> tuple[int, int]:
+        """The words from start on and below stop, as C takes them: from the first to the last. Where there are none the first is above the last."""
+        low = 0 if start is None else max(whole(start), 0)
+        high = MAX if stop is None else min(whole(stop) - 1, MAX)
+        return (low, high) if low <= high else (1, 0)
+
+    def discard_range(self, start: SupportsIndex | None = None, stop: SupportsIndex | None = None) -> int:
+        """Takes the keys from start on and below stop out, and answers how many they were. It can't want memory.
+
+        >>> from sellumaq import Judy1
+        >>> some = Judy1([10, 20, 30])
+        >>> some.discard_range(10, 30), some
+        (2, Judy1([30]))
+        """
+        return self._remove_range(*self._bounds(start, stop))
+
+    def retain_range(self, start: SupportsIndex | None = None, stop: SupportsIndex | None = None) -> int:
+        """Takes all keys out but those from start on and below stop, and answers how many they were. It can't want memory.
+
+        >>> from sellumaq import Judy1
+        >>> some = Judy1([10, 20, 30])
+        >>> some.retain_range(10, 30), some
+        (1, Judy1([10, 20]))
+        """
+        return self._keep_range(*self._bounds(start, stop))
 
     def keys_array(self, out: Any = None) -> Any:
         """All keys in order, as an array of 64-bit words; or written to the front of `out`, a buffer of such words, and then how many these are. It is
@@ -256,6 +283,67 @@ class Judy1(_core.WordSet, _Ordered, Placed, MutableSet, Sequence):
         """
         self._keep(SYMMETRIC_DIFFERENCE, (other,))
 
+    def _count_with(self, wanted: int, other: Iterable[Any]) -> int:
+        return self._count_of(wanted, self._set_of(other, wanted))
+
+    def union_count(self, other: Iterable[SupportsIndex]) -> int:
+        """How many keys `union` would have; no set is made.
+
+        >>> Judy1([1, 2]).union_count([2, 3])
+        3
+        """
+        return self._count_with(UNION, other)
+
+    def intersection_count(self, other: Iterable[Any]) -> int:
+        """How many keys `intersection` would have; no set is made.
+
+        >>> Judy1([1, 2]).intersection_count([2, 3])
+        1
+        """
+        return self._count_with(INTERSECTION, other)
+
+    def difference_count(self, other: Iterable[Any]) -> int:
+        """How many keys `difference` would have; no set is made.
+
+        >>> Judy1([1, 2]).difference_count([2, 3])
+        1
+        """
+        return self._count_with(DIFFERENCE, other)
+
+    def symmetric_difference_count(self, other: Iterable[SupportsIndex]) -> int:
+        """How many keys `symmetric_difference` would have; no set is made.
+
+        >>> Judy1([1, 2]).symmetric_difference_count([2, 3])
+        2
+        """
+        return self._count_with(SYMMETRIC_DIFFERENCE, other)
+
+    def _words(self, start: SupportsIndex, stop: SupportsIndex) -> tuple[int, int]:
+        """The bounds of words that are to be put in."""
+        low, high = whole(start), whole(stop) - 1
+        if low <= high and not (0 <= low and high <= MAX):
+            raise ValueError(f"not all words of 64 bits: {low} to {high}")
+        return (low, high) if low <= high else (1, 0)
+
+    def insert_range(self, start: SupportsIndex, stop: SupportsIndex) -> int:
+        """Puts the words from start on and below stop in, and answers how many were absent. MemoryError where there is no memory for them; the set
+        is as it was then.
+
+        >>> some = Judy1([10])
+        >>> some.insert_range(9, 12), some
+        (2, Judy1([9, 10, 11]))
+        """
+        return self._put_range(*self._words(start, stop))
+
+    def flip_range(self, start: SupportsIndex, stop: SupportsIndex) -> None:
+        """Takes the keys from start on and below stop out, and puts the other words in. MemoryError as of `insert_range`.
+
+        >>> some = Judy1([10])
+        >>> some.flip_range(9, 12); some
+        Judy1([9, 11])
+        """
+        self._flip(*self._words(start, stop))
+
     def isdisjoint(self, other: Iterable[Any]) -> bool:
         """Whether no key is in the other.
 
@@ -334,7 +422,7 @@ class Judy1(_core.WordSet, _Ordered, Placed, MutableSet, Sequence):
         return f"{type(self).__name__}({list(self) if self else ''})"
 
 
-class JudyL(_core.WordMap, _Ordered, PlacedDict, Copied, Dict):
+class JudyL(_core.WordMap, _Ordered, PlacedDict, Joined, Dict):
     """A dict from words to words, in ascending order, whose keys have places.
 
     >>> squares = JudyL({n: n * n for n in range(1, 5)})
@@ -347,6 +435,8 @@ class JudyL(_core.WordMap, _Ordered, PlacedDict, Copied, Dict):
     >>> del squares[1]; squares | {7: 49}
     JudyL({2: 4, 3: 9, 7: 49})
     """
+
+    _alike, _all = _core.WordMap, (0, MAX)
 
     @staticmethod
     def _bound(key: int) -> int:

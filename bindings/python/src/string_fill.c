@@ -109,54 +109,37 @@ PyObject *strings_make(PyObject *self, PyObject *pairs)
     Py_RETURN_NONE;
 }
 
-/* ---- copies ---- */
+/* ---- maps of others' pairs ---- */
 
-/* Gathers the next pairs of a map, as many as there is room for: those behind the last one that was gathered. */
-static void gather_next(Gathered *gathered, const Strings *map)
+/* Puts a map that was made in place of what another held, where the call that made it says that it did. */
+static PyObject *become(Strings *self, uint32_t told, const sellumaq_judysl *made)
 {
-    size_t last = gathered->count ? gathered->entries[gathered->count - 1].length : 0;
-    uint8_t *end = gathered->bytes + gathered->length;
-    sellumaq_entry *entries = gathered->entries + gathered->count;
-    size_t room = gathered->room - gathered->length, places = gathered->places - gathered->count;
-    bool itself = gathered->count == 0;
-    size_t count = sellumaq_judysl_walk(&map->handle.strings, end - last, last, itself, end, room, entries, places);
-    for (size_t n = 0; n < count; n++)
-        gathered->length += entries[n].length;
-    gathered->count += count;
-}
-
-/* Gathers all pairs of a map; false where there is no memory. No call in between lets the map change. */
-static bool gather_map(Gathered *gathered, Strings *map)
-{
-    size_t count = (size_t)map->calls->len(&map->handle);
-    if (count == 0)
-        return true;
-    gathered->entries = make_room(NULL, &gathered->places, count, sizeof *gathered->entries);
-    if (!gathered->entries)
-        return false;
-    while (gathered->count < count) {
-        size_t needed = gathered->length + SELLUMAQ_KEY_BYTES;
-        uint8_t *bytes = make_room(gathered->bytes, &gathered->room, needed, sizeof *bytes);
-        if (!bytes)
-            return false;
-        gathered->bytes = bytes;
-        gather_next(gathered, map);
-    }
-    return true;
+    if (!is_put(told))
+        return NULL;
+    sellumaq_judysl_free(&self->handle.strings);
+    self->handle.strings = *made;
+    note_change(self, true);
+    Py_RETURN_NONE;
 }
 
 PyObject *strings_copy(PyObject *object, PyTypeObject *maps, PyObject *const *arguments, Py_ssize_t count,
                        PyObject *keywords)
 {
     Strings *self = (Strings *)object, *other = (Strings *)read_array(maps, arguments, count, keywords);
+    sellumaq_judysl made = {0};
+    return other ? become(self, sellumaq_judysl_copy(&made, &other->handle.strings), &made) : NULL;
+}
+
+PyObject *strings_join(PyObject *object, PyTypeObject *maps, PyObject *const *arguments, Py_ssize_t count,
+                       PyObject *keywords)
+{
+    Strings *self = (Strings *)object, *other = (Strings *)read_array(maps, arguments, count, keywords);
+    sellumaq_judysl made = {0};
     if (!other)
         return NULL;
-    Gathered gathered = {NULL, NULL, 0, 0, 0, 0};
-    bool made = gather_map(&gathered, other) ? is_put(make(self, &gathered)) : is_put(SELLUMAQ_NO_MEMORY);
-    forget(&gathered);
-    if (!made)
-        return NULL;
-    Py_RETURN_NONE;
+    if (other == self)
+        Py_RETURN_NONE;
+    return become(self, sellumaq_judysl_union(&made, &other->handle.strings, &self->handle.strings), &made);
 }
 
 /* ---- the constructors and update ---- */

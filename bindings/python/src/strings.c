@@ -334,6 +334,47 @@ static PyObject *bisect(PyObject *object, PyObject *string, bool with_itself)
 static PyObject *bisect_left(PyObject *self, PyObject *string) { return bisect(self, string, false); }
 static PyObject *bisect_right(PyObject *self, PyObject *string) { return bisect(self, string, true); }
 
+/* Bytes as C takes them; false with an error set where an object is none. */
+static bool read_own_bytes(PyObject *object, const uint8_t **bytes, size_t *length)
+{
+    char *start;
+    Py_ssize_t count;
+    if (PyBytes_AsStringAndSize(object, &start, &count) < 0)
+        return false;
+    *bytes = (const uint8_t *)start;
+    *length = (size_t)count;
+    return true;
+}
+
+/* Notes how many keys went. */
+static PyObject *tell_gone(Strings *self, uint64_t gone)
+{
+    if (gone > 0)
+        note_change(self, true);
+    return make_word(gone);
+}
+
+static PyObject *remove_range(PyObject *object, PyObject *const *arguments, Py_ssize_t count)
+{
+    const uint8_t *ends[2];
+    size_t lengths[2];
+    if (count != 2)
+        return PyErr_Format(PyExc_TypeError, "two strings are needed");
+    for (int n = 0; n < 2; n++)
+        if (!read_own_bytes(arguments[n], &ends[n], &lengths[n]))
+            return NULL;
+    Strings *self = (Strings *)object;
+    return tell_gone(self, sellumaq_judysl_remove_range(&self->handle.strings, ends[0], lengths[0], ends[1], lengths[1]));
+}
+
+static PyObject *remove_prefix(PyObject *object, PyObject *prefix)
+{
+    const uint8_t *bytes;
+    size_t length;
+    Strings *self = (Strings *)object;
+    return read_own_bytes(prefix, &bytes, &length) ? tell_gone(self, sellumaq_judysl_remove_prefix(&self->handle.strings, bytes, length)) : NULL;
+}
+
 /* The key at a place, which counts from the end where it is negative, or the pair; IndexError where there is none. */
 static PyObject *part_at(PyObject *object, PyObject *place, enum part part)
 {
@@ -407,6 +448,9 @@ static PyMethodDef map_methods[] = {
     {"_make", strings_make, METH_O, "Makes the map one of the pairs of an iterable, whose keys must ascend."},
     {"_copy", (PyCFunction)(void (*)(void))strings_copy, METH_METHOD | METH_FASTCALL | METH_KEYWORDS,
      "Makes the map one of another's pairs."},
+    {"_join", (PyCFunction)(void (*)(void))strings_join, METH_METHOD | METH_FASTCALL | METH_KEYWORDS, "Puts another's pairs in, all or none."},
+    {"_remove_range", (PyCFunction)(void (*)(void))remove_range, METH_FASTCALL, "Takes the keys from one string to another out; answers how many."},
+    {"_remove_prefix", remove_prefix, METH_O, "Takes the keys out that begin with a string; answers how many."},
     {"_key_at", key_at, METH_O, "The key at a place."},
     {"_item_at", item_at, METH_O, "The pair at a place."},
     {"_cursor", (PyCFunction)(void (*)(void))cursor, METH_METHOD | METH_FASTCALL | METH_KEYWORDS, "A walk between two strings."},

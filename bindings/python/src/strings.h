@@ -89,8 +89,10 @@ int hash_has_text(const sellumaq_judyhs *map);
 PyObject *strings_begin(PyObject *object, PyObject *pairs);
 PyObject *strings_make(PyObject *object, PyObject *pairs);
 
-/* `_copy` makes a map in order one of another's pairs. `maps` is the type of both. */
+/* `_copy` makes a map in order one of another's pairs, and `_join` puts another's pairs in, all or none. `maps` is the type of both. */
 PyObject *strings_copy(PyObject *object, PyTypeObject *maps, PyObject *const *arguments, Py_ssize_t count,
+                       PyObject *keywords);
+PyObject *strings_join(PyObject *object, PyTypeObject *maps, PyObject *const *arguments, Py_ssize_t count,
                        PyObject *keywords);
 
 /* A cursor over the keys of a map in order. A bound is bytes, or NULL where there is none. */

@@ -7,9 +7,6 @@
 /* How many pairs are taken at a time, of which the keys or the values are wanted. */
 enum { PAGE = 256 };
 
-/* Where so many items ascend, that then don't, they are put in at once. */
-enum { MANY = 64 };
-
 static size_t width_of(const Words *self) { return self->is_map ? 2 : 1; }
 
 /* Whether a buffer's items are 64-bit words of this machine, as the module struct tells formats. A long has as many bits. */
@@ -120,16 +117,11 @@ bool make_of(Words *self, const uint64_t *items, size_t count)
     return is_made(told, place);
 }
 
-/* How many items were put into an empty array at once. */
+/* How many items were put into an empty array at once, sorted first where they don't ascend: all or none. */
 static size_t put_at_once(Words *self, const uint64_t *items, size_t count)
 {
-    size_t place = 0;
-    uint32_t told = make(self, items, count, &place);
-    if (told == SELLUMAQ_BAD_KEY && place >= MANY) {
-        count = place;
-        told = make(self, items, count, &place);
-    }
-    return told == SELLUMAQ_ADDED ? count : 0;
+    size_t place;
+    return make(self, items, count, &place) == SELLUMAQ_ADDED || make_unsorted(self, items, count) ? count : 0;
 }
 
 bool put_all(Words *self, const uint64_t *items, size_t count)

@@ -33,6 +33,13 @@ bool make_words(Words *self, const Gathered *gathered)
     return made;
 }
 
+bool make_unsorted(Words *self, const uint64_t *items, size_t count)
+{
+    bool made = self->calls->from_unsorted(&self->handle, items, count) == SELLUMAQ_DONE;
+    count_changes(self, made, 0);
+    return made;
+}
+
 /* Reads a key, or a key and its value; false with an error set. */
 static bool read_item(const Words *self, PyObject *object, uint64_t *item)
 {
@@ -99,36 +106,42 @@ PyObject *words_make(PyObject *self, PyObject *items)
     return none_unless_error();
 }
 
-/* ---- copies ---- */
+/* ---- maps of others' pairs ---- */
 
-/* Gathers all pairs of a map; false where there is no memory. No call in between lets the map change. */
-static bool gather_map(Gathered *gathered, const Words *map)
+/* Puts a map that was made in place of what another held, where the call that made it says that it did. */
+static PyObject *become(Words *self, uint32_t told, const sellumaq_judyl *made)
 {
-    size_t count = (size_t)sellumaq_judyl_len(&map->handle.map);
-    if (count == 0)
-        return true;
-    gathered->words = make_room(NULL, &gathered->room, count, sizeof(sellumaq_pair));
-    if (gathered->words)
-        gathered->count = sellumaq_judyl_walk(&map->handle.map, 0, (sellumaq_pair *)gathered->words, count);
-    return gathered->words != NULL;
+    if (told != SELLUMAQ_ADDED)
+        return PyErr_NoMemory();
+    sellumaq_judyl_free(&self->handle.map);
+    self->handle.map = *made;
+    count_changes(self, 1, 0);
+    Py_RETURN_NONE;
 }
 
 PyObject *map_copy(PyObject *object, PyTypeObject *maps, PyObject *const *arguments, Py_ssize_t count,
                    PyObject *keywords)
 {
     Words *self = (Words *)object, *other = (Words *)read_array(maps, arguments, count, keywords);
+    sellumaq_judyl made = {0};
+    return other ? become(self, sellumaq_judyl_copy(&made, &other->handle.map), &made) : NULL;
+}
+
+PyObject *map_join(PyObject *object, PyTypeObject *maps, PyObject *const *arguments, Py_ssize_t count,
+                   PyObject *keywords)
+{
+    Words *self = (Words *)object, *other = (Words *)read_array(maps, arguments, count, keywords);
+    sellumaq_judyl made = {0};
     if (!other)
         return NULL;
-    Gathered gathered = {NULL, 0, 0};
-    if (!gather_map(&gathered, other) || !make_words(self, &gathered))
-        PyErr_NoMemory();
-    PyMem_Free(gathered.words);
-    return none_unless_error();
+    if (other == self)
+        Py_RETURN_NONE;
+    return become(self, sellumaq_judyl_union(&made, &other->handle.map, &self->handle.map), &made);
 }
 
 /* ---- the constructors and update ---- */
 
-/* Gathers an item that may be the next one; false where it can't be read without a call of others' code, or is none. */
+/* Gathers an item; false where it can't be read without a call of others' code, or is none. */
 static bool gather_plain(const Words *self, Gathered *gathered, PyObject *object)
 {
     uint64_t item[2];
@@ -138,7 +151,7 @@ static bool gather_plain(const Words *self, Gathered *gathered, PyObject *object
     if (!is_plain)
         return false;
     if (read_item(self, object, item))
-        return is_next(self, gathered, item[0]) && gather_words(self, gathered, item);
+        return gather_words(self, gathered, item);
     PyErr_Clear();
     return false;
 }
@@ -147,7 +160,9 @@ static bool gather_plain(const Words *self, Gathered *gathered, PyObject *object
  * False with an error set then. */
 static bool put_gathered(Words *self, const Gathered *gathered)
 {
-    if (gathered->count == 0 || (is_empty(self) && make_words(self, gathered)))
+    if (gathered->count == 0)
+        return true;
+    if (is_empty(self) && (make_words(self, gathered) || make_unsorted(self, gathered->words, gathered->count)))
         return true;
     bool put = true;
     for (size_t n = 0; put && n < gathered->count; n++)
@@ -155,8 +170,8 @@ static bool put_gathered(Words *self, const Gathered *gathered)
     return put;
 }
 
-/* Puts the items that an iterator begins with into an empty array at once, as far as they ascend. Nobody can tell: no code but our own and
- * Python's runs from the first to the last. Answers the next item; NULL where none is left, or with an error set. */
+/* Puts the items that an iterator begins with into an empty array at once, sorted first where they don't ascend. Nobody can tell: no code but our
+ * own and Python's runs from the first to the last. Answers the next item; NULL where none is left, or with an error set. */
 static PyObject *begin(Words *self, PyObject *each)
 {
     Gathered gathered = {NULL, 0, 0};

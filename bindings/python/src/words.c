@@ -21,10 +21,19 @@
     {                                                                                                     \
         return sellumaq_##kind##_count(&handle->member, from, to);                                        \
     }                                                                                                     \
+    static uint64_t kind##_remove_range(Handle *handle, uint64_t from, uint64_t to)                       \
+    {                                                                                                     \
+        return sellumaq_##kind##_remove_range(&handle->member, from, to);                                 \
+    }                                                                                                     \
+    static uint64_t kind##_retain_range(Handle *handle, uint64_t from, uint64_t to)                       \
+    {                                                                                                     \
+        return sellumaq_##kind##_retain_range(&handle->member, from, to);                                 \
+    }                                                                                                     \
     static const WordCalls kind##_calls = {                                                               \
         kind##_first,      kind##_next, kind##_last, kind##_prev,  kind##_first_empty, kind##_last_empty, \
         kind##_by_count,   kind##_has,  kind##_remove, kind##_len, kind##_count,       kind##_free,       \
-        kind##_put,        kind##_from_sorted, &kind##_saved,                                             \
+        kind##_put,        kind##_from_sorted, kind##_from_unsorted, kind##_remove_range, kind##_retain_range, \
+        &kind##_saved,                                                                                    \
     };
 
 static bool judy1_has(Handle *handle, uint64_t key) { return sellumaq_judy1_test(&handle->set, key); }
@@ -33,6 +42,10 @@ static uint32_t judy1_put(Handle *handle, const uint64_t *item) { return selluma
 static uint32_t judy1_from_sorted(Handle *handle, const uint64_t *items, size_t count, size_t *place)
 {
     return sellumaq_judy1_from_sorted(&handle->set, items, count, place);
+}
+static uint32_t judy1_from_unsorted(Handle *handle, const uint64_t *items, size_t count)
+{
+    return sellumaq_judy1_from_unsorted(&handle->set, items, count);
 }
 WORD_CALLS(judy1, set)
 
@@ -46,6 +59,10 @@ static uint32_t judyl_put(Handle *handle, const uint64_t *item) { return selluma
 static uint32_t judyl_from_sorted(Handle *handle, const uint64_t *items, size_t count, size_t *place)
 {
     return sellumaq_judyl_from_sorted(&handle->map, (const sellumaq_pair *)items, count, place);
+}
+static uint32_t judyl_from_unsorted(Handle *handle, const uint64_t *items, size_t count)
+{
+    return sellumaq_judyl_from_unsorted(&handle->map, (const sellumaq_pair *)items, count);
 }
 WORD_CALLS(judyl, map)
 
@@ -297,6 +314,37 @@ static PyObject *cursor(PyObject *self, PyTypeObject *defining, PyObject *const 
     return !state ? NULL : new_word_cursor(state->word_cursor, (Words *)self, (enum part)part, low, high, reverse);
 }
 
+/* Reads the words that a range goes from and to, both included; false with an error set. */
+static bool read_range(PyObject *const *arguments, Py_ssize_t count, uint64_t *from, uint64_t *to)
+{
+    if (count == 2)
+        return read_word(arguments[0], from) && read_word(arguments[1], to);
+    PyErr_SetString(PyExc_TypeError, "two words are needed");
+    return false;
+}
+
+static PyObject *remove_range(PyObject *object, PyObject *const *arguments, Py_ssize_t count)
+{
+    Words *self = (Words *)object;
+    uint64_t from, to;
+    if (!read_range(arguments, count, &from, &to))
+        return NULL;
+    uint64_t gone = self->calls->remove_range(&self->handle, from, to);
+    count_changes(self, gone > 0, 0);
+    return make_word(gone);
+}
+
+static PyObject *keep_range(PyObject *object, PyObject *const *arguments, Py_ssize_t count)
+{
+    Words *self = (Words *)object;
+    uint64_t from, to;
+    if (!read_range(arguments, count, &from, &to))
+        return NULL;
+    uint64_t gone = self->calls->retain_range(&self->handle, from, to);
+    count_changes(self, gone > 0, 0);
+    return make_word(gone);
+}
+
 #define SOME ">>> from sellumaq import Judy1\n>>> some = Judy1([10, 20, 30])\n"
 
 #define WORD_METHODS \
@@ -320,6 +368,8 @@ static PyObject *cursor(PyObject *self, PyTypeObject *defining, PyObject *const 
     {"_fill", words_fill, METH_O, "Puts the items of an iterable in."}, \
     {"_make", words_make, METH_O, "Makes the array one of the items of an iterable, whose keys must ascend."}, \
     {"_at", item_at, METH_O, "The key at a place, or the list of those of a slice."}, \
+    {"_remove_range", (PyCFunction)(void (*)(void))remove_range, METH_FASTCALL, "Takes the keys from one word to another out; answers how many."}, \
+    {"_keep_range", (PyCFunction)(void (*)(void))keep_range, METH_FASTCALL, "Takes all other keys out; answers how many."}, \
     {"_write", (PyCFunction)(void (*)(void))words_write, METH_FASTCALL, "Writes all keys or values into a buffer; answers how many."}, \
     {"_cursor", (PyCFunction)(void (*)(void))cursor, METH_METHOD | METH_FASTCALL | METH_KEYWORDS, "A walk between two words."}
 
@@ -367,6 +417,27 @@ static bool append_whether(Words *self, const Group *group, PyObject *told)
     return put;
 }
 
+/* Makes a change of the words of a range by a call of C, which may want memory, and answers how many keys more there are. */
+static PyObject *change_range(PyObject *object, PyObject *const *arguments, Py_ssize_t count, uint32_t call(sellumaq_judy1 *, uint64_t, uint64_t))
+{
+    Words *self = (Words *)object;
+    uint64_t from, to;
+    if (!read_range(arguments, count, &from, &to))
+        return NULL;
+    Py_ssize_t had = words_len(object);
+    if (call(&self->handle.set, from, to) != SELLUMAQ_DONE)
+        return PyErr_NoMemory();
+    count_changes(self, 1, 0);
+    return PyLong_FromSsize_t(words_len(object) - had);
+}
+
+static PyObject *put_range(PyObject *object, PyObject *const *arguments, Py_ssize_t count)
+{
+    return change_range(object, arguments, count, sellumaq_judy1_insert_range);
+}
+
+static PyObject *flip(PyObject *object, PyObject *const *arguments, Py_ssize_t count) { return change_range(object, arguments, count, sellumaq_judy1_flip); }
+
 static PyObject *set_contains_many(PyObject *self, PyObject *const *arguments, Py_ssize_t count, PyObject *keywords)
 {
     return look_up_many(self, arguments, count, keywords, append_whether);
@@ -392,6 +463,10 @@ static PyMethodDef set_methods[] = {
      "Makes the set what is wanted of two sets."},
     {"_has_any", (PyCFunction)(void (*)(void))set_has_any, METH_METHOD | METH_FASTCALL | METH_KEYWORDS,
      "Whether this set and another have any key that is wanted."},
+    {"_count_of", (PyCFunction)(void (*)(void))set_count_of, METH_METHOD | METH_FASTCALL | METH_KEYWORDS,
+     "How many keys are wanted of this set and another."},
+    {"_put_range", (PyCFunction)(void (*)(void))put_range, METH_FASTCALL, "Puts the words from one to another in; answers how many were absent."},
+    {"_flip", (PyCFunction)(void (*)(void))flip, METH_FASTCALL, "Takes the keys from one word to another out, and puts the other words in; how many keys more there are."},
     {NULL, NULL, 0, NULL},
 };
 
@@ -517,6 +592,7 @@ static PyMethodDef map_methods[] = {
     {"_pair_at", pair_at, METH_O, "The pair at a place."},
     {"_copy", (PyCFunction)(void (*)(void))map_copy, METH_METHOD | METH_FASTCALL | METH_KEYWORDS,
      "Makes the map one of another's pairs."},
+    {"_join", (PyCFunction)(void (*)(void))map_join, METH_METHOD | METH_FASTCALL | METH_KEYWORDS, "Puts another's pairs in, all or none."},
     {NULL, NULL, 0, NULL},
 };
 

@@ -18,6 +18,10 @@ typedef struct {
     /* An item of a set is a key, one of a map a key and its value behind it. */
     uint32_t (*put)(Handle *handle, const uint64_t *item);
     uint32_t (*from_sorted)(Handle *handle, const uint64_t *items, size_t count, size_t *place);
+    uint32_t (*from_unsorted)(Handle *handle, const uint64_t *items, size_t count);
+    /* These answer how many keys went. */
+    uint64_t (*remove_range)(Handle *handle, uint64_t from, uint64_t to);
+    uint64_t (*retain_range)(Handle *handle, uint64_t from, uint64_t to);
     const SavedCalls *saved;
 } WordCalls;
 
@@ -50,12 +54,17 @@ bool gather_words(const Words *self, Gathered *gathered, const uint64_t *item);
 /* Makes the array one of what was gathered; false where there is no memory, and then it is as it was. */
 bool make_words(Words *self, const Gathered *gathered);
 
+/* The same of items in any order, the last of each key; false where there is no memory, and then it is as it was. */
+bool make_unsorted(Words *self, const uint64_t *items, size_t count);
+
 /* `_fill`; `_pick` of a set, by which what can be no key is passed over; and `_make`, in which `from_sorted` ends. */
 PyObject *words_fill(PyObject *object, PyObject *items);
 PyObject *set_pick(PyObject *object, PyObject *items);
 
-/* `_copy` makes a map one of another's pairs. `maps` is the type of maps. */
+/* `_copy` makes a map one of another's pairs, and `_join` puts another's pairs in, all or none. `maps` is the type of maps. */
 PyObject *map_copy(PyObject *object, PyTypeObject *maps, PyObject *const *arguments, Py_ssize_t count,
+                   PyObject *keywords);
+PyObject *map_join(PyObject *object, PyTypeObject *maps, PyObject *const *arguments, Py_ssize_t count,
                    PyObject *keywords);
 PyObject *words_make(PyObject *object, PyObject *items);
 
@@ -103,12 +112,14 @@ bool append_new(PyObject *list, PyObject *object);
 /* What is told of the keys of an iterable, in a list; or into the buffer `out`, where one is given. */
 PyObject *look_up_many(PyObject *object, PyObject *const *arguments, Py_ssize_t count, PyObject *keywords, Append *append_told);
 
-/* word_sets.c: `_combine` makes a set what is wanted of two others, and `_has_any` tells whether that is any key.
+/* word_sets.c: `_combine` makes a set what is wanted of two others, `_has_any` tells whether that is any key, and `_count_of` how many they are.
  * `sets` is the type of sets. */
 PyObject *set_combine(PyObject *object, PyTypeObject *sets, PyObject *const *arguments, Py_ssize_t count,
                       PyObject *keywords);
 PyObject *set_has_any(PyObject *object, PyTypeObject *sets, PyObject *const *arguments, Py_ssize_t count,
                       PyObject *keywords);
+PyObject *set_count_of(PyObject *object, PyTypeObject *sets, PyObject *const *arguments, Py_ssize_t count,
+                       PyObject *keywords);
 
 /* A cursor over the keys of `words` from one word to another, both included; it holds a reference to the array. */
 PyObject *new_word_cursor(PyTypeObject *type, Words *words, enum part part, uint64_t low, uint64_t high, bool reverse);

@@ -3,6 +3,7 @@ use crate::array::array;
 use crate::saved::{saved, OfTypes};
 use crate::sorted::at_once;
 use crate::span::{Found, Span};
+use crate::two::of_two;
 use crate::types::Key;
 use crate::walk::walks;
 use crate::way::Way;
@@ -13,8 +14,10 @@ use std::borrow::Borrow;
 use std::fmt;
 
 mod algebra;
+mod ranges;
 
 pub use algebra::{Difference, Intersection, SymmetricDifference, Union};
+pub use ranges::ExtractIf;
 
 array!(
     /// An ordered set of words, or of other integers: a `Judy1` is a set of `u64`, and a `Judy1<i32>` one of `i32`.
@@ -36,16 +39,24 @@ array!(
 word_array!(
     Judy1<K: Key>; u64, sellumaq_judy1_walk;
     sellumaq_judy1_count, sellumaq_judy1_by_count, sellumaq_judy1_first_empty, sellumaq_judy1_last_empty,
-    sellumaq_judy1_remove_range;
+    sellumaq_judy1_remove_range, sellumaq_judy1_retain_range, sellumaq_judy1_copy_range, sellumaq_judy1_split_off;
     "let array = sellumaq::Judy1::from([1, 2, 10]);"
 );
 
-collected!(Judy1<K: Key>; u64; "let array = sellumaq::Judy1::from([1, 2, 10]);");
+collected!(Judy1<K: Key>; K, u64; sellumaq_judy1_append; "let array = sellumaq::Judy1::from([1, 2, 10]);");
+
+of_two!(
+    Judy1<K: Key>; K, |key| key; contains, get; sellumaq_judy1,
+    sellumaq_judy1_copy, sellumaq_judy1_union, sellumaq_judy1_intersection, sellumaq_judy1_difference, sellumaq_judy1_symmetric_difference;
+    sellumaq_judy1_intersection_count, sellumaq_judy1_is_subset, sellumaq_judy1_is_disjoint, sellumaq_judy1_has_same_keys;
+    "let (a, b) = (sellumaq::Judy1::from([1, 2]), sellumaq::Judy1::from([2, 3]));"
+);
 
 at_once!(
-    Judy1<K: Key>; K; u64, sellumaq_judy1_from_sorted;
+    Judy1<K: Key>; K; u64, sellumaq_judy1_from_sorted, sellumaq_judy1_from_unsorted;
     "let array = sellumaq::Judy1::from_sorted([1, 2, 10]);",
-    "assert!(sellumaq::Judy1::from_sorted([1, 2, 2]).is_err());"
+    "assert!(sellumaq::Judy1::from_sorted([1, 2, 2]).is_err());",
+    "let array = sellumaq::Judy1::from_unsorted([3, 1, 3]);"
 );
 
 walks!(Judy1<K: Key = u64> through Way<u64>; K; "let array = sellumaq::Judy1::from([1, 2, 10]);");
@@ -282,21 +293,11 @@ impl<K: Key> Judy1<K> {
     /// assert!(set.iter().eq([0, 3, 6, 9]));
     /// ```
     pub fn retain(&mut self, mut keep: impl FnMut(&K) -> bool) {
-        // what was brought beyond a key is there still when the key was taken out
-        let mut way = Way::of(Span::ALL);
-        while let Some(key) = way.next(self).map(K::of_word) {
-            if !keep(&key) {
-                self.remove(key);
-            }
-        }
+        self.extract_if(.., |key| !keep(key)).for_each(drop);
     }
-}
 
-impl<K: Key> Extend<K> for Judy1<K> {
-    fn extend<I: IntoIterator<Item = K>>(&mut self, keys: I) {
-        for key in keys {
-            self.insert(key);
-        }
+    fn put_item(&mut self, key: K) {
+        self.insert(key);
     }
 }
 

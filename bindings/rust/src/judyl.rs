@@ -6,6 +6,7 @@ use crate::saved::{saved, OfTypes};
 use crate::slots::slot_walks;
 use crate::sorted::at_once;
 use crate::span::{Found, Span};
+use crate::two::of_two;
 use crate::types::{Key, Value, ZeroValue};
 use crate::walk::walks;
 use crate::way::{Room, Told, Walked, Way};
@@ -14,6 +15,7 @@ use crate::{no_room, NoMemory};
 use sellumaq_sys as sys;
 use std::borrow::Borrow;
 use std::fmt;
+use std::iter::FusedIterator;
 use std::mem::MaybeUninit;
 use std::ops::{Index, RangeBounds, RangeInclusive};
 use std::ptr::{null_mut, NonNull};
@@ -41,16 +43,27 @@ array!(
 word_array!(
     JudyL<V: Value, K: Key>; sys::sellumaq_pair, sellumaq_judyl_walk;
     sellumaq_judyl_count, sellumaq_judyl_by_count, sellumaq_judyl_first_empty, sellumaq_judyl_last_empty,
-    sellumaq_judyl_remove_range;
+    sellumaq_judyl_remove_range, sellumaq_judyl_retain_range, sellumaq_judyl_copy_range, sellumaq_judyl_split_off;
     "let array = sellumaq::JudyL::from([(1, 10), (2, 20), (10, 30)]);"
 );
 
-collected!(JudyL<V: Value, K: Key>; (u64, u64); "let array = sellumaq::JudyL::from([(1, 10), (2, 20), (10, 30)]);");
+collected!(
+    JudyL<V: Value, K: Key>; (K, V), (u64, u64); sellumaq_judyl_append;
+    "let array = sellumaq::JudyL::from([(1, 10), (2, 20), (10, 30)]);"
+);
+
+of_two!(
+    JudyL<V: Value, K: Key>; (K, V), |pair| pair.0; contains_key, get_key_value; sellumaq_judyl,
+    sellumaq_judyl_copy, sellumaq_judyl_union, sellumaq_judyl_intersection, sellumaq_judyl_difference, sellumaq_judyl_symmetric_difference;
+    sellumaq_judyl_intersection_count, sellumaq_judyl_is_subset, sellumaq_judyl_is_disjoint, sellumaq_judyl_has_same_keys;
+    "let (a, b) = (sellumaq::JudyL::from([(1, 10), (2, 20)]), sellumaq::JudyL::from([(2, 21), (3, 31)]));"
+);
 
 at_once!(
-    JudyL<V: Value, K: Key>; (K, V); sys::sellumaq_pair, sellumaq_judyl_from_sorted;
+    JudyL<V: Value, K: Key>; (K, V); sys::sellumaq_pair, sellumaq_judyl_from_sorted, sellumaq_judyl_from_unsorted;
     "let array = sellumaq::JudyL::from_sorted([(1, 10), (2, 20), (10, 30)]);",
-    "assert!(sellumaq::JudyL::from_sorted([(2, 20), (1, 10)]).is_err());"
+    "assert!(sellumaq::JudyL::from_sorted([(2, 20), (1, 10)]).is_err());",
+    "let array = sellumaq::JudyL::from_unsorted([(3, 30), (1, 10), (3, 31)]);"
 );
 
 walks!(
@@ -489,18 +502,68 @@ impl<V: Value, K: Key> JudyL<V, K> {
     /// assert!(map.iter().eq([(0, 0), (5, 10)]));
     /// ```
     pub fn retain(&mut self, mut keep: impl FnMut(&K, &mut V) -> bool) {
-        // what was brought beyond a key is there still when the key was taken out
-        let mut way = Way::of(Span::ALL);
-        while let Some((key, bits)) = way.next(self) {
-            let (key, mut value) = (K::of_word(key), V::of_bits(bits));
-            if !keep(&key, &mut value) {
-                self.delete(&key);
-            } else if value.bits() != bits {
-                self.put(key, value);
-            }
+        let extracted = self.extract_if(.., |key, value| !keep(key, value));
+        extracted.for_each(drop);
+    }
+
+    /// Takes those keys of a range out that are chosen, one at each step of the iterator, by ascending key; `chosen` may change the values. Where
+    /// the iterator is dropped, the others stay.
+    ///
+    /// ```
+    /// let mut map: sellumaq::JudyL = (0..10).map(|n| (n, n * n)).collect();
+    /// assert!(map.extract_if(4.., |key, _| key % 3 == 0).eq([(6, 36), (9, 81)]));
+    /// assert_eq!(map.len(), 8);
+    /// ```
+    pub fn extract_if<F: FnMut(&K, &mut V) -> bool>(
+        &mut self,
+        range: impl RangeBounds<K>,
+        chosen: F,
+    ) -> ExtractIf<'_, V, K, F> {
+        ExtractIf {
+            way: Way::of(Span::of(range)),
+            map: self,
+            chosen,
         }
     }
+
+    fn put_item(&mut self, (key, value): (K, V)) {
+        self.put(key, value);
+    }
 }
+
+/// The pairs that [`JudyL::extract_if`] takes out.
+///
+/// ```
+/// let mut map = sellumaq::JudyL::from([(1, 10), (2, 20)]);
+/// assert_eq!(map.extract_if(.., |key, _| *key > 1).next(), Some((2, 20)));
+/// ```
+#[must_use = "iterators are lazy and do nothing unless consumed"]
+pub struct ExtractIf<'a, V: Value, K: Key, F> {
+    map: &'a mut JudyL<V, K>,
+    way: Way<sys::sellumaq_pair>,
+    chosen: F,
+}
+
+impl<V: Value, K: Key, F: FnMut(&K, &mut V) -> bool> Iterator for ExtractIf<'_, V, K, F> {
+    type Item = (K, V);
+
+    fn next(&mut self) -> Option<(K, V)> {
+        // what was brought beyond a key is there still when the key was taken out
+        while let Some((word, bits)) = self.way.next(self.map) {
+            let (key, mut value) = (K::of_word(word), V::of_bits(bits));
+            if (self.chosen)(&key, &mut value) {
+                self.map.delete(&key);
+                return Some((key, value));
+            }
+            if value.bits() != bits {
+                self.map.put(key, value);
+            }
+        }
+        None
+    }
+}
+
+impl<V: Value, K: Key, F: FnMut(&K, &mut V) -> bool> FusedIterator for ExtractIf<'_, V, K, F> {}
 
 /// Where the key is absent it panics, as std's maps do.
 impl<V: Value, K: Key, Q: Borrow<K>> Index<Q> for JudyL<V, K> {
@@ -512,14 +575,6 @@ impl<V: Value, K: Key, Q: Borrow<K>> Index<Q> for JudyL<V, K> {
             .expect("no entry found for key");
         // SAFETY: as in `get_mut`.
         unsafe { &*slot.as_ptr() }
-    }
-}
-
-impl<V: Value, K: Key> Extend<(K, V)> for JudyL<V, K> {
-    fn extend<I: IntoIterator<Item = (K, V)>>(&mut self, pairs: I) {
-        for (key, value) in pairs {
-            self.put(key, value);
-        }
     }
 }
 

@@ -6,6 +6,7 @@ use crate::keyed::{keyed_map, InsertError, MAX_KEY};
 use crate::ordered::ordered_map;
 use crate::saved::{saved, OfTypes};
 use crate::slots::slot_walks;
+use crate::two::of_two;
 use crate::types::{Value, ZeroValue};
 use crate::walk::walks;
 use crate::NoMemory;
@@ -13,7 +14,8 @@ use sellumaq_sys as sys;
 use std::cmp::Ordering;
 use std::fmt;
 use std::hash::{Hash, Hasher};
-use std::mem::{swap, take};
+use std::iter::FusedIterator;
+use std::mem::take;
 use std::ops::{Bound, Index};
 use std::ptr::{null_mut, NonNull};
 
@@ -84,6 +86,13 @@ impl<V: Value> OfTypes for JudySl<V> {
         Ok(true)
     }
 }
+
+of_two!(
+    JudySl<V: Value>; (Vec<u8>, V), |pair| &pair.0; contains_key, get_key_value; sellumaq_judysl,
+    sellumaq_judysl_copy, sellumaq_judysl_union, sellumaq_judysl_intersection, sellumaq_judysl_difference, sellumaq_judysl_symmetric_difference;
+    sellumaq_judysl_intersection_count, sellumaq_judysl_is_subset, sellumaq_judysl_is_disjoint, sellumaq_judysl_has_same_keys;
+    "let (a, b) = (sellumaq::JudySl::from([(\"a\", 10), (\"b\", 20)]), sellumaq::JudySl::from([(\"b\", 21), (\"c\", 31)]));"
+);
 
 impl<V: Value> JudySl<V> {
     fn item((key, bits): (Vec<u8>, u64)) -> (Vec<u8>, V) {
@@ -276,16 +285,64 @@ impl<V: Value> JudySl<V> {
     /// assert_eq!((map.len(), map["b"]), (1, 20));
     /// ```
     pub fn retain(&mut self, mut keep: impl FnMut(&[u8], &mut V) -> bool) {
-        // what was brought beyond a key is there still when the key was taken out
-        let mut way = Way::of(&(..));
-        while let Some((key, bits)) = way.next_entry(self) {
-            let mut value = V::of_bits(bits);
-            if !keep(key, &mut value) {
-                self.delete(key);
-            } else if value.bits() != bits {
-                self.insert(key, value);
-            }
+        let extracted = self.extract_if(.., |key, value| !keep(key, value));
+        extracted.for_each(drop);
+    }
+
+    /// Takes those keys of a range out that are chosen, one at each step of the iterator, by ascending key; `chosen` may change the values. Where
+    /// the iterator is dropped, the others stay.
+    ///
+    /// ```
+    /// let mut map = sellumaq::JudySl::from([("a", 10), ("b", 20), ("c", 30)]);
+    /// assert!(map.extract_if("b".., |_, value| *value > 20).eq([(b"c".to_vec(), 30)]));
+    /// assert_eq!(map.len(), 2);
+    /// ```
+    pub fn extract_if<F: FnMut(&[u8], &mut V) -> bool>(
+        &mut self,
+        range: impl StringRange,
+        chosen: F,
+    ) -> ExtractIf<'_, V, F> {
+        ExtractIf {
+            way: Way::of(&range),
+            map: self,
+            chosen,
         }
+    }
+
+    /// Takes all keys of a range out, and answers how many they were. It can't want memory.
+    ///
+    /// ```
+    /// let mut map = sellumaq::JudySl::from([("a", 10), ("b", 20), ("c", 30)]);
+    /// assert_eq!((map.remove_range("aa".."c"), map.len()), (1, 2));
+    /// ```
+    pub fn remove_range(&mut self, range: impl StringRange) -> usize {
+        let ends = (
+            Steps::of(&range).next(self),
+            Steps::of(&range).next_back(self),
+        );
+        if let (Some((from, _)), Some((to, _))) = ends {
+            let (handle, first, last) = (&mut self.handle, from.as_ptr(), to.as_ptr());
+            // SAFETY: the handle is this map's, lent for this call alone; both keys are this function's.
+            let keys = unsafe {
+                sys::sellumaq_judysl_remove_range(handle, first, from.len(), last, to.len())
+            };
+            return keys as usize;
+        }
+        0
+    }
+
+    /// Takes all keys out that begin with some bytes, and answers how many they were. It can't want memory.
+    ///
+    /// ```
+    /// let mut map = sellumaq::JudySl::from([("a", 10), ("ab", 20), ("b", 30)]);
+    /// assert_eq!((map.remove_prefix("a"), map.len()), (2, 1));
+    /// ```
+    pub fn remove_prefix(&mut self, prefix: impl AsRef<[u8]>) -> usize {
+        let (handle, prefix) = (&mut self.handle, prefix.as_ref());
+        // SAFETY: the handle is this map's, lent for this call alone; the bytes are a slice's.
+        let keys =
+            unsafe { sys::sellumaq_judysl_remove_prefix(handle, prefix.as_ptr(), prefix.len()) };
+        keys as usize
     }
 
     /// Moves all that another holds into this one. A key of both has the other's value then.
@@ -296,14 +353,27 @@ impl<V: Value> JudySl<V> {
     /// assert!(map.values().eq([10, 21, 30]));
     /// ```
     pub fn append(&mut self, other: &mut Self) {
-        if self.is_empty() {
-            swap(self, other);
+        let mut more = take(other);
+        if !more.is_few_beside(self) {
+            more.join(self);
+            *self = more;
             return;
         }
-        let mut entries = take(other).into_iter();
-        while let Some((key, value)) = entries.way.next_entry(&entries.array) {
-            self.insert(key, V::of_bits(value));
+        let mut entries = more.iter();
+        while let Some((key, value)) = entries.next_entry() {
+            self.insert(key, value);
         }
+    }
+
+    /// A map of what it holds in a range of keys.
+    ///
+    /// ```
+    /// let map = sellumaq::JudySl::from([("a", 10), ("b", 20)]);
+    /// assert!(map.copy_range("b"..).iter().eq(map.range("b"..)));
+    /// ```
+    #[must_use]
+    pub fn copy_range(&self, range: impl StringRange) -> Self {
+        self.range(range).at_once()
     }
 
     /// Takes out all from a string on, and answers it as a map.
@@ -314,16 +384,46 @@ impl<V: Value> JudySl<V> {
     /// assert_eq!(map.len(), 1);
     /// ```
     pub fn split_off(&mut self, key: impl AsRef<[u8]>) -> Self {
-        // as in `retain`
-        let mut way = Way::of(&(Bound::Included(key.as_ref()), Bound::Unbounded));
-        let mut upper = Self::empty();
-        while let Some((key, value)) = way.next_entry(self) {
-            upper.insert(key, V::of_bits(value));
-            self.delete(key);
-        }
+        let range = (Bound::Included(key.as_ref()), Bound::Unbounded);
+        let upper = self.copy_range(range);
+        self.remove_range(range);
         upper
     }
 }
+
+/// The pairs that [`JudySl::extract_if`] takes out.
+///
+/// ```
+/// let mut map = sellumaq::JudySl::from([("a", 10), ("b", 20)]);
+/// assert_eq!(map.extract_if(.., |key, _| key > &b"a"[..]).next(), Some((b"b".to_vec(), 20)));
+/// ```
+#[must_use = "iterators are lazy and do nothing unless consumed"]
+pub struct ExtractIf<'a, V: Value, F> {
+    map: &'a mut JudySl<V>,
+    way: Way,
+    chosen: F,
+}
+
+impl<V: Value, F: FnMut(&[u8], &mut V) -> bool> Iterator for ExtractIf<'_, V, F> {
+    type Item = (Vec<u8>, V);
+
+    fn next(&mut self) -> Option<(Vec<u8>, V)> {
+        // what was brought beyond a key is there still when the key was taken out
+        while let Some((key, bits)) = self.way.next_entry(self.map) {
+            let mut value = V::of_bits(bits);
+            if (self.chosen)(key, &mut value) {
+                self.map.delete(key);
+                return Some((key.to_vec(), value));
+            }
+            if value.bits() != bits {
+                self.map.insert(key, value);
+            }
+        }
+        None
+    }
+}
+
+impl<V: Value, F: FnMut(&[u8], &mut V) -> bool> FusedIterator for ExtractIf<'_, V, F> {}
 
 impl<V: Value> Range<'_, V> {
     /// The next pair, its key lent until the next call. No memory is asked for, as it is for the keys that `next` gives away.
@@ -370,16 +470,6 @@ impl<V: Value> Iter<'_, V> {
     pub fn next_back_entry(&mut self) -> Option<(&[u8], V)> {
         self.left = self.left.checked_sub(1)?;
         self.range.next_back_entry()
-    }
-}
-
-impl<V: Value> Clone for JudySl<V> {
-    fn clone(&self) -> Self {
-        let (mut copy, mut entries) = (Self::empty(), self.iter());
-        while let Some((key, value)) = entries.next_entry() {
-            copy.insert(key, value);
-        }
-        copy
     }
 }
 

@@ -69,6 +69,7 @@ mod serial;
 mod slots;
 mod sorted;
 mod span;
+mod two;
 mod types;
 mod walk;
 mod way;

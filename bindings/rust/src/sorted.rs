@@ -52,11 +52,11 @@ impl fmt::Display for FromSortedError {
 
 impl std::error::Error for FromSortedError {}
 
-/// Writes how an array of words is made of many items at once, by the call `$from_sorted` over a list of `$told`.
+/// Writes how an array of words is made of many items at once, by the calls `$from_sorted` and `$from_unsorted` over a list of `$told`.
 macro_rules! at_once {
     (
-        $array:ident<$($param:ident: $bound:path),+>; $item:ty; $told:ty, $from_sorted:ident;
-        $sample:literal, $wrong:literal
+        $array:ident<$($param:ident: $bound:path),+>; $item:ty; $told:ty, $from_sorted:ident, $from_unsorted:ident;
+        $sample:literal, $wrong:literal, $unsorted:literal
     ) => {
         impl<$($param: $bound),+> $array<$($param),+> {
             fn at_once(told: &[$told]) -> Result<Self, crate::NotAscending> {
@@ -92,22 +92,37 @@ macro_rules! at_once {
                 Self::at_once(&Self::list(items))
             }
 
+            /// Makes an array of items in any order, of which the last with a key is kept; `collect` does the same. They are sorted
+            /// first, where they don't ascend, which takes a part of the time of an insert for each. It ends the program where there is no
+            /// memory.
+            ///
+            /// ```
+            #[doc = $unsorted]
+            /// assert_eq!(array.len(), 2);
+            /// ```
+            pub fn from_unsorted<I: IntoIterator<Item = $item>>(items: I) -> Self {
+                let told = Self::list(items);
+                Self::at_once(&told).unwrap_or_else(|_| Self::sorted_first(&told))
+            }
+
+            fn sorted_first(told: &[$told]) -> Self {
+                let (items, count) = (told.as_ptr(), told.len());
+                // SAFETY: the handle is a new array's, lent for this call alone, and the list is as long as is told.
+                let made = Self::made_by(|made| unsafe {
+                    sellumaq_sys::$from_unsorted(made, items, count)
+                });
+                made.unwrap_or_else(crate::InsertError::end)
+            }
+
             fn list(items: impl IntoIterator<Item = $item>) -> Vec<$told> {
                 let told = items.into_iter().map(Self::told);
                 told.map(crate::way::Told::of).collect()
             }
         }
 
-        /// Items whose keys strictly ascend make an array at once; others are put in one by one.
         impl<$($param: $bound),+> FromIterator<$item> for $array<$($param),+> {
             fn from_iter<I: IntoIterator<Item = $item>>(items: I) -> Self {
-                let told = Self::list(items);
-                Self::at_once(&told).unwrap_or_else(|_| {
-                    let mut array = Self::empty();
-                    let items = told.into_iter().map(crate::way::Told::item);
-                    array.extend(items.map(Self::item));
-                    array
-                })
+                Self::from_unsorted(items)
             }
         }
     };

@@ -26,6 +26,9 @@ impl Found for sellumaq_sys::sellumaq_pair {
     }
 }
 
+/// The ends of no words, as C takes them.
+pub const NO_WORDS: (u64, u64) = (1, 0);
+
 /// The words from one to another, both included, whose keys are still to come; none is left of no words.
 #[derive(Clone, Debug)]
 pub struct Span(Option<(u64, u64)>);
@@ -33,9 +36,6 @@ pub struct Span(Option<(u64, u64)>);
 impl Span {
     /// No words.
     pub const NONE: Span = Span(None);
-
-    /// All words.
-    pub const ALL: Span = Span(Some((0, u64::MAX)));
 
     /// The words of a range of keys. Words that are no keys may be among them.
     pub fn of<K: Key>(range: impl RangeBounds<K>) -> Span {
@@ -55,14 +55,6 @@ impl Span {
     /// Both ends.
     pub fn ends(&self) -> Option<(u64, u64)> {
         self.0
-    }
-
-    /// The least key left, by the search for the least from a word on.
-    pub fn next<T: Found>(&mut self, at_or_after: impl FnOnce(u64) -> Option<T>) -> Option<T> {
-        let (from, to) = self.0.take()?;
-        let found = at_or_after(from).filter(|found| found.key() <= to)?;
-        self.go_behind(found.key(), to);
-        Some(found)
     }
 
     /// Leaves the words above one, up to another.

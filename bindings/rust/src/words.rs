@@ -1,11 +1,15 @@
 //! What sets and maps of words have alike.
 
+/// So many items are made an array at once, where they are no fewer than those that are there, and fewer are put in one by one.
+pub const MANY: usize = 64;
+
 /// Writes what a set and a map of words have alike: the calls that count, and the traits of std that go through what
 /// it holds, of keys of the type `K`. `$sample` is a line of an example that makes `array` with the keys 1, 2 and 10.
 macro_rules! word_array {
     (
         $array:ident<$($param:ident: $bound:path),+>; $told:ty, $walk:ident;
-        $count:ident, $by_count:ident, $first_empty:ident, $last_empty:ident, $remove_range:ident;
+        $count:ident, $by_count:ident, $first_empty:ident, $last_empty:ident,
+        $remove_range:ident, $retain_range:ident, $copy_range:ident, $split_off:ident;
         $sample:literal
     ) => {
         impl<$($param: $bound),+> $array<$($param),+> {
@@ -69,12 +73,40 @@ macro_rules! word_array {
             /// assert_eq!((array.remove_range(2..10), array.len()), (1, 2));
             /// ```
             pub fn remove_range(&mut self, range: impl std::ops::RangeBounds<K>) -> usize {
-                let Some((from, to)) = Span::of(range).ends() else {
-                    return 0;
-                };
+                let (from, to) = Span::of(range).ends().unwrap_or(crate::span::NO_WORDS);
                 // SAFETY: the handle is this array's, lent for this call alone.
                 let keys = unsafe { sellumaq_sys::$remove_range(&mut self.handle, from, to) };
                 keys as usize
+            }
+
+            /// Takes all keys out but those of a range, and answers how many they were. It can't want memory.
+            ///
+            /// ```
+            #[doc = concat!($sample, "\nlet mut array = array;")]
+            /// assert_eq!((array.retain_range(2..10), array.len()), (2, 1));
+            /// ```
+            pub fn retain_range(&mut self, range: impl std::ops::RangeBounds<K>) -> usize {
+                let (from, to) = Span::of(range).ends().unwrap_or(crate::span::NO_WORDS);
+                // SAFETY: the handle is this array's, lent for this call alone.
+                let keys = unsafe { sellumaq_sys::$retain_range(&mut self.handle, from, to) };
+                keys as usize
+            }
+
+            /// An array of what it holds in a range of keys.
+            ///
+            /// ```
+            #[doc = $sample]
+            /// assert!(array.copy_range(2..).iter().eq(array.range(2..)));
+            /// ```
+            #[must_use]
+            pub fn copy_range(&self, range: impl std::ops::RangeBounds<K>) -> Self {
+                let (from, to) = Span::of(range).ends().unwrap_or(crate::span::NO_WORDS);
+                let handle = self.handle;
+                // SAFETY: the handles are two arrays', lent for this call alone, which changes only the new one.
+                let made = Self::made_by(|made| unsafe {
+                    sellumaq_sys::$copy_range(made, &handle, from, to)
+                });
+                made.unwrap_or_else(crate::InsertError::end)
             }
 
             /// How many keys lie below a number. No way through them is made.
@@ -120,16 +152,7 @@ macro_rules! word_array {
                 }
             }
 
-            /// Moves what lies in a range into an array that has no key of it.
-            fn move_range(&mut self, range: impl std::ops::RangeBounds<K>, to: &mut Self) {
-                let mut span = Span::of(range);
-                while let Some(told) = span.next(|from| self.least(from)) {
-                    to.extend([Self::item(told)]);
-                    self.remove(K::of_word(told.key()));
-                }
-            }
-
-            /// Takes out all from a key on, and answers it as an array. The lesser part is moved, whichever it is.
+            /// Takes out all from a key on, and answers it as an array. It ends the program where there is no memory.
             ///
             /// ```
             #[doc = concat!($sample, "\nlet mut array = array;")]
@@ -137,14 +160,27 @@ macro_rules! word_array {
             /// assert_eq!((array.len(), upper.len()), (1, 2));
             /// ```
             pub fn split_off(&mut self, key: impl std::borrow::Borrow<K>) -> Self {
-                let (key, mut other) = (*key.borrow(), Self::empty());
-                if self.rank(key) < self.len() / 2 {
-                    self.move_range(..key, &mut other);
-                    std::mem::swap(self, &mut other);
-                } else {
-                    self.move_range(key.., &mut other);
-                }
-                other
+                self.try_split_off(key).unwrap_or_else(crate::no_room)
+            }
+
+            /// Takes out all from a key on, and answers it as an array.
+            ///
+            /// # Errors
+            ///
+            /// [`NoMemory`](crate::NoMemory) where there is none for the two parts, and the array is as it was.
+            ///
+            /// ```
+            #[doc = concat!($sample, "\nlet mut array = array;")]
+            /// assert_eq!(array.try_split_off(2).map(|upper| upper.len()), Ok(2));
+            /// ```
+            pub fn try_split_off(
+                &mut self,
+                key: impl std::borrow::Borrow<K>,
+            ) -> Result<Self, crate::NoMemory> {
+                let (handle, at) = (&mut self.handle, key.borrow().word());
+                // SAFETY: the handles are two arrays', lent for this call alone.
+                let made = Self::made_by(|made| unsafe { sellumaq_sys::$split_off(made, handle, at) });
+                made.map_err(|_| crate::NoMemory)
             }
         }
 
@@ -202,11 +238,13 @@ macro_rules! word_array {
     };
 }
 
-/// Writes what all ordered arrays have alike: those of std's traits that build one, and `append`.
+/// Writes what sets and maps of words have alike in taking what others hold, by the call of C `$append_call`, and those of std's traits
+/// that build one of items.
 macro_rules! collected {
-    ($array:ident<$($param:ident: $bound:path),+>; $of_words:ty; $sample:literal) => {
+    ($array:ident<$($param:ident: $bound:path),+>; $item:ty, $of_words:ty; $append_call:ident; $sample:literal) => {
         impl<$($param: $bound),+> $array<$($param),+> {
-            /// Moves all that another holds into this one. A key of both has the other's value then.
+            /// Moves all that another holds into this one. A key of both has the other's value then. It ends the program where there is no
+            /// memory.
             ///
             /// ```
             #[doc = concat!($sample, "\nlet (mut array, mut all) = (array, sellumaq::", stringify!($array), "::new());")]
@@ -214,17 +252,44 @@ macro_rules! collected {
             /// assert_eq!((all.len(), array.len()), (3, 0));
             /// ```
             pub fn append(&mut self, other: &mut Self) {
-                if self.is_empty() {
-                    std::mem::swap(self, other);
-                } else {
-                    self.extend(std::mem::take(other));
+                self.try_append(other).unwrap_or_else(crate::no_room);
+            }
+
+            /// Moves all that another holds into this one. A key of both has the other's value then.
+            ///
+            /// # Errors
+            ///
+            /// [`NoMemory`](crate::NoMemory) where there is none, and both are as they were.
+            ///
+            /// ```
+            #[doc = concat!($sample, "\nlet mut array = array;\nlet mut none = sellumaq::", stringify!($array), "::new();")]
+            /// assert_eq!(array.try_append(&mut none), Ok(()));
+            /// ```
+            pub fn try_append(&mut self, other: &mut Self) -> Result<(), crate::NoMemory> {
+                if other.is_empty() {
+                    return Ok(());
                 }
+                if !self.is_empty() {
+                    // SAFETY: the handles are two arrays', lent for this call alone, which leaves values of the first.
+                    let told = unsafe { sellumaq_sys::$append_call(&mut other.handle, &mut self.handle) };
+                    if told != sellumaq_sys::SELLUMAQ_DONE {
+                        return Err(crate::NoMemory);
+                    }
+                }
+                std::mem::swap(self, other);
+                Ok(())
             }
         }
 
-        impl<$($param: $bound),+> Clone for $array<$($param),+> {
-            fn clone(&self) -> Self {
-                self.iter().collect()
+        impl<$($param: $bound),+> Extend<$item> for $array<$($param),+> {
+            fn extend<I: IntoIterator<Item = $item>>(&mut self, items: I) {
+                let items = items.into_iter();
+                let least = items.size_hint().0;
+                if least < crate::words::MANY || least < self.len() {
+                    items.for_each(|item| self.put_item(item));
+                } else {
+                    self.append(&mut items.collect());
+                }
             }
         }
 

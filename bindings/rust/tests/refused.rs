@@ -106,6 +106,46 @@ fn a_map_without_memory() {
     assert!(map.is_empty());
 }
 
+#[test]
+fn ranges_and_parts_without_memory() {
+    let refuser = match Refuser::find() {
+        Some(refuser) => refuser,
+        None => return,
+    };
+    let plain: BTreeSet<u64> = words().collect();
+    let map: JudyL = words().map(|key| (key, !key)).collect();
+    let set: Judy1 = words().collect();
+    let same = |set: &Judy1| set.iter().eq(plain.iter().copied());
+    let filled = |set: &mut Judy1| set.try_insert_range(20..5000);
+    let (told, failed) = refuser.in_turn(&mut set.clone(), NoMemory, filled, same);
+    assert!(told == 4980 - plain.range(20..5000).count() && failed > 1);
+    let flipped = |set: &mut Judy1| set.try_flip_range(20..5000);
+    let (_, failed) = refuser.in_turn(&mut set.clone(), NoMemory, flipped, same);
+    assert!(failed > 1);
+    let split = |set: &mut Judy1| set.try_split_off(1 << 20);
+    let (upper, failed) = refuser.in_turn(&mut set.clone(), NoMemory, split, same);
+    assert!(upper.iter().eq(plain.range(1 << 20..).copied()) && failed > 1);
+    let same_map = |told: &JudyL| *told == map;
+    let split = |map: &mut JudyL| map.try_split_off(1 << 20);
+    let (upper, failed) = refuser.in_turn(&mut map.clone(), NoMemory, split, same_map);
+    assert!(upper.keys().eq(plain.range(1 << 20..).copied()) && failed > 1);
+    let other: JudyL = (30..3000).map(|key| (key, key)).collect();
+    let mut two = (map.clone(), other.clone());
+    let same_two = |two: &(JudyL, JudyL)| two.0 == map && two.1 == other;
+    let moved = |two: &mut (JudyL, JudyL)| two.0.try_append(&mut two.1);
+    let ((), failed) = refuser.in_turn(&mut two, NoMemory, moved, same_two);
+    assert!(failed > 1 && two.1.is_empty() && two.0 == &other | &map);
+    // What goes needs no memory.
+    let mut less = set.clone();
+    let (count, _) = refuser.from(1, || (less.remove_range(..1 << 20), less.retain_range(..)));
+    assert_eq!(count, (plain.range(..1 << 20).count(), 0));
+    assert!(less.iter().eq(plain.range(1 << 20..).copied()));
+    let mut kept = map.clone();
+    let (count, _) = refuser.from(1, || kept.retain_range(..1 << 20));
+    assert_eq!(count, plain.range(1 << 20..).count());
+    assert!(kept.keys().eq(plain.range(..1 << 20).copied()));
+}
+
 /// A slot that is made holds no value of such a type before one is put in.
 #[test]
 fn a_map_of_values_that_are_never_zero_without_memory() {

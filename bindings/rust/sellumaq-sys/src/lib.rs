@@ -74,6 +74,9 @@ pub const SELLUMAQ_ADDED: u32 = 1;
 /// The key is absent, there is no memory for it, and nothing changed; of `from_sorted`: none for the keys.
 pub const SELLUMAQ_NO_MEMORY: u32 = 2;
 
+/// Of `copy_range`, `split_off`, `append`, `insert_range` and `flip`: it is done.
+pub const SELLUMAQ_DONE: u32 = 1;
+
 /// There is no such key.
 pub const SELLUMAQ_NONE: u32 = 0;
 /// The key is there, and what was asked of it is told.
@@ -212,6 +215,26 @@ extern "C" {
         one: *const sellumaq_judy1,
         other: *const sellumaq_judy1,
     ) -> bool;
+    pub fn sellumaq_judy1_copy_range(
+        made: *mut sellumaq_judy1,
+        set: *const sellumaq_judy1,
+        from: u64,
+        to: u64,
+    ) -> u32;
+    pub fn sellumaq_judy1_split_off(
+        made: *mut sellumaq_judy1,
+        set: *mut sellumaq_judy1,
+        at: u64,
+    ) -> u32;
+    pub fn sellumaq_judy1_append(set: *mut sellumaq_judy1, other: *mut sellumaq_judy1) -> u32;
+    pub fn sellumaq_judy1_retain_range(set: *mut sellumaq_judy1, from: u64, to: u64) -> u64;
+    pub fn sellumaq_judy1_insert_range(set: *mut sellumaq_judy1, from: u64, to: u64) -> u32;
+    pub fn sellumaq_judy1_flip(set: *mut sellumaq_judy1, from: u64, to: u64) -> u32;
+    pub fn sellumaq_judy1_from_unsorted(
+        set: *mut sellumaq_judy1,
+        keys: *const u64,
+        count: usize,
+    ) -> u32;
     pub fn sellumaq_judy1_free(set: *mut sellumaq_judy1) -> u64;
 }
 
@@ -377,6 +400,24 @@ extern "C" {
         one: *const sellumaq_judyl,
         other: *const sellumaq_judyl,
     ) -> bool;
+    pub fn sellumaq_judyl_copy_range(
+        made: *mut sellumaq_judyl,
+        map: *const sellumaq_judyl,
+        from: u64,
+        to: u64,
+    ) -> u32;
+    pub fn sellumaq_judyl_split_off(
+        made: *mut sellumaq_judyl,
+        map: *mut sellumaq_judyl,
+        at: u64,
+    ) -> u32;
+    pub fn sellumaq_judyl_append(map: *mut sellumaq_judyl, other: *mut sellumaq_judyl) -> u32;
+    pub fn sellumaq_judyl_retain_range(map: *mut sellumaq_judyl, from: u64, to: u64) -> u64;
+    pub fn sellumaq_judyl_from_unsorted(
+        map: *mut sellumaq_judyl,
+        pairs: *const sellumaq_pair,
+        count: usize,
+    ) -> u32;
     pub fn sellumaq_judyl_free(map: *mut sellumaq_judyl) -> u64;
 }
 
@@ -510,6 +551,67 @@ extern "C" {
         place: *mut usize,
     ) -> u32;
     pub fn sellumaq_judysl_len(map: *const sellumaq_judysl) -> u64;
+    pub fn sellumaq_judysl_union(
+        made: *mut sellumaq_judysl,
+        one: *const sellumaq_judysl,
+        other: *const sellumaq_judysl,
+    ) -> u32;
+    pub fn sellumaq_judysl_intersection(
+        made: *mut sellumaq_judysl,
+        one: *const sellumaq_judysl,
+        other: *const sellumaq_judysl,
+    ) -> u32;
+    pub fn sellumaq_judysl_difference(
+        made: *mut sellumaq_judysl,
+        one: *const sellumaq_judysl,
+        other: *const sellumaq_judysl,
+    ) -> u32;
+    pub fn sellumaq_judysl_symmetric_difference(
+        made: *mut sellumaq_judysl,
+        one: *const sellumaq_judysl,
+        other: *const sellumaq_judysl,
+    ) -> u32;
+    pub fn sellumaq_judysl_union_count(
+        one: *const sellumaq_judysl,
+        other: *const sellumaq_judysl,
+    ) -> u64;
+    pub fn sellumaq_judysl_intersection_count(
+        one: *const sellumaq_judysl,
+        other: *const sellumaq_judysl,
+    ) -> u64;
+    pub fn sellumaq_judysl_difference_count(
+        one: *const sellumaq_judysl,
+        other: *const sellumaq_judysl,
+    ) -> u64;
+    pub fn sellumaq_judysl_symmetric_difference_count(
+        one: *const sellumaq_judysl,
+        other: *const sellumaq_judysl,
+    ) -> u64;
+    pub fn sellumaq_judysl_is_subset(
+        one: *const sellumaq_judysl,
+        other: *const sellumaq_judysl,
+    ) -> bool;
+    pub fn sellumaq_judysl_is_disjoint(
+        one: *const sellumaq_judysl,
+        other: *const sellumaq_judysl,
+    ) -> bool;
+    pub fn sellumaq_judysl_has_same_keys(
+        one: *const sellumaq_judysl,
+        other: *const sellumaq_judysl,
+    ) -> bool;
+    pub fn sellumaq_judysl_remove_range(
+        map: *mut sellumaq_judysl,
+        from: *const u8,
+        from_length: usize,
+        to: *const u8,
+        to_length: usize,
+    ) -> u64;
+    pub fn sellumaq_judysl_remove_prefix(
+        map: *mut sellumaq_judysl,
+        prefix: *const u8,
+        length: usize,
+    ) -> u64;
+    pub fn sellumaq_judysl_copy(made: *mut sellumaq_judysl, map: *const sellumaq_judysl) -> u32;
     pub fn sellumaq_judysl_free(map: *mut sellumaq_judysl) -> u64;
 }
 

@@ -1,21 +1,8 @@
-//! Sets of two sets.
+//! Iterators over two sets.
 use super::{Iter, Judy1};
 use crate::types::Key;
-use crate::{no_room, NoMemory};
-use sellumaq_sys as sys;
 use std::cmp::Ordering::{Equal, Greater, Less};
 use std::iter::{FusedIterator, Peekable};
-use std::ops::{BitAnd, BitOr, BitXor, Sub};
-
-/// A set with at most one key for so many of another's is looked up in that, key by key.
-const MANY: usize = 8;
-
-/// A call of C that makes a set of two.
-type MadeOfTwo = unsafe extern "C" fn(
-    *mut sys::sellumaq_judy1,
-    *const sys::sellumaq_judy1,
-    *const sys::sellumaq_judy1,
-) -> u32;
 
 impl<K: Key> Judy1<K> {
     /// The keys of either set, by ascending key.
@@ -63,130 +50,6 @@ impl<K: Key> Judy1<K> {
     /// ```
     pub fn symmetric_difference<'a>(&'a self, other: &'a Judy1<K>) -> SymmetricDifference<'a, K> {
         SymmetricDifference(Both::of(self, other))
-    }
-
-    /// Whether no key is in both sets.
-    ///
-    /// ```
-    /// let a = sellumaq::Judy1::from([1, 2]);
-    /// assert!(a.is_disjoint(&[3].into()) && !a.is_disjoint(&[2, 3].into()));
-    /// ```
-    #[must_use]
-    pub fn is_disjoint(&self, other: &Judy1<K>) -> bool {
-        if self.is(other) {
-            return self.is_empty();
-        }
-        if self.is_few_beside(other) || other.is_few_beside(self) {
-            return self.intersection(other).next().is_none();
-        }
-        let (one, other) = (self.handle, other.handle);
-        // SAFETY: as in `intersection_len`.
-        unsafe { sys::sellumaq_judy1_is_disjoint(&one, &other) }
-    }
-
-    /// Whether each key is one of the other set's.
-    ///
-    /// ```
-    /// let a = sellumaq::Judy1::from([1, 2]);
-    /// assert!(a.is_subset(&[1, 2, 3].into()) && !a.is_subset(&[2, 3].into()));
-    /// ```
-    #[must_use]
-    pub fn is_subset(&self, other: &Judy1<K>) -> bool {
-        if self.is(other) || self.len() > other.len() {
-            return self.is(other);
-        }
-        if self.is_few_beside(other) {
-            return self.iter().all(|key| other.contains(key));
-        }
-        let (one, other) = (self.handle, other.handle);
-        // SAFETY: as in `intersection_len`.
-        unsafe { sys::sellumaq_judy1_is_subset(&one, &other) }
-    }
-
-    /// Whether each key of the other set is one of this.
-    ///
-    /// ```
-    /// let a = sellumaq::Judy1::from([1, 2]);
-    /// assert!(a.is_superset(&[2].into()) && !a.is_superset(&[2, 3].into()));
-    /// ```
-    #[must_use]
-    pub fn is_superset(&self, other: &Judy1<K>) -> bool {
-        other.is_subset(self)
-    }
-
-    /// How many keys are in both sets: a walk over both, which makes nothing.
-    ///
-    /// ```
-    /// let (a, b) = (sellumaq::Judy1::from([1, 2]), sellumaq::Judy1::from([2, 3]));
-    /// assert_eq!(a.intersection_len(&b), 1);
-    /// ```
-    #[must_use]
-    pub fn intersection_len(&self, other: &Judy1<K>) -> usize {
-        if self.is(other) {
-            return self.len();
-        }
-        if self.is_few_beside(other) || other.is_few_beside(self) {
-            return self.intersection(other).count();
-        }
-        let (one, other) = (self.handle, other.handle);
-        // SAFETY: the handles are two sets', lent for this call alone, which only reads.
-        let common = unsafe { sys::sellumaq_judy1_intersection_count(&one, &other) };
-        common as usize
-    }
-
-    /// How many keys are in either set.
-    ///
-    /// ```
-    /// let (a, b) = (sellumaq::Judy1::from([1, 2]), sellumaq::Judy1::from([2, 3]));
-    /// assert_eq!(a.union_len(&b), 3);
-    /// ```
-    #[must_use]
-    pub fn union_len(&self, other: &Judy1<K>) -> usize {
-        self.len() + other.difference_len(self)
-    }
-
-    /// How many keys of this set are none of the other's.
-    ///
-    /// ```
-    /// let (a, b) = (sellumaq::Judy1::from([1, 2]), sellumaq::Judy1::from([2, 3]));
-    /// assert_eq!(a.difference_len(&b), 1);
-    /// ```
-    #[must_use]
-    pub fn difference_len(&self, other: &Judy1<K>) -> usize {
-        self.len() - self.intersection_len(other)
-    }
-
-    /// How many keys one of the sets alone has.
-    ///
-    /// ```
-    /// let (a, b) = (sellumaq::Judy1::from([1, 2]), sellumaq::Judy1::from([2, 3]));
-    /// assert_eq!(a.symmetric_difference_len(&b), 2);
-    /// ```
-    #[must_use]
-    pub fn symmetric_difference_len(&self, other: &Judy1<K>) -> usize {
-        let common = self.intersection_len(other);
-        (self.len() - common) + (other.len() - common)
-    }
-
-    /// Whether it is the other set itself. A call of C is never handed one set twice.
-    fn is(&self, other: &Judy1<K>) -> bool {
-        std::ptr::eq(self, other)
-    }
-
-    /// Whether its keys are so few that to look them up in the other set takes less time than a walk over that.
-    fn is_few_beside(&self, other: &Judy1<K>) -> bool {
-        self.len() < other.len() / MANY
-    }
-
-    /// The set that a call of C makes of this one and another, which isn't the same.
-    fn made_with(&self, other: &Judy1<K>, call: MadeOfTwo) -> Judy1<K> {
-        let mut made = Judy1::empty();
-        let (one, other) = (self.handle, other.handle);
-        // SAFETY: the handles are three sets', lent for this call alone, which changes only the new one.
-        match unsafe { call(&mut made.handle, &one, &other) } {
-            sys::SELLUMAQ_ADDED => made,
-            _ => no_room(NoMemory),
-        }
     }
 }
 
@@ -312,29 +175,3 @@ impl<K: Key> FusedIterator for Union<'_, K> {}
 impl<K: Key> FusedIterator for SymmetricDifference<'_, K> {}
 impl<K: Key> FusedIterator for Intersection<'_, K> {}
 impl<K: Key> FusedIterator for Difference<'_, K> {}
-
-macro_rules! operators {
-    ($($operator:ident, $call:ident by $sets:ident and $made:ident: $sign:literal, but $leaps:expr;)*) => { $(
-        impl<K: Key> $operator for &Judy1<K> {
-            type Output = Judy1<K>;
-
-            #[doc = concat!("A set of what [`Judy1::", stringify!($sets), "`] goes through: `&a ", $sign, " &b`.")]
-            fn $call(self, other: &Judy1<K>) -> Judy1<K> {
-                let leaps: fn(&Judy1<K>, &Judy1<K>) -> bool = $leaps;
-                if self.is(other) || leaps(self, other) {
-                    return self.$sets(other).collect();
-                }
-                self.made_with(other, sys::$made)
-            }
-        }
-    )* };
-}
-
-// Two sets are walked side by side, but where few keys of the one are looked up in the other.
-operators! {
-    BitOr, bitor by union and sellumaq_judy1_union: "|", but |_, _| false;
-    BitAnd, bitand by intersection and sellumaq_judy1_intersection: "&",
-        but |one, other| one.is_few_beside(other) || other.is_few_beside(one);
-    Sub, sub by difference and sellumaq_judy1_difference: "-", but Judy1::is_few_beside;
-    BitXor, bitxor by symmetric_difference and sellumaq_judy1_symmetric_difference: "^", but |_, _| false;
-}

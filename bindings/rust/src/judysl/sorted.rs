@@ -1,5 +1,5 @@
 //! Maps from strings that are made at once, of strings that ascend.
-use super::JudySl;
+use super::{JudySl, Range};
 use crate::keyed::MAX_KEY;
 use crate::types::Value;
 use crate::{no_room, FromSortedError, NoMemory};
@@ -77,5 +77,17 @@ impl<V: Value> JudySl<V> {
             list.push(key.as_ref(), value.bits());
         }
         list.at_once()
+    }
+}
+
+impl<V: Value> Range<'_, V> {
+    /// A map of what is still to come.
+    pub(super) fn at_once(mut self) -> JudySl<V> {
+        let mut list = List::default();
+        while let Some((key, value)) = self.next_entry() {
+            list.push(key, value.bits());
+        }
+        let made = list.at_once();
+        made.expect("keys of a map ascend")
     }
 }
