@@ -10,8 +10,8 @@
  *
  *   - One call at a time is made on an array; what threads may do besides is told below.
  *   - A copy of a handle's word is the same array, so after a change of the one the other must not be used.
- *   - A slot, the pointer to the value of a key, may be read and written until the next call that may change the array: `ins`, `put`,
- *     `insert`, `del`, `remove`, `from_sorted`, `load`, `open` or `free`.
+ *   - A slot, the pointer to the value of a key, may be read and written until the next call that may change the array: each whose
+ *     handle isn't `const`, but `slot` and its fellows.
  *   - A pointer through which a call answers points to a word of the caller's, and a pointer to a key or a buffer to as many bytes, keys
  *     or pairs as are told beside it. It isn't NULL, also where these are none. No two of one call overlap.
  *   - No call is made from within a signal handler.
@@ -117,6 +117,9 @@ bool sellumaq_judy1_prev_empty(const sellumaq_judy1 *set, uint64_t from, uint64_
  * last ones, and what stands behind them in the buffer stays. The next call goes on from above the last key; the array may change
  * between the two. A walk of 64 keys a call takes a small part of the time of `next`. */
 size_t sellumaq_judy1_walk(const sellumaq_judy1 *set, uint64_t from, uint64_t *keys, size_t capacity);
+
+/* The keys up to `from`, in descending order, likewise; the next call goes on from below the last key. It is two ways down the set a call. */
+size_t sellumaq_judy1_walk_down(const sellumaq_judy1 *set, uint64_t from, uint64_t *keys, size_t capacity);
 
 /* Makes the set one of `count` keys that strictly ascend, in place of what it held, whose memory is given back: SELLUMAQ_ADDED. It takes a
  * part of the time of as many `set`, and 16 bytes more for each key while it is at work. Else the set is as it was. SELLUMAQ_BAD_KEY: a key
@@ -263,6 +266,9 @@ typedef struct { uint64_t key, value; } sellumaq_pair;
 /* The keys from `from` on with their values, by ascending key, as many as the buffer has room for; answers how many these are, as
  * `sellumaq_judy1_walk` does. */
 size_t sellumaq_judyl_walk(const sellumaq_judyl *map, uint64_t from, sellumaq_pair *pairs, size_t capacity);
+
+/* The keys up to `from` with their values, by descending key, as `sellumaq_judy1_walk_down` does. */
+size_t sellumaq_judyl_walk_down(const sellumaq_judyl *map, uint64_t from, sellumaq_pair *pairs, size_t capacity);
 
 /* Makes the map one of `count` keys that strictly ascend, each with its value, as `sellumaq_judy1_from_sorted` does. */
 uint32_t sellumaq_judyl_from_sorted(sellumaq_judyl *map, const sellumaq_pair *pairs, size_t count, size_t *place);
@@ -425,6 +431,10 @@ uint64_t sellumaq_judysl_count(const sellumaq_judysl *map, const uint8_t *from, 
  * It takes one way down the map; in each level but the first the entries up to the key's own are read, from the end that is nearer by the
  * keys between. */
 uint32_t sellumaq_judysl_by_count(const sellumaq_judysl *map, uint64_t n, uint8_t *buffer, size_t capacity, size_t *length, uint64_t *value);
+
+/* The longest key that bytes begin with, whatever these are and however many: true, and `*prefix` is how many of them it is. False where no key
+ * begins them; the empty key begins all. Mostly it takes one search or two, and never more than the key is shorter than the bytes, and one. */
+bool sellumaq_judysl_longest_prefix(const sellumaq_judysl *map, const uint8_t *bytes, size_t length, size_t *prefix, uint64_t *value);
 
 /* Takes the keys from one string to another out, both included, and answers how many they were: 0 where the first is above the second, and where
  * the map can't hold one of the two. It can't fail. */

@@ -711,6 +711,7 @@ class _OrderedStrings(_Strings):
         "by_count": _call("judysl_by_count", ctypes.c_uint32, _word, *_buffer),
         "from_strings": _call("judysl_from_sorted", ctypes.c_uint32, *_key, *_sorted),
         "walk": _call("judysl_walk", ctypes.c_size_t, *_key, ctypes.c_bool, *_key, _slot, ctypes.c_size_t),
+        "longest_prefix": _call("judysl_longest_prefix", ctypes.c_bool, *_key, ctypes.POINTER(ctypes.c_size_t), _slot),
         "remove_range": _call("judysl_remove_range", _word, *_key, *_key),
         "remove_prefix": _call("judysl_remove_prefix", _word, *_key),
         **_two_calls("judysl"),
@@ -742,6 +743,11 @@ class _OrderedStrings(_Strings):
     def _remove_range(self, low, high):
         """Takes the keys from one string to another out, and answers how many they were."""
         return self._change("remove_range", low, len(low), high, len(high))
+
+    def _longest_prefix(self, string):
+        """How many bytes the longest key has that begins a string, or None."""
+        length, value = ctypes.c_size_t(), _word()
+        return length.value if self._calls["longest_prefix"](self._handle, string, len(string), length, value) else None
 
     def _remove_prefix(self, prefix):
         """Takes the keys out that begin with a string, and answers how many they were."""

@@ -7,7 +7,7 @@ from operator import index as whole
 from typing import Any
 
 from . import _core, _views
-from ._core import ITEMS, KEYS, VALUES
+from ._core import ITEMS, KEYS, MAX_KEY, VALUES
 from ._maps import Copied, Dict, Joined
 from ._places import PlacedDict
 
@@ -113,6 +113,32 @@ class _Ordered(PlacedDict, Joined, _Strings):
         (2, JudySL({'b': 3}))
         """
         return self._remove_prefix(self._encoded(prefix))
+
+    def with_prefix(self, prefix: Any) -> Iterator[Any]:
+        """The keys that begin with a string, by ascending order.
+
+        >>> from sellumaq import JudySL
+        >>> list(JudySL(a=1, ab=2, b=3).with_prefix("a"))
+        ['a', 'ab']
+        """
+        low = self._encoded(prefix)
+        # No key is longer, so none that begins so is above this.
+        return self._cursor(KEYS, low, low + b"\xff" * MAX_KEY, False)
+
+    def longest_prefix(self, string: Any) -> Any:
+        """The longest key that a string begins with, or None.
+
+        >>> from sellumaq import JudySL
+        >>> routes = JudySL({"10.": 1, "10.1.": 2})
+        >>> routes.longest_prefix("10.1.2.3"), routes.longest_prefix("11.1")
+        ('10.1.', None)
+        """
+        encoded = self._encoded(string)
+        length = self._longest_prefix(encoded)
+        if length is None:
+            return None
+        key = encoded[:length]
+        return next(self._cursor(KEYS, key, key, False))
 
     def _at(self, place: Any) -> Any:
         if isinstance(place, slice):

@@ -367,6 +367,17 @@ static PyObject *remove_range(PyObject *object, PyObject *const *arguments, Py_s
     return tell_gone(self, sellumaq_judysl_remove_range(&self->handle.strings, ends[0], lengths[0], ends[1], lengths[1]));
 }
 
+static PyObject *longest_prefix(PyObject *object, PyObject *string)
+{
+    const uint8_t *bytes;
+    size_t length, prefix;
+    uint64_t value;
+    Strings *self = (Strings *)object;
+    if (!read_own_bytes(string, &bytes, &length))
+        return NULL;
+    return sellumaq_judysl_longest_prefix(&self->handle.strings, bytes, length, &prefix, &value) ? PyLong_FromSize_t(prefix) : Py_NewRef(Py_None);
+}
+
 static PyObject *remove_prefix(PyObject *object, PyObject *prefix)
 {
     const uint8_t *bytes;
@@ -450,6 +461,7 @@ static PyMethodDef map_methods[] = {
      "Makes the map one of another's pairs."},
     {"_join", (PyCFunction)(void (*)(void))strings_join, METH_METHOD | METH_FASTCALL | METH_KEYWORDS, "Puts another's pairs in, all or none."},
     {"_remove_range", (PyCFunction)(void (*)(void))remove_range, METH_FASTCALL, "Takes the keys from one string to another out; answers how many."},
+    {"_longest_prefix", longest_prefix, METH_O, "How many bytes the longest key has that begins a string, or None."},
     {"_remove_prefix", remove_prefix, METH_O, "Takes the keys out that begin with a string; answers how many."},
     {"_key_at", key_at, METH_O, "The key at a place."},
     {"_item_at", item_at, METH_O, "The pair at a place."},

@@ -207,6 +207,51 @@ impl<V: Value> JudySl<V> {
         }
     }
 
+    /// The pairs whose keys begin with some bytes, by ascending key.
+    ///
+    /// ```
+    /// let map = sellumaq::JudySl::from([("a", 10), ("ab", 20), ("b", 30)]);
+    /// assert!(map.with_prefix("a").map(|(_, value)| value).eq([10, 20]));
+    /// ```
+    pub fn with_prefix(&self, prefix: impl AsRef<[u8]>) -> Range<'_, V> {
+        let prefix = prefix.as_ref();
+        let behind = prefix.iter().rposition(|byte| *byte < 255).map(|at| {
+            let mut behind = prefix[..=at].to_vec();
+            behind[at] += 1;
+            behind
+        });
+        let end = behind.map_or(Bound::Unbounded, Bound::Excluded);
+        self.range((Bound::Included(prefix.to_vec()), end))
+    }
+
+    /// The longest key that some bytes begin with, and its value. The bytes may be any; the empty key begins all.
+    ///
+    /// ```
+    /// let routes = sellumaq::JudySl::from([("10.", 1), ("10.1.", 2)]);
+    /// assert_eq!(routes.longest_prefix("10.1.2.3"), Some((&b"10.1."[..], 2)));
+    /// assert_eq!(routes.longest_prefix("11.1"), None);
+    /// ```
+    #[must_use]
+    pub fn longest_prefix<'b, B: AsRef<[u8]> + ?Sized>(
+        &self,
+        bytes: &'b B,
+    ) -> Option<(&'b [u8], V)> {
+        let (handle, bytes) = (self.handle, bytes.as_ref());
+        let (mut length, mut bits) = (0, 0);
+        // SAFETY: the handle is this map's, lent for this call alone, which only reads; the bytes are a slice's, and the two
+        // words this function's.
+        let found = unsafe {
+            sys::sellumaq_judysl_longest_prefix(
+                &handle,
+                bytes.as_ptr(),
+                bytes.len(),
+                &mut length,
+                &mut bits,
+            )
+        };
+        found.then(|| (&bytes[..length], V::of_bits(bits)))
+    }
+
     /// The pairs of a range of keys, by ascending key, their values to change.
     ///
     /// ```

@@ -155,6 +155,12 @@ extern "C" {
         keys: *mut u64,
         capacity: usize,
     ) -> usize;
+    pub fn sellumaq_judy1_walk_down(
+        set: *const sellumaq_judy1,
+        from: u64,
+        keys: *mut u64,
+        capacity: usize,
+    ) -> usize;
     pub fn sellumaq_judy1_from_sorted(
         set: *mut sellumaq_judy1,
         keys: *const u64,
@@ -323,6 +329,12 @@ extern "C" {
     pub fn sellumaq_judyl_prev_empty(map: *const sellumaq_judyl, from: u64, word: *mut u64)
         -> bool;
     pub fn sellumaq_judyl_walk(
+        map: *const sellumaq_judyl,
+        from: u64,
+        pairs: *mut sellumaq_pair,
+        capacity: usize,
+    ) -> usize;
+    pub fn sellumaq_judyl_walk_down(
         map: *const sellumaq_judyl,
         from: u64,
         pairs: *mut sellumaq_pair,
@@ -598,6 +610,13 @@ extern "C" {
     pub fn sellumaq_judysl_has_same_keys(
         one: *const sellumaq_judysl,
         other: *const sellumaq_judysl,
+    ) -> bool;
+    pub fn sellumaq_judysl_longest_prefix(
+        map: *const sellumaq_judysl,
+        bytes: *const u8,
+        length: usize,
+        prefix: *mut usize,
+        value: *mut u64,
     ) -> bool;
     pub fn sellumaq_judysl_remove_range(
         map: *mut sellumaq_judysl,
