@@ -5,9 +5,9 @@
 //!
 //! leaves.rt, bit_leaves.rt and any_leaf.rt have the tests of leaves; nodes.rt, changes.rt, queries.rt and
 //! random_trees.rt those of trees; word_arrays.rt, array_shapes.rt, sorted.rt, filled.rt, iterators.rt and many.rt
-//! those of arrays, and two_arrays.rt those of what two arrays have together; and known_nodes.rt what calls on arrays
-//! say of nodes. plain.rt has the plain list, calls.rt the calls that ask a tree, and the list beside it, by_rule.rt a
-//! plain count of the rule's nodes, and draws.rt keys drawn by chance.
+//! those of arrays; and known_nodes.rt what calls on arrays say of nodes. plain.rt has the plain list, calls.rt the
+//! calls that ask a tree, and the list beside it, by_rule.rt a plain count of the rule's nodes, and draws.rt keys drawn
+//! by chance.
 #![tactic(auto)]
 
 #[cfg(test)]
@@ -44,7 +44,5 @@ mod queries;
 mod random_trees;
 #[cfg(test)]
 mod sorted;
-#[cfg(test)]
-mod two_arrays;
 #[cfg(test)]
 mod word_arrays;
