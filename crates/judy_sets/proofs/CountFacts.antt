@@ -1,7 +1,6 @@
 -- A count of the keys that two lists of pairs have together, page by page.
-use Rattle.std.proofs.Common.{◌≡◌, ℕ, ◌+◌, ◌-◌, ◌<◌, ◌≤◌, ◌⊎◌, ⊎_elim, true, false, [], ◌∷◌, ◌++◌, length, drop, refl, sym, ap, ◌∙◌, subst, arith}
+use Rattle.std.proofs.Common.{◌≡◌, ℕ, ◌+◌, ◌-◌, ◌≤◌, ◌⊎◌, ⊎_elim, true, false, [], ◌∷◌, ◌++◌, length, drop, refl, sym, ap, ◌∙◌, subst, arith}
 use Rattle.std.specs.FinMap.{FinMap, entries, len}
-use Rattle.std.proofs.lemmas.List.{length-append, length-drop}
 use Rattle.judy_model.specs.Keys.{word_order}
 use Rattle.judy_model.specs.TwoMaps.{union, intersection, difference, symmetric_difference}
 use Rattle.judy_sets.specs.Merges.{Pairs, Ascends, met, IsMet}

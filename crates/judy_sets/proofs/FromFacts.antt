@@ -1,20 +1,20 @@
 -- The pairs of a map from a key on.
-use Rattle.std.proofs.Common.{◌≡◌, ℕ, zero, suc, ◌+◌, ◌^◌, ◌<◌, ◌≤◌, ◌⊎◌, inl, inr, ⊎_elim, Bool, true, false, cond, []}
-use Rattle.std.proofs.Common.{◌∷◌, map, length, filter, drop, append-nil, Option, Some, None, is_some, IsTrue, refl, sym, ap, ◌∙◌, subst, arith}
+use Rattle.std.proofs.Common.{◌≡◌, ℕ, ◌+◌, ◌^◌, ◌<◌, ◌≤◌, ◌⊎◌, inl, inr, ⊎_elim, Bool, true, false, cond, []}
+use Rattle.std.proofs.Common.{◌∷◌, map, length, filter, drop, append-nil, Option, None, is_some, IsTrue, refl, sym, ap, ◌∙◌, subst, arith}
 use Rattle.std.proofs.lemmas.Bool.{lt-leb, leb-true, leb-false, ltb-true, ltb-false, le-ltb}
 use Rattle.std.proofs.Math.Dec.{leb}
-use Rattle.std.specs.Ordering.{is_lt, is_le, eq_by_cmp}
-use Rattle.std.specs.FinMap.{FinMap, find, get, entries, contains_key, get-entries}
+use Rattle.std.specs.Ordering.{is_lt, is_le}
+use Rattle.std.specs.FinMap.{find, entries, get-entries}
 use Rattle.judy_model.specs.Keys.{word_order}
 use Rattle.judy_model.specs.Counts as counts
 use Rattle.judy_model.proofs.lemmas.maps.MapsOfPairs.{rank-is}
-use Rattle.judy_model.proofs.lemmas.orders.WordOrder.{is_le_word, is_lt_word, le_word, lt_word}
+use Rattle.judy_model.proofs.lemmas.orders.WordOrder.{is_le_word, is_lt_word, le_word}
 use Rattle.judy_node.specs.Trees.{IsMap}
 use Rattle.judy_query.specs.Maps.{map_of}
 use Rattle.judy_word.proofs.IterFacts.{entries_are}
 use Rattle.judy_sets.specs.Merges.{Pairs, Ascends}
 use Rattle.judy_sets.specs.Pages.{AreWords, IsFrom}
-use Rattle.judy_sets.proofs.Finds.{same_or, find-same, find-apart, find-below, ascends-lower, ascends-drop}
+use Rattle.judy_sets.proofs.Finds.{same_or, find-apart, find-below, ascends-drop}
 use Rattle.judy_sets.proofs.Lengths.{entries_ascend}
 
 -- How many keys are below a word.

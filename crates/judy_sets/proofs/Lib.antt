@@ -11,3 +11,7 @@ pub mod RangeFacts
 pub mod FromFacts
 pub mod RangePuts
 pub mod Splits
+pub mod RangeTests
+pub mod Retained
+pub mod WordPuts
+pub mod LookFacts

@@ -14,6 +14,7 @@ use Rattle.judy_model.proofs.lemmas.maps.MapsOfPairs.{count-is}
 use Rattle.judy_model.proofs.lemmas.orders.WordOrder.{is_le_word, is_ge_word, le_word, le_from_word}
 use Rattle.judy_model.proofs.lemmas.queries.NearestLemmas.{first-IsFirst}
 use Rattle.judy_sets.specs.Merges.{Pairs}
+use Rattle.judy_sets.specs.RangeWords.{IsLeast}
 use Rattle.judy_sets.proofs.Finds.{same_or}
 use Rattle.judy_sets.proofs.MapLaws.{Words, same_words, get-part}
 use Rattle.judy_sets.proofs.Lengths.{len-part}
@@ -171,3 +172,15 @@ module _ (from to : ℕ) where
   first_inside m least is high =
       let ge = second_true (contains_key m least) (is_ge (word_order least from)) (subst (IsFirst word_order (contains_key m) from) (sym is) (is_first m)).0 in
       inside from to least (le_from_word from least (is_le_word from least ∙ sym (is_ge_word least from) ∙ ge)) high
+
+  pub none_between : (m : Words) → NoneInside m → (key : ℕ) → from ≤ key → key ≤ to → contains_key m key ≡ false
+  none_between m none key low high = no_test (contains_key m key) (λ held. let never = sym (inside from to key low high) ∙ none key held in cc)
+
+  pub least_is : (m : Words) (least : ℕ) → Some least ≡ first m from → least ≤ to → IsLeast m from to least
+  least_is m least is high =
+      let by = subst (IsFirst word_order (contains_key m) from) (sym is) (is_first m) in record {
+        held = first_held m least is;
+        low = le_from_word from least (is_le_word from least ∙ sym (is_ge_word least from) ∙ second_true (contains_key m least) (is_ge (word_order least from)) by.0);
+        high = high;
+        none = λ other up less. no_test (contains_key m other) (λ held. let past = le_from_word least other (by.1 other (at_or_above m other held up)) in omega (arith, past, less));
+      }

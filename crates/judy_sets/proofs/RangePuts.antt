@@ -188,7 +188,7 @@ above_nothing words at map before bound last = nothing_put words before (λ key.
 
 -- ---- what an array comes to
 
-all_zero : (words : ℕ) (map : FinMap word_order ℕ) (o : ℕ → Option ℕ) → (words ≡ 0 → All (λ value. value ≡ 0) (values map)) → ((key v : ℕ) → o key ≡ Some v → get map key ≡ Some v)
+pub all_zero : (words : ℕ) (map : FinMap word_order ℕ) (o : ℕ → Option ℕ) → (words ≡ 0 → All (λ value. value ≡ 0) (values map)) → ((key v : ℕ) → o key ≡ Some v → get map key ≡ Some v)
     → (key : ℕ) → option_map (worth words) (o key) ≡ o key
 all_zero words map o zeros part key = same_worth words (o key) (λ none v is. value_from_All (λ value. value ≡ 0) map key v (zeros none) (part key v is))
 

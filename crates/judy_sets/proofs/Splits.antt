@@ -1,8 +1,8 @@
 -- The two parts of a map on either side of a key.
-use Rattle.std.proofs.Common.{◌≡◌, ℕ, ◌≤◌, ◌<◌, ◌⊎◌, inl, inr, ⊎_elim, not, ◌&&◌, Bool, true, false, cond, Option, Some, None, refl, sym, ap, ◌∙◌, arith}
-use Rattle.std.proofs.lemmas.Bool.{le-leb, lt-leb, le-ltb}
+use Rattle.std.proofs.Common.{◌≡◌, ℕ, ◌≤◌, ◌<◌, ⊎_elim, not, ◌&&◌, Bool, true, false, cond, Option, None, refl, sym, ap, ◌∙◌}
+use Rattle.std.proofs.lemmas.Bool.{le-ltb}
 use Rattle.std.specs.Ordering.{is_lt, is_le, is_ge}
-use Rattle.std.specs.FinMap.{FinMap, get}
+use Rattle.std.specs.FinMap.{get}
 use Rattle.judy_model.specs.Keys.{word_order}
 use Rattle.judy_model.specs.Ranges.{within, outside, below, from_on}
 use Rattle.judy_model.proofs.lemmas.orders.WordOrder.{is_lt_word, is_le_word, is_ge_word, lt_word, le_word}
@@ -27,7 +27,7 @@ unfolding from_on
 get-from_on map at key = get-part map (λ k. is_ge (word_order k at)) key
 
 -- A key that is there isn't above the greatest word.
-at_most : (map : Words) (key : ℕ) (b c : Bool) → AreWords map → (key ≤ 18446744073709551615 → b ≡ c) → cond b (get map key) None ≡ cond c (get map key) None
+pub at_most : (map : Words) (key : ℕ) (b c : Bool) → AreWords map → (key ≤ 18446744073709551615 → b ≡ c) → cond b (get map key) None ≡ cond c (get map key) None
 at_most map key b c words same = ⊎_elim
     (λ (low : key ≤ 18446744073709551615). ap (λ t. cond t (get map key) None) (same low))
     (λ (high : 18446744073709551615 < key).

@@ -2,3 +2,5 @@ pub mod Merges
 pub mod Pages
 pub mod Results
 pub mod Fills
+pub mod RangeWords
+pub mod LookUps

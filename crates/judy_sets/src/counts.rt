@@ -5,13 +5,30 @@ ghost use Rattle.std.specs.FinMap as map;
 ghost use Rattle.judy_model.specs.Ranges as ranges;
 ghost use Rattle.judy_model.specs.TwoMaps as two;
 
+use crate::lookups::{are_few, found_count};
 use crate::merges::meet;
 use crate::pages::Pages;
 use judy_leaf::Words;
 use judy_word::WordArray;
 
-/// How many keys both arrays have. Both are gone through once.
+/// How many keys both arrays have. Both are gone through once; where one has less than an eighth of the other's keys,
+/// they are looked up there.
 pub fn common_count<V: Words + Drop>(one: &WordArray<V>, other: &WordArray<V>) -> u64
+    ensures { result ≡ map.len (two.intersection one.now.map other.now.map) }
+{
+    let ours = one.len();
+    let theirs = other.len();
+    if are_few(ours, theirs) {
+        return found_count(one, other);
+    }
+    if are_few(theirs, ours) {
+        return found_count(other, one);
+    }
+    met_count(one, other)
+}
+
+// The same, by going through both.
+fn met_count<V: Words + Drop>(one: &WordArray<V>, other: &WordArray<V>) -> u64
     ensures { result ≡ map.len (two.intersection one.now.map other.now.map) }
 {
     let _most = one.len();

@@ -9,6 +9,7 @@ ghost use Rattle.judy_sets.specs.Results.{kept};
 
 use crate::counts::common_count;
 use crate::keep::Keep;
+use crate::lookups::{are_few, put_common};
 use crate::pages::Pages;
 use crate::steps::{ROOM, next_pairs};
 use judy_leaf::Words;
@@ -16,7 +17,7 @@ use judy_word::{Filling, InsertError, WordArray};
 use std::alloc::Global;
 
 // What is put in for a value: 0 where keys have none.
-fn worth<V: Words + Drop>(value: u64) -> u64
+pub fn worth<V: Words + Drop>(value: u64) -> u64
     ensures { result ≡ worth V.WORDS value }
 {
     if V::WORDS == 0 { 0 } else { value }
@@ -81,8 +82,47 @@ fn fill<V: Words + Drop>(
     Ok(())
 }
 
+// Puts in what is kept of two arrays. Where that is what both have, and one has few keys, they are looked up in the
+// other.
+fn fill_of<V: Words + Drop>(
+    made: &mut Filling<V>,
+    keep: Keep,
+    one: &WordArray<V>,
+    other: &WordArray<V>,
+) -> Result<(), InsertError>
+    requires { V.WORDS ≤ 1 }
+    ensures { OnOk result (IsFilled V.WORDS keep made.old made.new
+        (map.entries one.now.map) (map.entries other.now.map)) }
+{
+    if keep.is_intersection() {
+        if are_few(one.len(), other.len()) {
+            return put_common(made, false, one, other);
+        }
+        if are_few(other.len(), one.len()) {
+            return put_common(made, true, other, one);
+        }
+    }
+    fill_both(made, keep, one, other)
+}
+
+// The same, by going through both.
+fn fill_both<V: Words + Drop>(
+    made: &mut Filling<V>,
+    keep: Keep,
+    one: &WordArray<V>,
+    other: &WordArray<V>,
+) -> Result<(), InsertError>
+    requires { V.WORDS ≤ 1 }
+    ensures { OnOk result (IsFilled V.WORDS keep made.old made.new
+        (map.entries one.now.map) (map.entries other.now.map)) }
+{
+    let mut left = Pages::of(one);
+    let mut right = Pages::of(other);
+    fill(made, keep, &mut left, &mut right)
+}
+
 // So many, if they are wanted.
-fn share(wanted: bool, count: u64) -> u64
+pub fn share(wanted: bool, count: u64) -> u64
     ensures { result ≡ (if wanted then count else 0) }
 {
     if wanted { count } else { 0 }
@@ -131,9 +171,7 @@ pub fn filled<V: Words + Drop>(
     one.len();
     other.len();
     let mut made = Filling::new(alloc, limit);
-    let mut left = Pages::of(one);
-    let mut right = Pages::of(other);
-    match fill(&mut made, keep, &mut left, &mut right) {
+    match fill_of(&mut made, keep, one, other) {
         Ok(()) => Ok(made),
         Err(_) => Err(InsertError::NoMemory),
     }

@@ -1,6 +1,6 @@
 //! Which keys of two arrays a result takes.
 
-ghost use Rattle.std.specs.Prelude.{◌≡◌, if◌then◌else◌};
+ghost use Rattle.std.specs.Prelude.{◌≡◌, false, true, IsTrue, if◌then◌else◌};
 
 /// Whether a result takes the keys that the left one alone has, those that both have, and those that the right one
 /// alone has.
@@ -35,6 +35,14 @@ impl Keep {
         both: false,
         right: true,
     };
+
+    // Whether keys are kept that both have, and no others.
+    pub(crate) fn is_intersection(self) -> bool
+        ensures { IsTrue result
+            → (self.left ≡ false) × (self.both ≡ true) × (self.right ≡ false) }
+    {
+        !self.left && self.both && !self.right
+    }
 
     // Whether a key is kept, by which of the two have it: one of them does.
     #[inline(always)]

@@ -112,7 +112,7 @@ pub fn rest_filled<V: Words + Drop>(
 }
 
 // Puts in the pairs of an array whose keys are below a word.
-fn put_below<V: Words + Drop>(
+pub fn put_below<V: Words + Drop>(
     made: &mut Filling<V>,
     array: &WordArray<V>,
     at: u64,
@@ -128,7 +128,7 @@ fn put_below<V: Words + Drop>(
 }
 
 // Puts in those whose keys are above it.
-fn put_above<V: Words + Drop>(
+pub fn put_above<V: Words + Drop>(
     made: &mut Filling<V>,
     array: &WordArray<V>,
     at: u64,

@@ -1,6 +1,7 @@
 //! Ranges of keys: copied, taken out, and split off.
 
-ghost use Rattle.std.specs.Prelude.{◌≡◌, ◌≤◌, false, IfOk, OnOk, OnErr};
+ghost use Rattle.std.specs.Prelude.{◌≡◌, ◌≤◌, ◌-◌, false, IfOk, OnOk, OnErr};
+ghost use Rattle.std.specs.FinMap as map;
 ghost use Rattle.judy_model.specs.Arrays as arrays;
 ghost use Rattle.judy_model.specs.Counts as counts;
 ghost use Rattle.judy_model.specs.Ranges as ranges;
@@ -96,6 +97,61 @@ fn remove_keys<V: Words + Drop>(array: &mut WordArray<V>, from: u64, to: u64) ->
         }
         array.delete(key);
         count += 1;
+    }
+}
+
+/// Takes all keys out but those from one word to another, both included, and answers how many went: all where the first
+/// is above the second.
+///
+/// It can't fail. Where more keys go than stay, these are put into new nodes, if there is memory; else the array may
+/// become loose, as by so many deletes.
+///
+///     let gone = retain_range(alloc, &mut times, dawn, noon);
+pub fn retain_range<V: Words + Drop>(
+    alloc: Global,
+    array: &mut WordArray<V>,
+    from: u64,
+    to: u64,
+) -> u64
+    requires { V.WORDS ≤ 1 }
+    ensures count { result ≡ map.len array.old.map - counts.count array.old.map from to }
+    ensures left { array_of array.new
+        ≡ arrays.with_map (array_of array.old) (ranges.within array.old.map from to) }
+{
+    let stay = array.count(from, to);
+    let gone = array.len() - stay;
+    if stay <= gone {
+        let limit = array.limit();
+        if let Ok(part) = copy_range(alloc, limit, array, from, to) {
+            *array = part;
+            return gone;
+        }
+    }
+    remove_below(array, from);
+    remove_above(array, to);
+    gone
+}
+
+// Takes the keys below a word out.
+fn remove_below<V: Words + Drop>(array: &mut WordArray<V>, at: u64)
+    requires { V.WORDS ≤ 1 }
+    ensures { array_of array.new
+        ≡ arrays.with_map (array_of array.old) (ranges.from_on array.old.map at) }
+{
+    if at > 0 {
+        remove_keys(array, 0, at - 1);
+    }
+}
+
+// Takes the keys above a word out.
+fn remove_above<V: Words + Drop>(array: &mut WordArray<V>, at: u64)
+    requires { V.WORDS ≤ 1 }
+    ensures { array_of array.new
+        ≡ arrays.with_map (array_of array.old) (ranges.within array.old.map 0 at) }
+{
+    keys_law(array);
+    if at < u64::MAX {
+        remove_keys(array, at + 1, u64::MAX);
     }
 }
 

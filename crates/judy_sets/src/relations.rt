@@ -6,6 +6,7 @@ ghost use Rattle.judy_model.specs.TwoMaps.{IsSubset, IsDisjoint, HaveSameKeys};
 ghost use Rattle.judy_sets.specs.Pages.{rest, Keeps};
 
 use crate::keep::Keep;
+use crate::lookups::{are_few, has_some};
 use crate::pages::Pages;
 use crate::steps::{ROOM, next_pairs};
 use judy_leaf::Words;
@@ -41,10 +42,18 @@ fn keeps_some<V: Words + Drop>(keep: Keep, one: &WordArray<V>, other: &WordArray
 }
 
 /// Whether each key of the one array is a key of the other, whatever their values are. It stops in the page of the
-/// first that isn't.
+/// first that isn't, and where there are few of these looks them up in the other.
 pub fn is_subset<V: Words + Drop>(one: &WordArray<V>, other: &WordArray<V>) -> bool
     ensures { IsTrue result ↔ IsSubset one.now.map other.now.map }
 {
+    let ours = one.len();
+    let theirs = other.len();
+    if ours > theirs {
+        return false;
+    }
+    if are_few(ours, theirs) {
+        return !has_some(false, one, other);
+    }
     !keeps_some(Keep::DIFFERENCE, one, other)
 }
 
@@ -55,10 +64,19 @@ pub fn is_superset<V: Words + Drop>(one: &WordArray<V>, other: &WordArray<V>) ->
     is_subset(other, one)
 }
 
-/// Whether no key of the one array is a key of the other. It stops in the page of the first that is.
+/// Whether no key of the one array is a key of the other. It stops in the page of the first that is, and where one has
+/// few keys looks them up in the other.
 pub fn is_disjoint<V: Words + Drop>(one: &WordArray<V>, other: &WordArray<V>) -> bool
     ensures { IsTrue result ↔ IsDisjoint one.now.map other.now.map }
 {
+    let ours = one.len();
+    let theirs = other.len();
+    if are_few(ours, theirs) {
+        return !has_some(true, one, other);
+    }
+    if are_few(theirs, ours) {
+        return !has_some(true, other, one);
+    }
     !keeps_some(Keep::INTERSECTION, one, other)
 }
 

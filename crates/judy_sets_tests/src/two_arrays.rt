@@ -4,9 +4,9 @@
 ghost use Rattle.std.specs.Prelude.{◌<◌};
 
 use judy_sets::{
-    append, common_count, copy_range, count_empty, difference, difference_count, intersection,
-    is_disjoint, is_subset, is_superset, remove_range, same_keys, split_off, symmetric_difference,
-    symmetric_difference_count, union, union_count,
+    append, common_count, copy_range, count_empty, difference, difference_count, flip,
+    insert_range, intersection, is_disjoint, is_subset, is_superset, remove_range, retain_range,
+    same_keys, split_off, symmetric_difference, symmetric_difference_count, union, union_count,
 };
 use judy_word::{InsertError, Judy1, JudyL};
 use std::alloc::Global;
@@ -87,6 +87,44 @@ fn counts_of_many_pages(rt: HostRuntime) -> Result<(), Fail> {
     Ok(())
 }
 
+// The map of the words below 1,000 with their doubles.
+fn doubles(rt: &impl Abort, alloc: Global) -> JudyL {
+    let mut map = JudyL::new(alloc, 1000);
+    for key in 0..1000_u64 {
+        map.put(key, 2 * key).expect(rt, "there is memory");
+    }
+    map
+}
+
+#[test]
+fn few_keys_among_many(rt: HostRuntime) -> Result<(), Fail> {
+    let alloc = rt.alloc();
+    let even = multiples(&rt, alloc, 2);
+    let few = set_of(&rt, alloc, &[0, 3, 4, 5998, 7000]);
+    assert_eq!(&rt;
+        (common_count(&few, &even), common_count(&even, &few)),
+        (3, 3)
+    );
+    assert_eq!(&rt;
+        (difference_count(&few, &even), difference_count(&even, &few)),
+        (2, 2997)
+    );
+    assert!(&rt; !is_subset(&few, &even) && !is_subset(&even, &few));
+    assert!(&rt; is_subset(&set_of(&rt, alloc, &[0, 4, 5998]), &even));
+    assert!(&rt; !is_disjoint(&few, &even) && !is_disjoint(&even, &few));
+    let odd = set_of(&rt, alloc, &[1, 5997]);
+    assert!(&rt; is_disjoint(&odd, &even) && is_disjoint(&even, &odd));
+    let both = intersection(alloc, 3, &even, &few).expect(&rt, "three keys");
+    has_keys(&rt, &both, &[0, 4, 5998]);
+    let map = doubles(&rt, alloc);
+    let pairs = map_of(&rt, alloc, &[(3, 1), (10, 2), (1000, 5)]);
+    let ours = intersection(alloc, 9, &pairs, &map).expect(&rt, "two keys");
+    has_pairs(&rt, &ours, &[(3, 1), (10, 2)]);
+    let theirs = intersection(alloc, 9, &map, &pairs).expect(&rt, "two keys");
+    has_pairs(&rt, &theirs, &[(3, 6), (10, 20)]);
+    Ok(())
+}
+
 #[test]
 fn relations_of_small_sets(rt: HostRuntime) -> Result<(), Fail> {
     let one = set_of(&rt, rt.alloc(), &ONE);
@@ -150,6 +188,75 @@ fn ranges_taken_out(rt: HostRuntime) -> Result<(), Fail> {
     let mut map = map_of(&rt, rt.alloc(), &[(1, 10), (3, 30), (u64::MAX, 50)]);
     assert_eq!(&rt; remove_range(rt.alloc(), &mut map, 2, u64::MAX), 2);
     has_pairs(&rt, &map, &[(1, 10)]);
+    Ok(())
+}
+
+#[test]
+fn ranges_that_stay(rt: HostRuntime) -> Result<(), Fail> {
+    let mut set = set_of(&rt, rt.alloc(), &ONE);
+    assert_eq!(&rt; retain_range(rt.alloc(), &mut set, 0, u64::MAX), 0);
+    assert_eq!(&rt; retain_range(rt.alloc(), &mut set, 2, 9), 1);
+    has_keys(&rt, &set, &[3, 5, 7, 9]);
+    assert_eq!(&rt; retain_range(rt.alloc(), &mut set, 5, 6), 3);
+    has_keys(&rt, &set, &[5]);
+    assert_eq!(&rt; retain_range(rt.alloc(), &mut set, 6, 5), 1);
+    has_keys(&rt, &set, &[]);
+    let mut map = map_of(&rt, rt.alloc(), &[(1, 10), (3, 30), (u64::MAX, 50)]);
+    assert_eq!(&rt; retain_range(rt.alloc(), &mut map, 2, u64::MAX), 1);
+    has_pairs(&rt, &map, &[(3, 30), (u64::MAX, 50)]);
+    Ok(())
+}
+
+#[test]
+fn words_put_in(rt: HostRuntime) -> Result<(), Fail> {
+    let alloc = rt.alloc();
+    let mut set = set_of(&rt, rt.alloc(), &ONE);
+    assert_eq!(&rt; insert_range(alloc, &mut set, 3, 6), Ok(()));
+    has_keys(&rt, &set, &[1, 3, 4, 5, 6, 7, 9]);
+    assert_eq!(&rt; insert_range(alloc, &mut set, 6, 3), Ok(()));
+    assert_eq!(&rt;
+        insert_range(alloc, &mut set, u64::MAX - 1, u64::MAX),
+        Ok(())
+    );
+    has_keys(&rt, &set, &[1, 3, 4, 5, 6, 7, 9, u64::MAX - 1, u64::MAX]);
+    assert_eq!(&rt;
+        insert_range(alloc, &mut set, 10, 101),
+        Err(InsertError::Full)
+    );
+    assert_eq!(&rt; insert_range(alloc, &mut set, 10, 100), Ok(()));
+    assert_eq!(&rt; set.len(), 100);
+    assert_eq!(&rt; insert_range(alloc, &mut set, 10, 100), Ok(()));
+    let mut all = Judy1::unbounded(alloc);
+    assert_eq!(&rt;
+        insert_range(alloc, &mut all, 0, u64::MAX),
+        Err(InsertError::Full)
+    );
+    assert_eq!(&rt;
+        insert_range(alloc, &mut all, 1, u64::MAX),
+        Err(InsertError::NoMemory)
+    );
+    assert_eq!(&rt; all.len(), 0);
+    Ok(())
+}
+
+#[test]
+fn words_turned_round(rt: HostRuntime) -> Result<(), Fail> {
+    let alloc = rt.alloc();
+    let mut set = set_of(&rt, rt.alloc(), &ONE);
+    assert_eq!(&rt; flip(alloc, &mut set, 3, 6), Ok(()));
+    has_keys(&rt, &set, &[1, 4, 6, 7, 9]);
+    assert_eq!(&rt; flip(alloc, &mut set, 6, 3), Ok(()));
+    assert_eq!(&rt; flip(alloc, &mut set, 9, u64::MAX), Err(InsertError::Full));
+    assert_eq!(&rt; flip(alloc, &mut set, 9, 105), Ok(()));
+    assert_eq!(&rt; (set.len(), set.test(9)), (100, false));
+    assert_eq!(&rt; flip(alloc, &mut set, 8, 105), Ok(()));
+    has_keys(&rt, &set, &[1, 4, 6, 7, 8, 9]);
+    let mut even = multiples(&rt, alloc, 2);
+    assert_eq!(&rt; flip(alloc, &mut even, 0, 5999), Ok(()));
+    assert_eq!(&rt;
+        (even.len(), even.test(2), even.test(3)),
+        (3000, false, true)
+    );
     Ok(())
 }
 

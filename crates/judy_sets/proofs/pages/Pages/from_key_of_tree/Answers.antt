@@ -1,6 +1,5 @@
 use Rattle.std.proofs.Common.{◌^◌, ◌∙◌}
 use Rattle.judy_word.proofs.IterFacts.{pairs_from}
-use Rattle.judy_query.specs.Maps.{map_of}
 use Rattle.judy_sets.specs.Pages.{rest}
 use Rattle.judy_sets.proofs.FromFacts.{is_from}
 use Rattle.judy_sets.proofs.pages.Pages.from_key_of_tree.Goals as goal

@@ -3,7 +3,7 @@ use Rattle.std.specs.FinMap.{len}
 use Rattle.judy_model.specs.TwoMaps.{intersection}
 use Rattle.judy_sets.specs.Merges.{Ascends, met}
 use Rattle.judy_sets.specs.Pages.{rest}
-use Rattle.judy_sets.proofs.counts.common_count.Given as goal
+use Rattle.judy_sets.proofs.counts.met_count.Given as goal
 
 abbrev pub invariant-pages : goal.invariant-pages
 invariant-pages g l = record {
