@@ -15,3 +15,4 @@ pub mod RangeTests
 pub mod Retained
 pub mod WordPuts
 pub mod LookFacts
+pub mod DownFacts

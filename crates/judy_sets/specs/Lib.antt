@@ -4,3 +4,4 @@ pub mod Results
 pub mod Fills
 pub mod RangeWords
 pub mod LookUps
+pub mod Downward

@@ -8,14 +8,15 @@
 //!
 //! Each goes through both arrays side by side, a page of 64 pairs at a time: pages.rt reads them ahead, merges.rt goes
 //! through two slices of them, and steps.rt through two arrays. Where one has far fewer keys, lookups.rt looks these up in
-//! the other. keep.rt says which keys a result takes. Its tests stand
-//! in judy_tree_tests.
+//! the other. keep.rt says which keys a result takes. downward.rt tells keys in descending order. Its tests stand in
+//! judy_sets_tests.
 //!
 //! The crate stands on the walks of judy_query and on judy_word's public calls, and changes no node itself.
 #![tactic(auto)]
 
 mod combine;
 mod counts;
+mod downward;
 mod fills;
 mod keep;
 mod lookups;
@@ -31,6 +32,7 @@ pub use combine::{append, combined, difference, intersection, symmetric_differen
 pub use counts::{
     common_count, count_empty, difference_count, symmetric_difference_count, union_count,
 };
+pub use downward::fill_down;
 pub use keep::Keep;
 pub use range_words::{flip, insert_range};
 pub use ranges::{copy_range, remove_range, retain_range, split_off};

@@ -4,7 +4,7 @@
 ghost use Rattle.std.specs.Prelude.{◌<◌};
 
 use judy_sets::{
-    append, common_count, copy_range, count_empty, difference, difference_count, flip,
+    append, common_count, copy_range, count_empty, difference, difference_count, fill_down, flip,
     insert_range, intersection, is_disjoint, is_subset, is_superset, remove_range, retain_range,
     same_keys, split_off, symmetric_difference, symmetric_difference_count, union, union_count,
 };
@@ -322,5 +322,17 @@ fn words_that_are_no_keys(rt: HostRuntime) -> Result<(), Fail> {
     assert_eq!(&rt; count_empty(&set, 0, u64::MAX), u64::MAX - 5);
     let none = set_of(&rt, rt.alloc(), &[]);
     assert_eq!(&rt; count_empty(&none, 0, u64::MAX), u64::MAX);
+    Ok(())
+}
+
+#[test]
+fn keys_are_told_downward(rt: HostRuntime) -> Result<(), Fail> {
+    let set = set_of(&rt, rt.alloc(), &ONE);
+    let mut page = [0_u64; 3];
+    assert_eq!(&rt; fill_down(&set, 8, &mut page), 3);
+    assert_eq!(&rt; page, [7, 5, 3]);
+    assert_eq!(&rt; fill_down(&set, 2, &mut page), 1);
+    assert_eq!(&rt; page, [1, 5, 3]);
+    assert_eq!(&rt; fill_down(&set, 0, &mut page), 0);
     Ok(())
 }

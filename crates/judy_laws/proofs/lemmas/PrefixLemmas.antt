@@ -56,7 +56,7 @@ prefix_counts map prefix = len-halves byte_order_total byte_order_same map (begi
 -- ---- of two keys that begin a string
 
 -- The greater is the longer.
-longer : (one other bytes : List ℕ) → begins_with one bytes ≡ true → begins_with other bytes ≡ true → is_le (byte_order other one) ≡ true → length other ≤ length one
+pub longer : (one other bytes : List ℕ) → begins_with one bytes ≡ true → begins_with other bytes ≡ true → is_le (byte_order other one) ≡ true → length other ≤ length one
 unfolding begins_with
 longer one [] bytes begins also less = omega arith
 longer [] (b ∷ other) bytes begins also less = absurd (true≢false (sym less))
