@@ -1,7 +1,7 @@
 -- The text of the store of one array, with the most keys that a dump lets it hold.
-use Rattle.std.specs.Prelude.{◌≡◌, ℕ, Bool, false, nat_le, List, [], ◌∷◌, ◌++◌, length}
+use Rattle.std.specs.Prelude.{◌≡◌, ℕ, ◌<◌, ◌≤◌, Bool, true, false, nat_le, List, [], ◌∷◌, ◌++◌, length, Result, Ok, Err}
 use Rattle.std.specs.List.{list_all}
-use Rattle.std.specs.FinMap.{FinMap}
+use Rattle.std.specs.FinMap.{FinMap, len}
 use Rattle.judy_model.specs.Keys.{word_order, byte_order}
 use Rattle.judy_model.specs.WordBytes.{low_bytes}
 use Rattle.judy_model.specs.Arrays.{ArrayValue, judy1, judyl, judysl, judyhs}
@@ -9,7 +9,8 @@ use Rattle.judy_model.specs.DumpText as text
 use Rattle.judy_model.specs.DumpText.{Version, dump_of, entries_by, length_order}
 use Rattle.judy_model.specs.declared.keys.TheConstants.{LONGEST_KEY}
 use Rattle.judy_saved.specs.declared.dumps.SaveError.{SaveError}
-use Rattle.judy_saved.specs.declared.dumps.SaveError.TheVariants.{NoMemory, LongKey}
+use Rattle.judy_saved.specs.declared.dumps.SaveError.TheVariants.{TooMany, NoMemory, LongKey}
+use Rattle.judy_saved.specs.Rooms.{IsSaved}
 
 -- The most keys that a dump lets an array hold.
 abbrev pub most : ℕ
@@ -44,7 +45,34 @@ entry_text entry = text.string entry.0 ++ text.word entry.1
 abbrev pub is_short : FinMap byte_order ℕ → Bool
 is_short map = list_all (λ entry. nat_le (length entry.0) LONGEST_KEY) (entries_by length_order map)
 
--- Why an array of byte strings isn't dumped.
-abbrev pub IsUnsaid : FinMap byte_order ℕ → SaveError → Type 0
-IsUnsaid map NoMemory = Unit {0}
-IsUnsaid map LongKey = is_short map ≡ false
+-- A dump that is asked for: its text, how many keys it has, whether none of them is longer than a dump can say, and whether they are sorted first,
+-- which takes memory.
+pub record Dump : Type 0 where
+  pub text : List ℕ
+  pub count : ℕ
+  pub short : Bool
+  pub sorts : Bool
+
+abbrev pub set_dump : Version → List ℕ → FinMap word_order ℕ → Dump
+set_dump version name map = record { text = set_text version name map; count = len map; short = true; sorts = false }
+
+abbrev pub map_dump : Version → List ℕ → FinMap word_order ℕ → Dump
+map_dump version name map = record { text = map_text version name map; count = len map; short = true; sorts = false }
+
+abbrev pub strings_dump : Version → List ℕ → FinMap byte_order ℕ → Dump
+strings_dump version name map = record { text = strings_text version name map; count = len map; short = true; sorts = false }
+
+abbrev pub bytes_dump : Version → List ℕ → FinMap byte_order ℕ → Dump
+bytes_dump version name map = record { text = bytes_text version name map; count = len map; short = is_short map; sorts = true }
+
+-- Why it isn't made: there are more keys than a dump can say; or there aren't, and there is no memory to sort them, or one is too long. So of words and
+-- of strings no other error comes than the first.
+abbrev pub IsUnsaid : Dump → SaveError → Type 0
+IsUnsaid dump TooMany = most < dump.count
+IsUnsaid dump NoMemory = (dump.count ≤ most) × (dump.sorts ≡ true)
+IsUnsaid dump LongKey = (dump.count ≤ most) × (dump.short ≡ false)
+
+-- Its size is told, and it is written where it fits; or it isn't made, and the room is as it was.
+abbrev pub IsDumped : Dump → List ℕ → Result ℕ SaveError → List ℕ → Type 0
+IsDumped dump before (Ok size) after = (dump.count ≤ most) × (dump.short ≡ true) × IsSaved dump.text before size after
+IsDumped dump before (Err fault) after = IsUnsaid dump fault × (after ≡ before)

@@ -1,9 +1,9 @@
 //! One array as the dump of a store that has it alone, written to the front of a room.
 
-ghost use Rattle.std.specs.Prelude.{◌≡◌, ◌<◌, ◌≤◌, ◌+◌, ◌^◌, ◌++◌, length, true, nat_le, IfOk, IfErr};
+ghost use Rattle.std.specs.Prelude.{◌≡◌, ◌≢◌, ◌<◌, ◌≤◌, ◌+◌, ◌^◌, ◌++◌, length, true, nat_le, Err};
 ghost use Rattle.std.specs.FinMap as map;
 ghost use Rattle.std.specs.List.{flat_map, list_all};
-ghost use Rattle.judy_model.specs.Arrays.{judy1, judyl, judysl, judyhs};
+ghost use Rattle.judy_model.specs.Arrays.{judy1, judyl, judysl};
 ghost use Rattle.judy_model.specs.DumpText as text;
 ghost use Rattle.judy_model.specs.DumpText.{jdy1};
 ghost use Rattle.judy_model.specs.WordBytes.{low_bytes};
@@ -11,8 +11,9 @@ ghost use Rattle.judy_hs.specs.Listed.{entries_in};
 ghost use Rattle.judy_model.specs.declared.keys.TheConstants.{LONGEST_KEY};
 ghost use Rattle.judy_shelf.specs.Versions.{format_of};
 ghost use Rattle.judy_shelf.specs.Writes.{kind_number};
-ghost use Rattle.judy_saved.specs.Dumps.{head_text, set_text, map_text, strings_text, bytes_text, entry_text, is_short, IsUnsaid};
-ghost use Rattle.judy_saved.specs.Rooms.{Adds, IsSaved};
+ghost use Rattle.judy_saved.specs.Dumps.{head_text, set_text, map_text, strings_text, entry_text, set_dump, map_dump, strings_dump, bytes_dump, IsDumped};
+ghost use Rattle.judy_saved.specs.Rooms.{Adds};
+ghost use Rattle.judy_saved.specs.declared.dumps.SaveError.TheVariants.{TooMany};
 
 use crate::room::put;
 use judy_hs::{ByteHash, HsEntry, JudyHs};
@@ -22,86 +23,143 @@ use judy_sl::JudySl;
 use judy_word::{Judy1, JudyL};
 use thiserror::Error;
 
-/// Why an array of byte strings isn't dumped. Nothing was written.
+/// Why an array isn't dumped. Nothing was written.
 #[derive(Clone, Copy, Debug, PartialEq, Eq, Error)]
 pub enum SaveError {
-    /// There is no memory to sort its keys.
+    /// It has more than 4,294,967,295 keys, which no dump can say.
+    #[error("too many keys for a dump")]
+    TooMany,
+    /// It is one of byte strings, and there is no memory to sort its keys.
     #[error("out of memory")]
     NoMemory,
-    /// A key has more than 1,024 bytes, which no dump can say.
+    /// It is one of byte strings, and a key has more than 1,024 bytes, which no dump can say.
     #[error("a key is too long for a dump")]
     LongKey,
 }
 
 /// Writes the dump of a set under a name to the front of a room where it fits, and answers how many bytes it has,
 /// whether it fits or not; where it doesn't, the room is as it was. So an empty room asks for the size alone, which
-/// takes no walk.
+/// takes no walk. What stands in the room behind the dump stays.
 ///
 /// The dump is that of the store that has a set of these keys alone, with the limit 4,294,967,295, the most that a dump
-/// says: so the set has no more keys than that.
-pub fn dump_set(version: Version, name: &Name, set: &Judy1, room: &mut [u8]) -> usize
-    requires { map.len set.now.map ≤ 4294967295 }
-    ensures { IsSaved (set_text (format_of version) name.now set.now.map) room.old result room.new }
+/// says. `TooMany`, and nothing else, is the error: where the set has more keys than that. The room is as it was then.
+///
+/// The set of the key 1 under the name `a` has 35 bytes, eight of them the key's, and one key more takes eight more:
+///
+/// ```
+/// let mut room = [0; 64];
+/// assert!(dump_set(Version::First, &name, &set, &mut []) == Ok(35));
+/// assert!(dump_set(Version::First, &name, &set, &mut room) == Ok(35) && room.starts_with(b"JDY1"));
+/// ```
+pub fn dump_set(
+    version: Version,
+    name: &Name,
+    set: &Judy1,
+    room: &mut [u8],
+) -> Result<usize, SaveError>
+    ensures { IsDumped (set_dump (format_of version) name.now set.now.map) room.old result
+        room.new }
 {
     let count = set.len();
+    if count > MAX_LIMIT {
+        return Err(SaveError::TooMany);
+    }
     let mut none = [];
     let head = put_head(version, name, Kind::Judy1, count, &mut none);
     let size = head + 8 * count as usize;
     if size > room.len() {
-        return size;
+        return Ok(size);
     }
     write_set(version, name, set, room);
-    size
+    Ok(size)
 }
 
-/// Writes the dump of a map from words under a name, as [`dump_set`] writes that of a set.
-pub fn dump_map(version: Version, name: &Name, words: &JudyL, room: &mut [u8]) -> usize
-    requires { map.len words.now.map ≤ 4294967295 }
-    ensures { IsSaved (map_text (format_of version) name.now words.now.map) room.old result
+/// Writes the dump of a map from words under a name, as [`dump_set`] writes that of a set. Each key takes 16 bytes with
+/// its value:
+///
+/// ```
+/// // of the map from 5 to 9 under the name `l`
+/// assert!(dump_map(Version::Second, &name, &words, &mut []) == Ok(43));
+/// ```
+pub fn dump_map(
+    version: Version,
+    name: &Name,
+    words: &JudyL,
+    room: &mut [u8],
+) -> Result<usize, SaveError>
+    ensures { IsDumped (map_dump (format_of version) name.now words.now.map) room.old result
         room.new }
 {
     let count = words.len();
+    if count > MAX_LIMIT {
+        return Err(SaveError::TooMany);
+    }
     let mut none = [];
     let head = put_head(version, name, Kind::JudyL, count, &mut none);
     let size = head + 16 * count as usize;
     if size > room.len() {
-        return size;
+        return Ok(size);
     }
     write_map(version, name, words, room);
-    size
+    Ok(size)
 }
 
 /// Writes the dump of a map from strings under a name, as [`dump_set`] writes that of a set. Its size takes a walk
-/// through the keys, so two walks are made where it is written.
-pub fn dump_strings(version: Version, name: &Name, strings: &JudySl, room: &mut [u8]) -> usize
-    requires { map.len strings.now.map ≤ 4294967295 }
-    ensures { IsSaved (strings_text (format_of version) name.now strings.now.map) room.old result
-        room.new }
+/// through the keys, so two walks are made where it is written. `TooMany` never comes of a map whose limit is at most
+/// 4,294,967,295, as each map's is that `JudySl::new` makes.
+///
+/// The second format writes what two strings share once, so `a` and `ab` take a byte less for the shared one, and two
+/// more each to tell how many are shared:
+///
+/// ```
+/// // of the map from `a` to 2 and `ab` to 3 under the name `s`
+/// assert!(dump_strings(Version::First, &name, &strings, &mut []) == Ok(50));
+/// assert!(dump_strings(Version::Second, &name, &strings, &mut []) == Ok(53));
+/// ```
+pub fn dump_strings(
+    version: Version,
+    name: &Name,
+    strings: &JudySl,
+    room: &mut [u8],
+) -> Result<usize, SaveError>
+    ensures dumped { IsDumped (strings_dump (format_of version) name.now strings.now.map) room.old
+        result room.new }
+    ensures never { strings.now.limit ≤ 4294967295 → result ≢ Err TooMany }
 {
+    if strings.len() > MAX_LIMIT {
+        return Err(SaveError::TooMany);
+    }
     let mut none = [];
     let size = write_strings(version, name, strings, &mut none);
     if size > room.len() {
-        return size;
+        return Ok(size);
     }
-    write_strings(version, name, strings, room)
+    Ok(write_strings(version, name, strings, room))
 }
 
 /// Writes the dump of a map from byte strings under a name, as [`dump_set`] writes that of a set. The keys are sorted
-/// first, also where the size alone is asked for: `NoMemory` where there is none for that. `LongKey` where a key has
-/// more than 1,024 bytes. The room is as it was then.
+/// first, also where the size alone is asked for. The errors, in this order: `TooMany`, before the keys are sorted,
+/// which never comes of a map whose limit is at most 4,294,967,295; `NoMemory` where there is none to sort them;
+/// `LongKey` where one has more than 1,024 bytes. The room is as it was then.
+///
+/// ```
+/// // of the map from 1,025 bytes of 7 to 0
+/// assert!(dump_byte_strings(Version::First, &name, &bytes, &mut []) == Err(SaveError::LongKey));
+/// ```
 pub fn dump_byte_strings<H: ByteHash + Drop>(
     version: Version,
     name: &Name,
     bytes: &JudyHs<H>,
     room: &mut [u8],
 ) -> Result<usize, SaveError>
-    requires { map.len bytes.now.map ≤ 4294967295 }
-    ensures said { IfOk result (λ size.
-        IsSaved (bytes_text (format_of version) name.now bytes.now.map) room.old size room.new) }
-    ensures short { IfOk result (λ _. is_short bytes.now.map ≡ true) }
-    ensures refused { IfErr result (λ fault.
-        IsUnsaid bytes.now.map fault × (room.new ≡ room.old)) }
+    ensures dumped { IsDumped (bytes_dump (format_of version) name.now bytes.now.map) room.old
+        result room.new }
+    ensures never { bytes.now.limit ≤ 4294967295 → result ≢ Err TooMany }
 {
+    let count = bytes.len();
+    if count > MAX_LIMIT {
+        return Err(SaveError::TooMany);
+    }
     let Ok(entries) = bytes.sorted() else {
         return Err(SaveError::NoMemory);
     };
@@ -109,7 +167,6 @@ pub fn dump_byte_strings<H: ByteHash + Drop>(
         return Err(SaveError::LongKey);
     }
     let mut none = [];
-    let count = bytes.len();
     let size = write_byte_strings(version, name, count, &entries, &mut none);
     if size > room.len() {
         return Ok(size);

@@ -112,9 +112,11 @@ fn saved_set(rt: HostRuntime) {
     assert!(&rt; set.set(1).is_ok() && set.len() == 1);
     let name = named(&rt, b"a");
     let mut small = [9; 34];
-    assert!(&rt; dump_set(Version::First, &name, &set, &mut small) == 35 && small == [9; 34]);
+    assert!(&rt; dump_set(Version::First, &name, &set, &mut small) == Ok(35));
+    assert!(&rt; small == [9; 34]);
+    assert!(&rt; dump_set(Version::First, &name, &set, &mut []) == Ok(35));
     let mut room = [9; 36];
-    assert!(&rt; dump_set(Version::First, &name, &set, &mut room) == 35);
+    assert!(&rt; dump_set(Version::First, &name, &set, &mut room) == Ok(35));
     assert!(&rt; room == *SET_AND_NINE);
 }
 
@@ -123,7 +125,7 @@ fn saved_map(rt: HostRuntime) {
     let mut map = JudyL::new(rt.alloc(), 7);
     assert!(&rt; map.put(5, 9).is_ok() && map.len() == 1);
     let mut room = [0; 43];
-    assert!(&rt; dump_map(Version::First, &named(&rt, b"l"), &map, &mut room) == 43);
+    assert!(&rt; dump_map(Version::First, &named(&rt, b"l"), &map, &mut room) == Ok(43));
     assert!(&rt; room == *MAP);
 }
 
@@ -134,8 +136,12 @@ fn saved_strings(rt: HostRuntime) {
         panic!(&rt; "a dump");
     };
     assert!(&rt; strings.limit() == 7 && strings.get(b"ab") == Some(3));
+    let name = named(&rt, b"s");
+    assert!(&rt; dump_strings(Version::First, &name, &strings, &mut []) == Ok(50));
     let mut room = [0; 53];
-    assert!(&rt; dump_strings(Version::Second, &named(&rt, b"s"), &strings, &mut room) == 53);
+    assert!(&rt; dump_strings(Version::Second, &name, &strings, &mut room[..52]) == Ok(53));
+    assert!(&rt; room == [0; 53]);
+    assert!(&rt; dump_strings(Version::Second, &name, &strings, &mut room) == Ok(53));
     assert!(&rt; room == *STRINGS);
 }
 

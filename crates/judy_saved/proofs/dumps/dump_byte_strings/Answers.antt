@@ -1,49 +1,73 @@
-use Rattle.std.proofs.Common.{ℕ, List, nat_le, length, sym, ap, ◌∙◌, arith}
+use Rattle.std.proofs.Common.{◌≡◌, ◌≤◌, ℕ, List, true, nat_le, length, sym, ap, ◌∙◌, refl, arith}
+use Rattle.std.specs.FinMap.{len}
 use Rattle.std.specs.List.{list_all}
 use Rattle.judy_model.specs.declared.keys.TheConstants.{LONGEST_KEY}
 use Rattle.judy_hs.specs.Listed.{entries_in}
 use Rattle.judy_shelf.specs.Versions.{format_of}
-use Rattle.judy_saved.specs.Dumps.{bytes_text}
+use Rattle.judy_saved.specs.Dumps.{most, bytes_text, is_short}
 use Rattle.judy_saved.proofs.RoomLemmas.{saved_again, not_saved, from_front}
 use Rattle.judy_saved.proofs.DumpLemmas.{adds_listed}
 use Rattle.judy_saved.proofs.EntryLemmas.{listed_within}
 use Rattle.judy_saved.proofs.dumps.dump_byte_strings.Goals as goal
 
-pub returns-then-size-room-clause-said : goal.returns-then-size-room-clause-said
-returns-then-size-room-clause-said g c =
+-- What the list says of the keys' lengths, the map says.
+pub returns-then-not-are_short-clause-dumped : goal.returns-then-not-are_short-clause-dumped
+returns-then-not-are_short-clause-dumped g c =
+    let within = c.if-count-gt-MAX_LIMIT.false in
+    let count = c.len-count.ensures.count in
+    let few : len c.args.bytes.now.map ≤ most = omega (arith, within, count) in (
+      (
+        few,
+        ap (list_all (λ (entry : List ℕ × ℕ). nat_le (length entry.0) LONGEST_KEY)) (sym (ap entries_in c.deref.ensures.value ∙ c.in-Ok.ensures)) ∙ sym c.are_short.ensures
+            ∙ c.if-not-are_short.true,
+      ),
+      refl,
+    )
+
+pub returns-then-size-room-clause-dumped : goal.returns-then-size-room-clause-dumped
+returns-then-size-room-clause-dumped g c =
     let version = format_of c.args.version in
     let name = c.args.name.now in
     let m = c.args.bytes.now.map in
     let text = bytes_text version name m in
+    let within = c.if-count-gt-MAX_LIMIT.false in
+    let count = c.len-count.ensures.count in
+    let few : len m ≤ most = omega (arith, within, count) in
+    let short : is_short m ≡ true =
+    ap (list_all (λ (entry : List ℕ × ℕ). nat_le (length entry.0) LONGEST_KEY)) (sym (ap entries_in c.deref.ensures.value ∙ c.in-Ok.ensures)) ∙ sym c.are_short.ensures ∙ c.if-not-are_short.false in
     let asked = adds_listed version name m c.len-count.result c.len-count.ensures.count (entries_in c.deref-2.result.now) (ap entries_in c.deref-2.ensures.value ∙ c.in-Ok.ensures) _ _ _
     c.write_byte_strings-size.ensures in
     let stands = from_front text _ _ _ asked in
-    not_saved text c.args.room.now _ stands.ends c.if-size-room.true
+    (few, short, not_saved text c.args.room.now _ stands.ends c.if-size-room.true)
 
-pub returns : goal.returns
-returns g c =
+pub returns-clause-dumped : goal.returns-clause-dumped
+returns-clause-dumped g c =
     let version = format_of c.args.version in
     let name = c.args.name.now in
     let m = c.args.bytes.now.map in
     let text = bytes_text version name m in
+    let within = c.if-count-gt-MAX_LIMIT.false in
+    let count = c.len-count.ensures.count in
+    let few : len m ≤ most = omega (arith, within, count) in
+    let short : is_short m ≡ true =
+    ap (list_all (λ (entry : List ℕ × ℕ). nat_le (length entry.0) LONGEST_KEY)) (sym (ap entries_in c.deref.ensures.value ∙ c.in-Ok.ensures)) ∙ sym c.are_short.ensures ∙ c.if-not-are_short.false in
     let asked = adds_listed version name m c.len-count.result c.len-count.ensures.count (entries_in c.deref-2.result.now) (ap entries_in c.deref-2.ensures.value ∙ c.in-Ok.ensures) _ _ _
     c.write_byte_strings-size.ensures in
     let written = adds_listed version name m c.len-count.result c.len-count.ensures.count (entries_in c.deref-3.result.now) (ap entries_in c.deref-3.ensures.value ∙ c.in-Ok.ensures) _ _ _
     c.write_byte_strings.ensures in
-    let stands = from_front text _ _ _ asked in record {
-      said = saved_again text c.args.room.now _ _ _ stands.ends c.if-size-room.false written;
-      short =
-          ap (list_all (λ (entry : List ℕ × ℕ). nat_le (length entry.0) LONGEST_KEY)) (sym (ap entries_in c.deref.ensures.value ∙ c.in-Ok.ensures)) ∙ sym c.are_short.ensures
-          ∙ c.if-not-are_short.false;
-      refused = tt;
-    }
+    let stands = from_front text _ _ _ asked in
+    (few, short, saved_again text c.args.room.now _ _ _ stands.ends c.if-size-room.false written)
 
 pub write_byte_strings-size-requires-clause-few : goal.write_byte_strings-size-requires-clause-few
 write_byte_strings-size-requires-clause-few g c =
     let within = listed_within c.args.bytes.now.map c.deref-2.result.now (ap entries_in c.deref-2.ensures.value ∙ c.in-Ok.ensures) in
-    omega arith
+    let few = c.if-count-gt-MAX_LIMIT.false in
+    let count = c.len-count.ensures.count in
+    omega (arith, within, few, count)
 
 pub write_byte_strings-requires-clause-few : goal.write_byte_strings-requires-clause-few
 write_byte_strings-requires-clause-few g c =
     let within = listed_within c.args.bytes.now.map c.deref-3.result.now (ap entries_in c.deref-3.ensures.value ∙ c.in-Ok.ensures) in
-    omega arith
+    let few = c.if-count-gt-MAX_LIMIT.false in
+    let count = c.len-count.ensures.count in
+    omega (arith, within, few, count)

@@ -1,4 +1,5 @@
-use Rattle.std.proofs.Common.{refl}
+use Rattle.std.proofs.Common.{◌≤◌, refl, arith}
+use Rattle.std.specs.FinMap.{len}
 use Rattle.judy_model.specs.Arrays.{judyl}
 use Rattle.judy_shelf.specs.Versions.{format_of}
 use Rattle.judy_saved.specs.Dumps.{most, map_text}
@@ -11,15 +12,21 @@ returns-then-size-room c =
     let version = format_of c.args.version in
     let m = c.args.words.now.map in
     let over = c.if-size-room.true in
+    let within = c.if-count-gt-MAX_LIMIT.false in
+    let count = c.len-count.ensures.count in
+    let few : len m ≤ most = omega (arith, within, count) in
     let is = size_alone version c.args.name.now (judyl (record { limit = most; map = m })) refl c.len-count.result c.len-count.ensures.count _ _ c.put_head-head.result _ c.put_head-head.ensures.adds
     (size_of_map version m c.len-count.result c.len-count.ensures.count) in
-    not_saved (map_text version c.args.name.now m) c.args.room.now _ is over
+    (few, refl, not_saved (map_text version c.args.name.now m) c.args.room.now _ is over)
 
 pub returns : goal.returns
 returns c =
     let version = format_of c.args.version in
     let m = c.args.words.now.map in
     let fits = c.if-size-room.false in
+    let within = c.if-count-gt-MAX_LIMIT.false in
+    let count = c.len-count.ensures.count in
+    let few : len m ≤ most = omega (arith, within, count) in
     let is = size_alone version c.args.name.now (judyl (record { limit = most; map = m })) refl c.len-count.result c.len-count.ensures.count _ _ c.put_head-head.result _ c.put_head-head.ensures.adds
     (size_of_map version m c.len-count.result c.len-count.ensures.count) in
-    saved (map_text version c.args.name.now m) c.args.room.now _ c.write_map.result _ is fits c.write_map.ensures
+    (few, refl, saved (map_text version c.args.name.now m) c.args.room.now _ c.write_map.result _ is fits c.write_map.ensures)
