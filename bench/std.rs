@@ -37,6 +37,60 @@ pub unsafe extern "C" fn btree_set_remove(set: *mut Set, key: u64) {
     (*set).remove(&key);
 }
 
+// Sets of two sets, a range that goes, and copies.
+
+fn boxed(set: Set) -> *mut Set {
+    Box::into_raw(Box::new(set))
+}
+
+#[no_mangle]
+pub unsafe extern "C" fn btree_set_of(keys: *const u64, count: usize) -> *mut Set {
+    boxed(from_raw_parts(keys, count).iter().copied().collect())
+}
+
+#[no_mangle]
+pub unsafe extern "C" fn btree_set_copy(set: *const Set) -> *mut Set {
+    boxed((*set).clone())
+}
+
+#[no_mangle]
+pub unsafe extern "C" fn btree_set_len(set: *const Set) -> u64 {
+    (*set).len() as u64
+}
+
+#[no_mangle]
+pub unsafe extern "C" fn btree_set_common(one: *const Set, other: *const Set) -> u64 {
+    (*one).intersection(&*other).count() as u64
+}
+
+#[no_mangle]
+pub unsafe extern "C" fn btree_set_union(one: *const Set, other: *const Set) -> *mut Set {
+    boxed(&*one | &*other)
+}
+
+#[no_mangle]
+pub unsafe extern "C" fn btree_set_intersection(one: *const Set, other: *const Set) -> *mut Set {
+    boxed(&*one & &*other)
+}
+
+#[no_mangle]
+pub unsafe extern "C" fn btree_set_difference(one: *const Set, other: *const Set) -> *mut Set {
+    boxed(&*one - &*other)
+}
+
+#[no_mangle]
+pub unsafe extern "C" fn btree_set_symmetric_difference(one: *const Set, other: *const Set) -> *mut Set {
+    boxed(&*one ^ &*other)
+}
+
+#[no_mangle]
+pub unsafe extern "C" fn btree_set_remove_range(set: *mut Set, from: u64, to: u64) {
+    let mut inside = (*set).split_off(&from);
+    if let Some(behind) = to.checked_add(1) {
+        (*set).append(&mut inside.split_off(&behind));
+    }
+}
+
 #[no_mangle]
 pub extern "C" fn btree_map_new() -> *mut Map {
     Box::into_raw(Box::default())

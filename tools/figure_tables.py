@@ -17,6 +17,17 @@ SMALL = {"insert": "made and freed", "hit": "look-up", "bytes": "bytes"}
 SMALL_GOALS = {"insert": 1.0, "hit": 1.0}
 EMPTIES = {"hit": "first", "next": "next", "rank": "last", "select": "prev"}
 EMPTIES_GOAL = 1.0
+# What is measured of sets, as what it is told.
+SETS = {
+    "rank": "count of both",
+    "insert": "union",
+    "hit": "intersection",
+    "miss": "difference",
+    "next": "symmetric",
+    "delete": "range out",
+    "walk": "copy",
+    "bulk": "of a list",
+}
 KEPT = {"put-in": "all put in", "few-left": "1 in 100 left", "copied": "those copied"}
 ONE_HASH = ["insert", "hit", "miss", "delete"]
 
@@ -112,6 +123,7 @@ NAMES = {
     "hashmap": "HashMap",
     "btreemap": "BTreeMap",
     "skip-list": "skip list",
+    "croaring": "CRoaring",
 }
 
 
@@ -353,6 +365,17 @@ def empties(told):
     return table.text()
 
 
+def sets(told):
+    """The nanoseconds by the key of a set of what two sets have together, and of parts of one, of each library."""
+    table = Table("pattern", "keys", "library", *SETS.values())
+    for (array, keys), each in told.items():
+        for pattern in each.patterns():
+            for library in each.libraries():
+                found = [table.judge(each.number(library, pattern, it), None) for it in SETS]
+                table.row(pattern, keys_told(keys), name_of(array, library), *found)
+    return table.text()
+
+
 def pages(told):
     """Walks over strings by pages: nanoseconds a key, and what part that is of libJudy's walk and of our own by the
     next key."""
@@ -528,6 +551,7 @@ TABLES = {
     "latency": latency,
     "far": far,
     "pages": pages,
+    "sets": sets,
     "empties": empties,
     "scripts": scripts,
     "loads": loads,
