@@ -1,0 +1,8 @@
+pub mod PartFacts
+pub mod WalkFacts
+pub mod CountFacts
+pub mod RelationFacts
+pub mod FillFacts
+pub mod EndFacts
+pub mod FrontFacts
+pub mod PrefixSteps
