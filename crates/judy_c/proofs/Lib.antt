@@ -20,3 +20,5 @@ pub mod Storing
 pub mod FirstKeys
 pub mod SortedStrings
 pub mod CombinedAnswers
+pub mod SavedAnswers
+pub mod CombinedStringAnswers

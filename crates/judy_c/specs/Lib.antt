@@ -24,3 +24,5 @@ pub mod KeyWalks
 pub mod Looks
 pub mod SortedStrings
 pub mod Combined
+pub mod Saved
+pub mod CombinedStrings
