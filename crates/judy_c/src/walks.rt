@@ -1,8 +1,8 @@
 //! The walks of C: many keys at a time, written to a buffer of the caller's.
 //!
 //! A walk keeps nothing between its calls: the next one begins above the last key that was told. So it may begin
-//! anywhere, and the array may change between two calls; what comes then are the keys that are there at the call. A walk
-//! down goes on below the last key likewise.
+//! anywhere, and the array may change between two calls; what comes then are the keys that are there at the call. A
+//! walk down goes on below the last key likewise.
 
 ghost use Rattle.std.specs.Prelude.{◌≡◌};
 ghost use Rattle.judy_c.specs.Maps.{map_of, set_of};

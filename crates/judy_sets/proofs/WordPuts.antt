@@ -93,7 +93,8 @@ turned_here : (held : Bool) → cond held None (Some 0) ≡ cond {A = Option ℕ
 turned_here true = refl
 turned_here false = refl
 
-pub changed_inside : (turned : Bool) (set : Words) (from to word : ℕ) → Zeros set → from ≤ word → word ≤ to → get (changed turned set from to) word ≡ cond (not (turned && contains_key set word)) (Some 0) None
+pub changed_inside : (turned : Bool) (set : Words) (from to word : ℕ) → Zeros set → from ≤ word → word ≤ to →
+    get (changed turned set from to) word ≡ cond (not (turned && contains_key set word)) (Some 0) None
 changed_inside false set from to word zeros low high =
     filled_within set from to word low high ∙ filled_here (get set word) (λ v is. value_from_All (λ value. value ≡ 0) set word v zeros is)
 changed_inside true set from to word zeros low high = flipped_within set from to word low high ∙ turned_here (contains_key set word)

@@ -3,12 +3,12 @@
 //! counts.rt has how many keys both have, and by it the counts of a union and of differences, and how many words of a
 //! range are no keys, and relations.rt whether one's keys are part of the other's, apart from them, or the same.
 //! combine.rt has new arrays of two: unions, intersections and differences, which fills.rt fills, and ranges.rt copies
-//! a range of keys, keeps it, takes it out or splits it off by what range_puts.rt fills. range_words.rt puts the words of a
-//! range in, or turns them round.
+//! a range of keys, keeps it, takes it out or splits it off by what range_puts.rt fills. range_words.rt puts the words
+//! of a range in, or turns them round.
 //!
 //! Each goes through both arrays side by side, a page of 64 pairs at a time: pages.rt reads them ahead, merges.rt goes
-//! through two slices of them, and steps.rt through two arrays. Where one has far fewer keys, lookups.rt looks these up in
-//! the other. keep.rt says which keys a result takes. downward.rt tells keys in descending order. Its tests stand in
+//! through two slices of them, and steps.rt through two arrays. Where one has far fewer keys, lookups.rt looks these up
+//! in the other. keep.rt says which keys a result takes. downward.rt tells keys in descending order. Its tests stand in
 //! judy_sets_tests.
 //!
 //! The crate stands on the walks of judy_query and on judy_word's public calls, and changes no node itself.

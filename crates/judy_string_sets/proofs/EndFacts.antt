@@ -125,9 +125,6 @@ no_test true never = absurd (never refl)
 no_test false never = refl
 
 module _ (m : Strings) (from : List ℕ) (within : List ℕ → Bool) where
-  inside : List ℕ → Bool
-  inside key = is_le (byte_order from key) && within key
-
   abbrev pub NoneInside : Type 0
   NoneInside = (key : List ℕ) → contains_key m key ≡ true → (is_le (byte_order from key) && within key) ≡ false
 

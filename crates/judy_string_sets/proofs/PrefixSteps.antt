@@ -1,6 +1,8 @@
 -- The longest key that bytes begin with, by the greatest key up to a front of them.
-use Rattle.std.proofs.Common.{◌≡◌, ℕ, zero, suc, ◌+◌, ◌<◌, ◌≤◌, Bool, true, false, cond, ◌==◌, ◌&&◌, List, [], ◌∷◌, length, take, IsTrue, IsFalse, Option, Some, None, refl, sym, ap, ◌∙◌, subst, arith, true≢false, ⊎_elim, unwrap_or, is_some, MatchOption}
-use Rattle.std.proofs.Common.{Less, Equal, Greater, is_le}
+use Rattle.std.proofs.Common.{◌≡◌, ℕ, zero, suc, ◌+◌, ◌<◌, ◌≤◌, Bool, true, false, cond, ◌==◌, ◌&&◌, List, [], ◌∷◌, length, take, IsTrue, Option}
+use Rattle.std.proofs.Common.{Some, None, refl, sym, ap, ◌∙◌, subst, arith, true≢false, ⊎_elim}
+use Rattle.std.proofs.Common.{unwrap_or, is_some, MatchOption}
+use Rattle.std.proofs.Common.{Equal, Greater, is_le}
 use Rattle.std.specs.Ordering.{nat_cmp, ordering_then}
 use Rattle.std.specs.Cmp.{nat_cmp_total, nat_cmp_is, tied_itself}
 use Rattle.std.specs.Cmp.Lexicographic.{slice_cmp}
@@ -73,10 +75,7 @@ within (k ∷ key) (b ∷ bytes) (suc end) less part =
     by false apart rest part = omega arith
     by true same rest part = let more = rest same (omega (arith, part)) in omega (arith, more)
 
--- What a number answers that is less, or not, than another.
-below : (a b : ℕ) → a < b → nat_cmp a b ≡ Less
-below a b less = sym (nat_cmp_is a b Less less)
-
+-- What a number answers that is more than another.
 above : (a b : ℕ) → b < a → nat_cmp a b ≡ Greater
 above a b more = sym (nat_cmp_is a b Greater more)
 

@@ -7,8 +7,8 @@
 //!
 //! longest.rt has the longest key that begins some bytes, by fronts that fronts.rt measures.
 //!
-//! Each of the others goes through the keys of an array by a cursor, and looks each up in the other: keys.rt has the walk, and
-//! which.rt says which keys it stops at. Its tests stand in judy_string_tests.
+//! What two have goes through the keys of an array by a cursor, and looks each up in the other: keys.rt has the walk,
+//! and which.rt says which keys it stops at. Its tests stand in judy_string_tests.
 //!
 //! The crate stands on judy_sl's public calls alone.
 #![tactic(auto)]

@@ -30,7 +30,8 @@ returns-then-shared-len-clause-key c =
     let bytes = c.args.bytes.now in
     let key = c.last_up_to.new.key.items in
     let shared = c.shared_front-shared.ensures.shared ∙ ap (λ (k : List ℕ). shared_length k bytes) c.as_slice.ensures.value in
-    ap Some (whole_front key bytes c.as_slice.result.now c.shared_front-shared.result c.len.result c.as_slice.ensures.value c.shared_front-shared.ensures.shared c.len.ensures.value c.if-shared-len.true)
+    ap Some
+    (whole_front key bytes c.as_slice.result.now c.shared_front-shared.result c.len.result c.as_slice.ensures.value c.shared_front-shared.ensures.shared c.len.ensures.value c.if-shared-len.true)
     ∙ sym (whole_there c.args.strings.now.map bytes c.fronts.end key c.in_ok-value.ensures.0 c.fronts.invariant.others (sym shared ∙ c.if-shared-len.true ∙ c.len.ensures.value))
 
 pub returns-then-shared-len-clause-value : goal.returns-then-shared-len-clause-value
