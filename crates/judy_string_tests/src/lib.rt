@@ -3,8 +3,8 @@
 //! The crate stands on the arrays alone, so it is proved beside the program and not behind it. It has no code of its
 //! own.
 //!
-//! strings.rt has the rows of arrays over strings, cursors.rt those of walks over them, bytes.rt those of arrays over
-//! byte strings, and check.rt what rows compare.
+//! strings.rt has the rows of arrays over strings, cursors.rt those of walks over them, two_arrays.rt those of what two
+//! have together, bytes.rt those of arrays over byte strings, and check.rt what rows compare.
 #![tactic(auto)]
 
 #[cfg(test)]
@@ -15,3 +15,5 @@ mod check;
 mod cursors;
 #[cfg(test)]
 mod strings;
+#[cfg(test)]
+mod two_arrays;

@@ -1,0 +1,8 @@
+use Rattle.std.proofs.Common.{subst}
+use Rattle.judy_string_sets.specs.Results.{IsMade}
+use Rattle.judy_string_sets.specs.Walks.{Strings}
+use Rattle.judy_string_sets.proofs.CountFacts.{kept_symmetric}
+use Rattle.judy_string_sets.proofs.combine.symmetric_difference.Goals as goal
+
+pub returns : goal.returns
+returns c = subst (λ (map : Strings). IsMade c.args.limit map c.combined.result) (kept_symmetric c.args.one.now.map c.args.other.now.map) c.combined.ensures

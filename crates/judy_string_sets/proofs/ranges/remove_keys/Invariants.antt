@@ -1,0 +1,15 @@
+use Rattle.std.proofs.Common.{◌≡◌, ◌+◌}
+use Rattle.std.specs.FinMap.{len}
+use Rattle.judy_string_sets.specs.Ends.{reaches, part, others}
+use Rattle.judy_string_sets.proofs.ranges.remove_keys.Given as goal
+
+-- so many keys of the range were taken out, and the others stay
+abbrev pub invariant-keys : goal.invariant-keys
+invariant-keys l = record {
+  limit : l.array.limit ≡ l.fn.array.limit;
+  left : others l.array.map l.from (reaches l.end l.bytes) ≡ others l.fn.array.map l.from (reaches l.end l.bytes);
+  counted : l.count + len (part l.array.map l.from (reaches l.end l.bytes)) ≡ len (part l.fn.array.map l.from (reaches l.end l.bytes));
+}
+
+abbrev pub decreases-keys : goal.decreases-keys
+decreases-keys l = len l.array.map

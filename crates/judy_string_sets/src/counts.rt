@@ -1,0 +1,89 @@
+//! How many keys two arrays have together.
+
+ghost use Rattle.std.specs.Prelude.{◌≡◌, min};
+ghost use Rattle.std.specs.FinMap as map;
+ghost use Rattle.judy_model.specs.TwoMaps as two;
+ghost use Rattle.judy_string_sets.specs.Walks.{picked, rest_of, kept};
+
+use crate::keys::{Keys, next_of};
+use crate::which::Which;
+use judy_sl::JudySl;
+
+/// How many keys both arrays have. The array that has fewer is gone through once, and each of its keys is looked up in
+/// the other.
+///
+/// Of the keys `a`, `b` and `c` the keys `b`, `c` and `d` have two.
+pub fn common_count(one: &JudySl, other: &JudySl) -> u64
+    ensures { result ≡ map.len (two.intersection one.now.map other.now.map) }
+{
+    if one.len() <= other.len() {
+        count_in(one, other)
+    } else {
+        count_in(other, one)
+    }
+}
+
+// How many keys of the one the other has.
+fn count_in(one: &JudySl, other: &JudySl) -> u64
+    ensures { result ≡ map.len (two.intersection one.now.map other.now.map) }
+{
+    let _most = one.len();
+    let mut keys = Keys::of(one);
+    let mut count = 0;
+    'keys: while let Some(_value) = next_of(&mut keys, Which::Common, other) {
+        count += 1;
+    }
+    count
+}
+
+/// How many keys of the one array the other lacks.
+pub fn difference_count(one: &JudySl, other: &JudySl) -> u64
+    ensures { result ≡ map.len (two.difference one.now.map other.now.map) }
+{
+    one.len() - common_count(one, other)
+}
+
+/// How many keys the one or the other has: 2^64 - 1 at most.
+pub fn union_count(one: &JudySl, other: &JudySl) -> u64
+    ensures { result ≡ min (map.len (two.union one.now.map other.now.map)) u64.MAX }
+{
+    one.len().saturating_add(difference_count(other, one))
+}
+
+/// How many keys exactly one of them has: 2^64 - 1 at most.
+pub fn symmetric_difference_count(one: &JudySl, other: &JudySl) -> u64
+    ensures { result
+        ≡ min (map.len (two.symmetric_difference one.now.map other.now.map)) u64.MAX }
+{
+    let common = common_count(one, other);
+    (one.len() - common).saturating_add(other.len() - common)
+}
+
+// How many keys of the one are meant.
+fn picked_count(which: Which, one: &JudySl, other: &JudySl) -> u64
+    ensures { result ≡ map.len (picked which one.now.map other.now.map) }
+{
+    match which {
+        Which::All => one.len(),
+        Which::Common => common_count(one, other),
+        Which::Alone => difference_count(one, other),
+    }
+}
+
+// How many keys the other has alone, where these are wanted.
+fn rest_count(rest: bool, one: &JudySl, other: &JudySl) -> u64
+    ensures { result ≡ map.len (rest_of rest one.now.map other.now.map) }
+{
+    if rest {
+        difference_count(other, one)
+    } else {
+        0
+    }
+}
+
+// How many both are: 2^64 - 1 at most.
+pub fn kept_count(which: Which, rest: bool, one: &JudySl, other: &JudySl) -> u64
+    ensures { result ≡ min (map.len (kept which rest one.now.map other.now.map)) u64.MAX }
+{
+    picked_count(which, one, other).saturating_add(rest_count(rest, one, other))
+}
