@@ -28,8 +28,23 @@ pub(crate) const FULL: u32 = 3;
 // The bytes are no key.
 pub(crate) const BAD_KEY: u32 = 4;
 
-// The key found doesn't fit the caller's buffer.
+// The key found, or the dump, doesn't fit the caller's buffer.
 pub(crate) const TOO_SMALL: u32 = 5;
+
+// It is done.
+pub(crate) const DONE: u32 = 1;
+
+// The bytes are no name of an array.
+pub(crate) const BAD_NAME: u32 = 6;
+
+// There are more keys than a dump can say.
+pub(crate) const TOO_MANY: u32 = 7;
+
+// The bytes are no dump of one such array.
+pub(crate) const BAD_DUMP: u32 = 8;
+
+// There is no such format.
+pub(crate) const BAD_FORMAT: u32 = 9;
 
 // Why an insert hands out no slot.
 #[derive(Clone, Copy)]

@@ -19,9 +19,9 @@
 //! key_updates.rt those that tell the value that was there, walks.rt and key_walks.rt those that tell many keys at a
 //! time, looks.rt those that look many up, two_words.rt those on two arrays of words, made_of_two.rt those that make an
 //! array of two, word_ranges.rt those on ranges of words and copies, sorted.rt and sorted_strings.rt those that make an
-//! array at once, told.rt how a call answers a word or a slot that may not be there, answers.rt how one answers by a
-//! number, scans.rt the scans over strings, string_counts.rt their counts, and box_parts.rt a box as its pointer. The
-//! crate is a static library, and no other stands on it.
+//! array at once, saved.rt those that dump and load one, told.rt how a call answers a word or a slot that may not be
+//! there, answers.rt how one answers by a number, scans.rt the scans over strings, string_counts.rt their counts, and
+//! box_parts.rt a box as its pointer. The crate is a static library, and no other stands on it.
 #![tactic(auto)]
 
 mod answers;
@@ -42,6 +42,7 @@ mod looks;
 mod made_of_two;
 mod map;
 mod nearest_slots;
+mod saved;
 mod scans;
 mod set;
 mod sorted;
