@@ -1,5 +1,5 @@
 -- What a dump and a load of an array are refused for.
-use Rattle.std.proofs.Common.{◌≡◌, ℕ, Bool, true, false, List, [], Option, Some, None, refl, sym, append-nil}
+use Rattle.std.proofs.Common.{◌≡◌, ℕ, Bool, true, false, List, [], Some, None, refl, sym, append-nil}
 use Rattle.std.specs.Prelude.{if◌then◌else◌}
 use Rattle.judy_model.specs.Arrays.{ArrayValue}
 use Rattle.judy_model.specs.Tokens.{is_name, name_of}

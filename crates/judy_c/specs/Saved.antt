@@ -1,5 +1,5 @@
 -- How the calls of C that dump an array to bytes, and load one of them, answer.
-use Rattle.std.specs.Prelude.{◌≡◌, ◌≢◌, ℕ, zero, suc, ◌<◌, ◌≤◌, Bool, true, false, List, ◌++◌, length, drop, nat_le, if◌then◌else◌, Option, Some, None, Result, Ok, Err}
+use Rattle.std.specs.Prelude.{◌≡◌, ◌≢◌, ℕ, zero, suc, ◌<◌, ◌≤◌, true, false, List, ◌++◌, length, drop, nat_le, if◌then◌else◌, Option, Some, None, Result, Ok, Err}
 use Rattle.judy_model.specs.Keys.{byte_order}
 use Rattle.judy_model.specs.Arrays.{ArrayOf, ArrayValue}
 use Rattle.judy_model.specs.DumpText.{Version, jdy1, jdy2}
