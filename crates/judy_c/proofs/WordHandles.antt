@@ -1,20 +1,20 @@
 -- What a handle of words that holds no array stands for.
-use Rattle.std.proofs.Common.{◌≡◌, ℕ, ◌-◌, ◌==◌, Bool, true, false, cond, [], slice_get, refl, sym, ap, ◌∙◌, Option, None, Some}
+use Rattle.std.proofs.Common.{◌≡◌, ℕ, ◌-◌, ◌≤◌, ◌==◌, Bool, true, false, cond, [], slice_get, refl, sym, ap, ◌∙◌, Option, None, Some, subst, arith}
 use Rattle.std.specs.Prelude.{IsFalse, is_some, unwrap_or}
 use Rattle.std.specs.FinMap as map
-use Rattle.std.specs.FinMap.{get-empty, len-empty, nat_cmp-IsAntisymmetric}
+use Rattle.std.specs.FinMap.{get-empty, len-empty, empty_of_len, nat_cmp-IsAntisymmetric}
 use Rattle.std.proofs.lemmas.List.{nil_from_length}
 use Rattle.std.specs.Cmp.{nat_cmp_total}
 use Rattle.judy_model.specs.Keys.{word_order}
 use Rattle.judy_model.specs.Arrays as array
 use Rattle.judy_model.specs.Counts.{count, by_count}
-use Rattle.judy_model.specs.Ranges.{outside}
+use Rattle.judy_model.specs.Ranges.{within, outside}
 use Rattle.judy_model.specs.Neighbours.{first, next, last, prev, first_of, next_of, last_of, prev_of}
 use Rattle.judy_model.proofs.lemmas.maps.KeysLemmas.{length-keys}
 use Rattle.judy_model.proofs.lemmas.maps.SortedMaps.{remove_absent}
 use Rattle.judy_word.specs.WordArrays as words
 use Rattle.judy_word.specs.WordArrays.{WordArray}
-use Rattle.judy_sets.proofs.RangeFacts.{NoneInside, count-within, within-none, outside-all}
+use Rattle.judy_sets.proofs.RangeFacts.{NoneInside, count-within, within-none, within-most, outside-all}
 use Rattle.judy_c.specs.Maps.{array_of}
 use Rattle.judy_c.specs.NullArrays.{unbounded}
 
@@ -88,3 +88,27 @@ nothing_counted a from to is = sym (count-within from to a.map ∙ within-none f
 
 pub nothing_taken_out : (a : WordArray) (from to : ℕ) → a ≡ unbounded → words.array_of a ≡ array.with_map (words.array_of a) (outside a.map from to)
 nothing_taken_out a from to is = ap (array.with_map (words.array_of a)) (sym (outside-all from to a.map (no_key_inside a from to is)))
+
+-- and none goes where a range is kept
+pub nothing_goes : (a : WordArray) (from to : ℕ) → a ≡ unbounded → 0 ≡ map.len a.map - count a.map from to
+nothing_goes a from to is =
+    let none = ap map.len (no_map a is) ∙ len-empty word_order ℕ in
+    omega (arith, none)
+
+pub nothing_left_out : (a : WordArray) (from to : ℕ) → a ≡ unbounded → words.array_of a ≡ array.with_map (words.array_of a) (within a.map from to)
+nothing_left_out a from to is =
+    let none = ap map.len (no_map a is) ∙ len-empty word_order ℕ in
+    let most = within-most from to a.map in
+    let same : a.map ≡ within a.map from to = no_map a is ∙ sym (empty_of_len (within a.map from to) (omega (arith, none, most))) in
+    ap (array.with_map (words.array_of a)) same
+
+-- it has few keys
+pub nothing_many : (a : WordArray) → a ≡ unbounded → map.len a.map ≤ 18446744073709551615
+nothing_many a is =
+    let none = ap map.len (no_map a is) ∙ len-empty word_order ℕ in
+    omega (arith, none)
+
+-- What a change makes of the empty array it makes of the one for which a null handle stands.
+pub of_null : (change : map.FinMap word_order ℕ → map.FinMap word_order ℕ) (a b made : WordArray) → a ≡ unbounded → b ≡ unbounded
+    → words.array_of made ≡ array.with_map (words.array_of a) (change a.map) → words.array_of made ≡ array.with_map (words.array_of b) (change b.map)
+of_null change a b made one other is = subst (λ (w : WordArray). words.array_of made ≡ array.with_map (words.array_of w) (change w.map)) (one ∙ sym other) is

@@ -57,7 +57,11 @@ pub(crate) fn hand_map(alloc: Global, handle: &mut Map, made: Result<JudyL, Inse
 }
 
 // The set of the keys that the one or the other has.
-fn union_of_sets(alloc: Global, one: &mut Set, other: &mut Set) -> Result<Judy1, InsertError>
+pub(crate) fn union_of_sets(
+    alloc: Global,
+    one: &mut Set,
+    other: &mut Set,
+) -> Result<Judy1, InsertError>
     ensures made { IsMade most_keys (two.union (set_of one.old) (set_of other.old)) result }
     ensures one_stays { one.new ≡ one.old }
     ensures other_stays { other.new ≡ other.old }
@@ -178,7 +182,11 @@ pub extern "C" fn sellumaq_judy1_symmetric_difference(
 }
 
 // The map of the keys that the one or the other has.
-fn union_of_maps(alloc: Global, one: &mut Map, other: &mut Map) -> Result<JudyL, InsertError>
+pub(crate) fn union_of_maps(
+    alloc: Global,
+    one: &mut Map,
+    other: &mut Map,
+) -> Result<JudyL, InsertError>
     ensures made { IsMade most_keys (two.union (map_of one.old) (map_of other.old)) result }
     ensures one_stays { one.new ≡ one.old }
     ensures other_stays { other.new ≡ other.old }
