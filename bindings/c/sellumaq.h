@@ -127,10 +127,6 @@ size_t sellumaq_judy1_walk_down(const sellumaq_judy1 *set, uint64_t from, uint64
  * is no memory for them. */
 uint32_t sellumaq_judy1_from_sorted(sellumaq_judy1 *set, const uint64_t *keys, size_t count, size_t *place);
 
-/* Makes the set one of `count` keys in any order, of which some may be alike, in place of what it held, whose memory is given back: SELLUMAQ_DONE.
- * Else it is as it was: SELLUMAQ_NO_MEMORY. A copy of the keys is sorted, which takes 16 bytes more for each. */
-uint32_t sellumaq_judy1_from_unsorted(sellumaq_judy1 *set, const uint64_t *keys, size_t count);
-
 /* How many keys there are. */
 uint64_t sellumaq_judy1_len(const sellumaq_judy1 *set);
 
@@ -166,8 +162,8 @@ uint32_t sellumaq_judy1_append(sellumaq_judy1 *set, sellumaq_judy1 *other);
 
 /* Puts each word from one to another in, both included, or turns each of them round: one that is a key goes, and one that is none comes. Nothing
  * changes where the first is above the second. SELLUMAQ_DONE. Else the set is as it was: SELLUMAQ_NO_MEMORY, or SELLUMAQ_FULL for all 2^64 words.
- * All nodes are made anew. Words side by side take two bits of memory each, and where a range is so wide that not even one bit for each of its
- * words is to be had, that is told at once. */
+ * All nodes are made anew, in some 20 nanoseconds a word, and take two bits a word. Where three quarters of that aren't to be had in one piece for a
+ * wide range, that is told at once. */
 uint32_t sellumaq_judy1_insert_range(sellumaq_judy1 *set, uint64_t from, uint64_t to);
 uint32_t sellumaq_judy1_flip(sellumaq_judy1 *set, uint64_t from, uint64_t to);
 
@@ -272,10 +268,6 @@ size_t sellumaq_judyl_walk_down(const sellumaq_judyl *map, uint64_t from, sellum
 
 /* Makes the map one of `count` keys that strictly ascend, each with its value, as `sellumaq_judy1_from_sorted` does. */
 uint32_t sellumaq_judyl_from_sorted(sellumaq_judyl *map, const sellumaq_pair *pairs, size_t count, size_t *place);
-
-/* Makes the map one of `count` keys in any order, each with its value, as `sellumaq_judy1_from_unsorted` does. Of pairs with one key the last
- * one's value stays. */
-uint32_t sellumaq_judyl_from_unsorted(sellumaq_judyl *map, const sellumaq_pair *pairs, size_t count);
 
 /* How many keys there are. */
 uint64_t sellumaq_judyl_len(const sellumaq_judyl *map);

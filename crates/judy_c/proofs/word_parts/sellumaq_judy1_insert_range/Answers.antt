@@ -2,6 +2,7 @@ use Rattle.std.proofs.Common.{ℕ, arith}
 use Rattle.std.specs.FinMap.{FinMap}
 use Rattle.judy_model.specs.Keys.{word_order}
 use Rattle.judy_model.specs.Ranges.{filled}
+use Rattle.judy_c.specs.Maps.{array_in_set, array_of}
 use Rattle.judy_c.proofs.CombinedAnswers.{first_changed}
 use Rattle.judy_c.proofs.WordHandles.{of_null}
 use Rattle.judy_c.proofs.word_parts.sellumaq_judy1_insert_range.Goals as goal
@@ -11,6 +12,6 @@ returns-in-Ok c =
     let made = c.insert_range-in-None.new.set in
     let count = c.len.ensures.count in
     let within = c.len.ensures.within in
-    first_changed _ _ _ made _ _
-    (of_null (λ (map : FinMap word_order ℕ). filled map c.args.from c.args.to) c.unbounded-made.result _ made c.unbounded-made.ensures c.in-None.ensures.null c.in-Ok.ensures.filled)
+    first_changed (array_in_set c.args.handle.now) _ _ made _ _
+    (of_null (λ (map : FinMap word_order ℕ). filled map c.args.from c.args.to) c.unbounded-made.result (array_of c.args.handle.now.array) made c.unbounded-made.ensures c.in-None.ensures.null c.in-Ok.ensures.filled)
     (omega (arith, count, within)) c.hand_set.ensures
