@@ -38,11 +38,11 @@ PARTS =
 # Where the library for C is left, and what it is made of besides the compiled text.
 LIB := out/lib
 C_SOURCES := $(wildcard bindings/c/*.h bindings/c/hp/*)
-PYTHON_SOURCES := $(wildcard bindings/python/*.py bindings/python/pyproject.toml bindings/python/src/* bindings/python/sellumaq/*.py* bindings/c/sellumaq.h bindings/c/files.c)
+PYTHON_SOURCES := $(wildcard bindings/python/*.py bindings/python/pyproject.toml bindings/python/src/* bindings/python/sellumaq/*.py* bindings/c/sellumaq.h bindings/c/files.c bindings/c/unsorted.c)
 RUST_FILES := $(patsubst bindings/rust/%,%,$(wildcard bindings/rust/Cargo.toml bindings/rust/README.md bindings/rust/src/*.rs bindings/rust/src/*/*.rs \
 	bindings/rust/sellumaq-sys/Cargo.toml bindings/rust/sellumaq-sys/README.md bindings/rust/sellumaq-sys/build.rs bindings/rust/sellumaq-sys/src/*.rs \
 	bindings/rust/serde/stand-in/Cargo.toml bindings/rust/serde/stand-in/src/*.rs))
-CRATE_TEXTS := compiled/sellumaq.s compiled/system.c bindings/c/files.c bindings/c/sellumaq.h
+CRATE_TEXTS := compiled/sellumaq.s compiled/system.c bindings/c/files.c bindings/c/unsorted.c bindings/c/sellumaq.h
 C_FLAGS = -std=c11 -D_DEFAULT_SOURCE -O2 -Wall -Wextra
 LIBRARIES := $(addprefix $(LIB)/,libsellumaq.a libsellumaq.so libJudy.a libJudy.so)
 
@@ -125,11 +125,11 @@ $(LIB)/calls.o: compiled/sellumaq.s | buildable
 	@mkdir -p $(LIB)
 	@$(CC) -c $< -o $@
 
-$(LIB)/sellumaq.o: $(LIB)/calls.o compiled/system.c bindings/c/about.c bindings/c/files.c bindings/c/sellumaq.h
-	@for part in compiled/system bindings/c/about bindings/c/files; do \
+$(LIB)/sellumaq.o: $(LIB)/calls.o compiled/system.c bindings/c/about.c bindings/c/files.c bindings/c/unsorted.c bindings/c/sellumaq.h
+	@for part in compiled/system bindings/c/about bindings/c/files bindings/c/unsorted; do \
 		$(CC) $(C_FLAGS) -fPIC $(CPPFLAGS) $(CFLAGS) $(JOINED) -c $$part.c -o $(LIB)/$${part##*/}.o || exit 1; \
 	done
-	@$(LD) -r $(LIB)/calls.o $(LIB)/system.o $(LIB)/about.o $(LIB)/files.o -o $@
+	@$(LD) -r $(LIB)/calls.o $(LIB)/system.o $(LIB)/about.o $(LIB)/files.o $(LIB)/unsorted.o -o $@
 	@$(OBJCOPY) --wildcard --keep-global-symbol='sellumaq_*' $@
 
 $(LIB)/judy.o: $(LIB)/calls.o compiled/system.c $(C_SOURCES)

@@ -127,6 +127,11 @@ size_t sellumaq_judy1_walk_down(const sellumaq_judy1 *set, uint64_t from, uint64
  * is no memory for them. */
 uint32_t sellumaq_judy1_from_sorted(sellumaq_judy1 *set, const uint64_t *keys, size_t count, size_t *place);
 
+/* Makes the set one of `count` keys in any order, of which some may be alike, in place of what it held, whose memory is given back: SELLUMAQ_DONE.
+ * Else it is as it was: SELLUMAQ_NO_MEMORY. A copy of the keys is sorted, which takes 32 bytes for each meanwhile. The sorting is not among what is
+ * proved; `sellumaq_judy1_from_sorted`, to which it hands the keys, is. */
+uint32_t sellumaq_judy1_from_unsorted(sellumaq_judy1 *set, const uint64_t *keys, size_t count);
+
 /* How many keys there are. */
 uint64_t sellumaq_judy1_len(const sellumaq_judy1 *set);
 
@@ -268,6 +273,10 @@ size_t sellumaq_judyl_walk_down(const sellumaq_judyl *map, uint64_t from, sellum
 
 /* Makes the map one of `count` keys that strictly ascend, each with its value, as `sellumaq_judy1_from_sorted` does. */
 uint32_t sellumaq_judyl_from_sorted(sellumaq_judyl *map, const sellumaq_pair *pairs, size_t count, size_t *place);
+
+/* Makes the map one of `count` keys in any order, each with its value, as `sellumaq_judy1_from_unsorted` does. Of pairs with one key the last
+ * one's value stays. */
+uint32_t sellumaq_judyl_from_unsorted(sellumaq_judyl *map, const sellumaq_pair *pairs, size_t count);
 
 /* How many keys there are. */
 uint64_t sellumaq_judyl_len(const sellumaq_judyl *map);

@@ -29,9 +29,9 @@ class Unbuilt(Exception):
 
 
 def find_text():
-    """The files of the library: of its compiled text the assembly, and in C what that asks of the system; and what saves arrays."""
+    """The files of the library: of its compiled text the assembly, and in C what that asks of the system, what saves arrays, and what sorts lists."""
     for folder, beside in (("compiled", "compiled"), ("../../compiled", "../c")):
-        files = [os.path.join(HERE, path) for path in (f"{folder}/sellumaq.s", f"{folder}/system.c", f"{beside}/files.c")]
+        files = [os.path.join(HERE, path) for path in (f"{folder}/sellumaq.s", f"{folder}/system.c", f"{beside}/files.c", f"{beside}/unsorted.c")]
         if all(map(os.path.exists, files)):
             return files
     raise Unbuilt("the library's compiled text, compiled/sellumaq.s, isn't here")

@@ -1,5 +1,5 @@
-//! Builds libsellumaq from its compiled text, `compiled/sellumaq.s` and `compiled/system.c`, and from `files.c`, which saves arrays,
-//! and links it statically. A C compiler and binutils are all that it needs.
+//! Builds libsellumaq from its compiled text, `compiled/sellumaq.s` and `compiled/system.c`, and from `files.c`, which saves arrays, and `unsorted.c`,
+//! which sorts lists, and links it statically. A C compiler and binutils are all that it needs.
 //!
 //! What it reads of the environment:
 //!
@@ -83,14 +83,19 @@ fn build(folder: &str) -> Done<()> {
     drop(fs::remove_file(Path::new(folder).join("libsellumaq.a")));
     refuse_other_targets()?;
     let (calls, system) = (text("sellumaq.s")?, text("system.c")?);
-    let (files, _) = (text("files.c")?, text("sellumaq.h")?);
+    let (files, unsorted, _) = (text("files.c")?, text("unsorted.c")?, text("sellumaq.h")?);
     let run = |tool: &Tool, arguments: &[&str]| tool.run(folder, arguments);
     let c = Tool::find("CC", "cc", "C compiler");
     run(&c, &["-c", &calls, "-o", "calls.o"])?;
-    run(&c, &["-O2", "-fPIC", "-c", &system, "-o", "system.o"])?;
-    run(&c, &["-O2", "-fPIC", "-c", &files, "-o", "files.o"])?;
+    for (source, object) in [
+        (&system, "system.o"),
+        (&files, "files.o"),
+        (&unsorted, "unsorted.o"),
+    ] {
+        run(&c, &["-O2", "-fPIC", "-c", source, "-o", object])?;
+    }
     let ld = Tool::find("LD", "ld", "linker");
-    let objects = ["calls.o", "system.o", "files.o"];
+    let objects = ["calls.o", "system.o", "files.o", "unsorted.o"];
     run(&ld, &[&["-r", "-o", "sellumaq.o"], &objects[..]].concat())?;
     let objcopy = Tool::find("OBJCOPY", "objcopy", "program that hides names");
     let kept = "--keep-global-symbol=sellumaq_*";
