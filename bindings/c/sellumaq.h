@@ -6,7 +6,7 @@
  *
  * An array is one word, the handle. A handle of zeros is the empty array, so `sellumaq_judyl map = {0};` is all that making one
  * takes; `sellumaq_judyl_free` gives all its memory back, and leaves the empty array. Each call is proved to answer as a plain
- * finite set or map does (see the project's README). What the proof asks of the caller, and no compiler checks:
+ * finite set or map does, but where its comment says otherwise (see the project's README). What the proof asks of the caller, and no compiler checks:
  *
  *   - One call at a time is made on an array; what threads may do besides is told below.
  *   - A copy of a handle's word is the same array, so after a change of the one the other must not be used.
