@@ -10,11 +10,13 @@ ghost use Rattle.judy_c.specs.Told.{IsTold};
 use crate::handles::Handle;
 use crate::strings::Strings;
 use judy_string_sets::longest_prefix;
+use std::alloc::Global;
 
 /// The longest key that bytes begin with: how many of the bytes it is, and its value. The bytes are any, and any number
 /// of them. It asks for no memory.
 #[unsafe(no_mangle)]
 pub extern "C" fn sellumaq_judysl_longest_prefix(
+    alloc: Global,
     handle: &mut Strings,
     bytes: &[u8],
     prefix: &mut usize,
@@ -28,15 +30,12 @@ pub extern "C" fn sellumaq_judysl_longest_prefix(
         result value.old value.new }
     ensures same { handle.new ≡ handle.old }
 {
-    match handle.array() {
-        Some(array) => match longest_prefix(array, bytes) {
-            Some((count, held)) => {
-                *prefix = count;
-                *value = held;
-                true
-            }
-            None => false,
-        },
+    match handle.ask(alloc, |array| longest_prefix(array, bytes)) {
+        Some((count, held)) => {
+            *prefix = count;
+            *value = held;
+            true
+        }
         None => false,
     }
 }
