@@ -20,3 +20,4 @@ pub mod Storing
 pub mod FirstKeys
 pub mod SortedStrings
 pub mod CombinedAnswers
+pub mod CombinedStringAnswers

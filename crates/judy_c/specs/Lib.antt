@@ -24,3 +24,4 @@ pub mod KeyWalks
 pub mod Looks
 pub mod SortedStrings
 pub mod Combined
+pub mod CombinedStrings

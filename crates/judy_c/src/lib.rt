@@ -18,10 +18,11 @@
 //! value, nearest_slots.rt and string_slots.rt those that hand out the slot of a key that they find, exchanges.rt and
 //! key_updates.rt those that tell the value that was there, walks.rt and key_walks.rt those that tell many keys at a
 //! time, looks.rt those that look many up, two_words.rt those on two arrays of words, made_of_two.rt those that make an
-//! array of two, word_ranges.rt those on ranges of words and copies, sorted.rt and sorted_strings.rt those that make an
-//! array at once, told.rt how a call answers a word or a slot that may not be there, answers.rt how one answers by a
-//! number, scans.rt the scans over strings, string_counts.rt their counts, and box_parts.rt a box as its pointer. The
-//! crate is a static library, and no other stands on it.
+//! array of two, word_ranges.rt those on ranges of words and copies, string_sets.rt and made_of_strings.rt all that of
+//! strings, sorted.rt and sorted_strings.rt those that make an array at once, told.rt how a call answers a word or a
+//! slot that may not be there, answers.rt how one answers by a number, scans.rt the scans over strings,
+//! string_counts.rt their counts, and box_parts.rt a box as its pointer. The crate is a static library, and no other
+//! stands on it.
 #![tactic(auto)]
 
 mod answers;
@@ -39,6 +40,7 @@ mod judysl;
 mod key_updates;
 mod key_walks;
 mod looks;
+mod made_of_strings;
 mod made_of_two;
 mod map;
 mod nearest_slots;
@@ -47,6 +49,7 @@ mod set;
 mod sorted;
 mod sorted_strings;
 mod string_counts;
+mod string_sets;
 mod string_slots;
 mod strings;
 mod told;

@@ -17,26 +17,33 @@ use judy_sets::{
 use judy_word::{Judy1, JudyL};
 use std::alloc::Global;
 
-// What is answered of the arrays of two handles, or of the one without keys where a handle is null.
+// What is answered of the arrays of two handles, or of the one without keys where a handle is null: that of a kind of
+// words, or the one that is told.
 macro_rules! of_both {
     (
         $one:ident, $other:ident, $alloc:ident, $kind:ident,
         $left:ident, $right:ident => $answer:expr
     ) => {
+        of_both!($one, $other, $kind::unbounded($alloc); $left, $right => $answer)
+    };
+    (
+        $one:ident, $other:ident, $none:expr;
+        $left:ident, $right:ident => $answer:expr
+    ) => {
         match ($one.array(), $other.array()) {
             (Some($left), Some($right)) => $answer,
             (Some($left), None) => {
-                let empty = $kind::unbounded($alloc);
+                let empty = $none;
                 let $right = &empty;
                 $answer
             }
             (None, Some($right)) => {
-                let empty = $kind::unbounded($alloc);
+                let empty = $none;
                 let $left = &empty;
                 $answer
             }
             (None, None) => {
-                let empty = $kind::unbounded($alloc);
+                let empty = $none;
                 let ($left, $right) = (&empty, &empty);
                 $answer
             }
