@@ -118,9 +118,6 @@ bool sellumaq_judy1_prev_empty(const sellumaq_judy1 *set, uint64_t from, uint64_
  * between the two. A walk of 64 keys a call takes a small part of the time of `next`. */
 size_t sellumaq_judy1_walk(const sellumaq_judy1 *set, uint64_t from, uint64_t *keys, size_t capacity);
 
-/* The keys up to `from`, in descending order, likewise; the next call goes on from below the last key. It is two ways down the set a call. */
-size_t sellumaq_judy1_walk_down(const sellumaq_judy1 *set, uint64_t from, uint64_t *keys, size_t capacity);
-
 /* Makes the set one of `count` keys that strictly ascend, in place of what it held, whose memory is given back: SELLUMAQ_ADDED. It takes a
  * part of the time of as many `set`, and 16 bytes more for each key while it is at work. Else the set is as it was. SELLUMAQ_BAD_KEY: a key
  * isn't above the one before it, and `*place` is the place of the first such key, counted from 0. SELLUMAQ_NO_MEMORY: the keys ascend, and there
@@ -267,9 +264,6 @@ typedef struct { uint64_t key, value; } sellumaq_pair;
 /* The keys from `from` on with their values, by ascending key, as many as the buffer has room for; answers how many these are, as
  * `sellumaq_judy1_walk` does. */
 size_t sellumaq_judyl_walk(const sellumaq_judyl *map, uint64_t from, sellumaq_pair *pairs, size_t capacity);
-
-/* The keys up to `from` with their values, by descending key, as `sellumaq_judy1_walk_down` does. */
-size_t sellumaq_judyl_walk_down(const sellumaq_judyl *map, uint64_t from, sellumaq_pair *pairs, size_t capacity);
 
 /* Makes the map one of `count` keys that strictly ascend, each with its value, as `sellumaq_judy1_from_sorted` does. */
 uint32_t sellumaq_judyl_from_sorted(sellumaq_judyl *map, const sellumaq_pair *pairs, size_t count, size_t *place);
