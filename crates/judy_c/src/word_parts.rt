@@ -1,5 +1,5 @@
-//! The calls of C that copy a range of keys, keep it, split it off, and move all keys of one array into another, and those
-//! that put the words of a range into a set, or turn them round.
+//! The calls of C that copy a range of keys, keep it, split it off, and move all keys of one array into another, and
+//! those that put the words of a range into a set, or turn them round.
 //!
 //! An array that is to become another is replaced at success alone. Two handles of one call are two.
 
@@ -111,7 +111,8 @@ pub extern "C" fn sellumaq_judy1_retain_range(
     from: u64,
     to: u64,
 ) -> u64
-    ensures count { result ≡ map.len (set_of handle.old) - counts.count (set_of handle.old) from to }
+    ensures count { result
+        ≡ map.len (set_of handle.old) - counts.count (set_of handle.old) from to }
     ensures left { array_in_set handle.new
         ≡ array.with_map (array_in_set handle.old) (ranges.within (set_of handle.old) from to) }
 {
@@ -207,7 +208,8 @@ pub extern "C" fn sellumaq_judyl_retain_range(
     from: u64,
     to: u64,
 ) -> u64
-    ensures count { result ≡ map.len (map_of handle.old) - counts.count (map_of handle.old) from to }
+    ensures count { result
+        ≡ map.len (map_of handle.old) - counts.count (map_of handle.old) from to }
     ensures left { array_in_map handle.new
         ≡ array.with_map (array_in_map handle.old) (ranges.within (map_of handle.old) from to) }
 {

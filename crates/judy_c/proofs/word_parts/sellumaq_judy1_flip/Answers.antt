@@ -13,5 +13,6 @@ returns-in-Ok c =
     let count = c.len.ensures.count in
     let within = c.len.ensures.within in
     first_changed (array_in_set c.args.handle.now) _ _ made _ _
-    (of_null (λ (map : FinMap word_order ℕ). flipped map c.args.from c.args.to) c.unbounded-made.result (array_of c.args.handle.now.array) made c.unbounded-made.ensures c.in-None.ensures.null c.in-Ok.ensures.flipped)
+    (of_null (λ (map : FinMap word_order ℕ). flipped map c.args.from c.args.to) c.unbounded-made.result (array_of c.args.handle.now.array)
+    made c.unbounded-made.ensures c.in-None.ensures.null c.in-Ok.ensures.flipped)
     (omega (arith, count, within)) c.hand_set.ensures
