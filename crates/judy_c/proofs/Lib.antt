@@ -21,3 +21,4 @@ pub mod FirstKeys
 pub mod SortedStrings
 pub mod CombinedAnswers
 pub mod CombinedStringAnswers
+pub mod StringRanges
