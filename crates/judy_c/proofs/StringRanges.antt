@@ -17,7 +17,8 @@ module _ (array : ArrayOf byte_order) (is : array ≡ empty_array 4294967295) wh
   none_counted from to = sym (sym (count_range array.map from to) ∙ part_none array.map from (λ key. is_le (byte_order key to)) (none_inside from (λ key. is_le (byte_order key to))))
 
   pub none_taken_out : (from to : List ℕ) → array ≡ with_map array (outside array.map from to)
-  none_taken_out from to = ap (with_map array) (sym (sym (outside_range array.map from to) ∙ others_all array.map from (λ key. is_le (byte_order key to)) (none_inside from (λ key. is_le (byte_order key to)))))
+  none_taken_out from to = ap (with_map array) (sym (sym (outside_range array.map from to)
+      ∙ others_all array.map from (λ key. is_le (byte_order key to)) (none_inside from (λ key. is_le (byte_order key to)))))
 
   pub none_begins : (prefix : List ℕ) → 0 ≡ len (beginning_with array.map prefix)
   none_begins prefix = sym (sym (ap len (part_prefix array.map prefix)) ∙ part_none array.map prefix (begins_with prefix) (none_inside prefix (begins_with prefix)))
