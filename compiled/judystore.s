@@ -1,6 +1,6 @@
 # The program judystore as x86-64 assembly, for GNU as and clang, made by tools/compiled of what is proved.
 # Change crates/ and run `make compiled`, not this file. compiled/README.md tells what it is and how to check it.
-# sources: 43f85c5dd971d7d2169c5467784bc7205fafc247a07e3340b949cf68b0f7c736
+# sources: 2d8fdca0f08a9c3dea9d77342c1f265aa1317bc227b9e0cee7c0217490733a12
 # kit: rattle-kit-13b logic dac8208d650f15bf
 	.section	.text.main.gnxnah,"ax",@progbits
 	.p2align	4
