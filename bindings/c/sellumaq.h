@@ -520,7 +520,7 @@ enum {
     SELLUMAQ_DUMP_BAD_MAGIC = 2,   /* they don't begin with JDY1 or JDY2 */
     SELLUMAQ_DUMP_TOO_MANY = 3,    /* there are more arrays than 64 */
     SELLUMAQ_DUMP_BAD_NAME = 4,    /* the name of an array isn't one */
-    SELLUMAQ_DUMP_SAME_NAME = 5,   /* two arrays have one name */
+    SELLUMAQ_DUMP_SAME_NAME = 5,   /* two arrays have one name; of one array it is NOT_ONE that comes */
     SELLUMAQ_DUMP_BAD_KIND = 6,    /* the kind of an array is unknown */
     SELLUMAQ_DUMP_BAD_LIMIT = 7,   /* the limit of an array is 0, or above 4,294,967,295 */
     SELLUMAQ_DUMP_BAD_COUNT = 8,   /* an array has more keys than its limit */

@@ -151,7 +151,7 @@ class Bytes(InARoom):
             (b"JDY3", "bad-magic"),
             (b"JDY2\0\0\0A", "too-many"),
             (b"JDY2\0\0\0\1!", "bad-name"),
-            (two % b"a", "same-name"),
+            (two % b"a", "not-one"),  # the number of arrays stands before their names
             (one + b"\5", "bad-kind"),
             (one + b"\1" + bytes(8), "bad-limit"),
             (one + b"\1" + limit + big(LIMIT + 1, 8), "bad-count"),
@@ -163,8 +163,10 @@ class Bytes(InARoom):
             (two % b"b", "not-one"),
             (one + b"\1" + limit + limit + bytes(8), "truncated"),  # for a number like this no memory is taken
         ):
+            # what stands behind the kind, the byte 10, is read of an array of that kind alone
+            numbers = [told[10]] if told[4:10] == one[4:] and told[10] in NUMBERS.values() else NUMBERS.values()
             for kind in NUMBERS:
-                self.refused(filled(kind, 5), told, fault)
+                self.refused(filled(kind, 5), told, fault if NUMBERS[kind] in numbers else "other-kind")
         for kind in NUMBERS:
             for other in NUMBERS:
                 if NUMBERS[kind] != NUMBERS[other]:

@@ -31,7 +31,7 @@ pub enum LoadFault {
     TooMany,
     /// The name of an array isn't one.
     BadName,
-    /// Two arrays have one name.
+    /// Two arrays have one name. Of a load of one array `NotOne` comes before it.
     SameName,
     /// The kind of an array is unknown.
     BadKind,

@@ -74,9 +74,6 @@ pub const SELLUMAQ_ADDED: u32 = 1;
 /// The key is absent, there is no memory for it, and nothing changed; of `from_sorted`: none for the keys.
 pub const SELLUMAQ_NO_MEMORY: u32 = 2;
 
-/// Of `copy_range`, `split_off`, `append`, `insert_range` and `flip`: it is done.
-pub const SELLUMAQ_DONE: u32 = 1;
-
 /// There is no such key.
 pub const SELLUMAQ_NONE: u32 = 0;
 /// The key is there, and what was asked of it is told.
@@ -88,7 +85,7 @@ pub const SELLUMAQ_BAD_KEY: u32 = 4;
 /// The key found doesn't fit the caller's buffer.
 pub const SELLUMAQ_TOO_SMALL: u32 = 5;
 
-/// Of `dump`, `load`, `save` and `open`: it is done.
+/// Of `copy_range`, `split_off`, `append`, `insert_range`, `flip`, `dump`, `load`, `save` and `open`: it is done.
 pub const SELLUMAQ_DONE: u32 = 1;
 /// Of `dump`: the name isn't 1 to 32 ASCII letters, digits, `_` and `-`.
 pub const SELLUMAQ_BAD_NAME: u32 = 6;
