@@ -257,7 +257,7 @@ class Strings(unittest.TestCase):
 
 
 # Refuses this thread's calls for memory, from the n-th on, or none for 0, and answers how many it refused; there where tests/refuse_alloc.c
-# is preloaded, as `make bindings-test` does.
+# is preloaded, as `make check` does.
 refuse_from = getattr(ctypes.CDLL(None), "refuse_from", None)
 
 

@@ -1,5 +1,5 @@
 //! Inserts that are refused for want of memory: each says so and leaves the array as it was. Memory is refused by tests/refuse_alloc.c where
-//! that is preloaded, as `make bindings-test` does; where it isn't, nothing is tried.
+//! that is preloaded, as `make check` does; where it isn't, nothing is tried.
 use sellumaq::judyl::Entry;
 use sellumaq::{DumpFault, InsertError, Judy1, JudyHs, JudyL, JudySl, LoadFault, NoMemory};
 use std::collections::{BTreeMap, BTreeSet};
