@@ -8,7 +8,6 @@
 #include <stdio.h>
 #include <stdlib.h>
 #include <string.h>
-#include <sys/mman.h>
 #include <sys/stat.h>
 #include <unistd.h>
 
@@ -141,40 +140,33 @@ static uint32_t save(Dump *dump, const void *array, const char *path) {
 
 /* ---- in ---- */
 
-/* The bytes of a file. */
+/* The bytes of a file, and for how many there is room. */
 typedef struct {
     uint8_t *at;
-    size_t count;
-    bool is_mapped;
+    size_t count, room;
 } Bytes;
 
-/* Maps a file; false where it is none that can be, or has no bytes: some of the system's say so and have some. */
-static bool map(int file, Bytes *bytes) {
+/* How many bytes are looked for first: all of a file, and one behind its end; of what tells no size, such as a pipe, a piece. */
+static size_t first_room(int file) {
     struct stat told;
-    if (fstat(file, &told) != 0 || !S_ISREG(told.st_mode) || told.st_size <= 0) return false;
-    void *at = mmap(NULL, (size_t)told.st_size, PROT_READ, MAP_PRIVATE, file, 0);
-    if (at == MAP_FAILED) return false;
-    *bytes = (Bytes){at, (size_t)told.st_size, true};
+    bool is_sized = fstat(file, &told) == 0 && S_ISREG(told.st_mode) && told.st_size > 0;
+    return is_sized ? (size_t)told.st_size + 1 : 65536;
+}
+
+static bool make_room(Bytes *bytes, size_t room) {
+    uint8_t *more = realloc(bytes->at, room);
+    if (!more) return false;
+    bytes->at = more;
+    bytes->room = room;
     return true;
 }
 
-static void give_back(Bytes *bytes) {
-    int error = errno;
-    if (bytes->is_mapped) munmap(bytes->at, bytes->count);
-    else free(bytes->at);
-    errno = error;
-}
-
-/* Reads up to the end, into memory that doubles. */
+/* Reads up to the end. The bytes are a copy, so that nobody who writes to the file, or cuts it, changes them under a load. */
 static bool read_all(int file, Bytes *bytes) {
-    for (size_t room = 0;;) {
-        if (bytes->count == room) {
-            room = room ? 2 * room : 65536;
-            uint8_t *more = realloc(bytes->at, room);
-            if (!more) return false;
-            bytes->at = more;
-        }
-        ssize_t got = read(file, bytes->at + bytes->count, room - bytes->count);
+    if (!make_room(bytes, first_room(file))) return false;
+    for (;;) {
+        if (bytes->count == bytes->room && !make_room(bytes, 2 * bytes->room)) return false;
+        ssize_t got = read(file, bytes->at + bytes->count, bytes->room - bytes->count);
         if (got == 0) return true;
         if (got < 0 && errno != EINTR) return false;
         bytes->count += got < 0 ? 0 : (size_t)got;
@@ -187,12 +179,14 @@ static uint32_t open_array(Load *load, void *array, const char *path, uint32_t *
     do file = open(path, O_RDONLY | O_CLOEXEC);
     while (file < 0 && errno == EINTR);
     if (file < 0) return why();
-    bool is_read = map(file, &bytes) || read_all(file, &bytes);
+    bool is_read = read_all(file, &bytes);
     error = errno;
     close(file);
     errno = error;
     uint32_t told = is_read ? load(array, bytes.at, bytes.count, fault) : why();
-    give_back(&bytes);
+    error = errno;
+    free(bytes.at);
+    errno = error;
     return told;
 }
 

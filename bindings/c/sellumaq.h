@@ -580,8 +580,8 @@ uint32_t sellumaq_judysl_save(const sellumaq_judysl *map, const char *path);
 uint32_t sellumaq_judyhs_save(const sellumaq_judyhs *map, const char *path);
 
 /* Makes the array that of a file, of either format, in place of what it held, and answers as `load` does, or SELLUMAQ_SYSTEM: a call of the
- * system failed, errno says why, and the array is as it was. The file is mapped, not copied, so nobody may write to it meanwhile; a save doesn't.
- * What can't be mapped, such as a pipe, is read up to its end. */
+ * system failed, errno says why, and the array is as it was. The file is read into memory first, so a writer can spoil the load and nothing else.
+ * Whoever has no room for it maps the file and calls `load`, and lets nobody write to it meanwhile. */
 uint32_t sellumaq_judy1_open(sellumaq_judy1 *set, const char *path, uint32_t *fault);
 uint32_t sellumaq_judyl_open(sellumaq_judyl *map, const char *path, uint32_t *fault);
 uint32_t sellumaq_judysl_open(sellumaq_judysl *map, const char *path, uint32_t *fault);

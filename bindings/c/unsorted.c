@@ -55,7 +55,7 @@ static uint64_t *copied(const void *list, size_t count, size_t words) {
     size_t size = words * sizeof(uint64_t);
     if (count > (size_t)-1 / 2 / size) return NULL;
     uint64_t *copy = malloc(count ? 2 * count * size : 1);
-    if (copy) memcpy(copy, list, count * size);
+    if (copy && count) memcpy(copy, list, count * size);
     return copy;
 }
 

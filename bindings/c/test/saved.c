@@ -5,6 +5,7 @@
 #include <signal.h>
 #include <sys/resource.h>
 #include <sys/stat.h>
+#include <sys/wait.h>
 #include <unistd.h>
 
 #include "kinds.h"
@@ -312,6 +313,29 @@ static void opened_files(const kind *kind) {
     kind->free(&other);
 }
 
+/* A file that another process cuts and writes while it is loaded spoils the load at most: it is refused, or what was read is an array. */
+static void cut_files(const kind *kind) {
+    handle array = filled(kind, 20000), other = { NULL };
+    text whole = dumped(kind, &array, 2);
+    write_file("file", whole.bytes, whole.size);
+    pid_t reader = getpid(), writer = fork();
+    while (writer == 0 && getppid() == reader) {
+        write_file("file", whole.bytes, whole.size / 2);
+        write_file("file", whole.bytes, whole.size);
+    }
+    if (writer == 0) _exit(0);
+    for (int turn = 0; writer > 0 && turn < 200; turn++) {
+        uint32_t fault = UNWRITTEN, told = kind->open(&other, "file", &fault);
+        CHECK(told == SELLUMAQ_DONE ? fault == UNWRITTEN : told == SELLUMAQ_BAD_DUMP && fault != UNWRITTEN);
+    }
+    int status = 0;
+    CHECK(writer > 0 && kill(writer, SIGKILL) == 0 && waitpid(writer, &status, 0) == writer && WIFSIGNALED(status) && WTERMSIG(status) == SIGKILL);
+    CHECK(unlink("file") == 0);
+    free(whole.bytes);
+    kind->free(&array);
+    kind->free(&other);
+}
+
 /* ---- for judystore ---- */
 
 static void leave(const char *folder) {
@@ -349,6 +373,7 @@ int main(int count, char **words) {
         faults_told(&kinds[at]);
         saved_files(&kinds[at]);
         full_disk(&kinds[at]);
+        cut_files(&kinds[at]);
         opened_files(&kinds[at]);
     }
     CHECK(chdir("/") == 0 && rmdir(folder) == 0); /* nothing was left beside */

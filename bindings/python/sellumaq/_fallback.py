@@ -261,7 +261,7 @@ class _Array:
             raise _refused(told, path=path)
 
     def load(self, path, /):
-        """Replaces what the array holds by that of a file, as `frombytes` does. Nobody may write to the file meanwhile; `save` doesn't."""
+        """Replaces what the array holds by that of a file, as `frombytes` does."""
         path = os.fspath(path)
         self._load("open", _path(path), path=path)
 

@@ -139,7 +139,7 @@ bool open_array(const SavedCalls *calls, PyObject *path, Handle *made);
                 "FileNotFoundError: [Errno 2] No such file or directory: '/nowhere/array'")}, \
     {"load", type##_load, METH_O, \
      DOC("load($self, path, /)", \
-         "Replaces what the array holds by that of a file, as `frombytes` does. Nobody may write to the file meanwhile; `save` doesn't.", \
+         "Replaces what the array holds by that of a file, as `frombytes` does.", \
          sample ">>> " array ".load('/dev/null')\nTraceback (most recent call last):\nValueError: truncated: the bytes end within the dump")}
 
 /* word_cursor.c and string_cursor.c */

@@ -371,8 +371,7 @@ macro_rules! saved {
                 }
             }
 
-            /// The array that was saved to a file, by any of the languages or by judystore. The file is mapped, so nobody may write to it
-            /// meanwhile; a save doesn't, since it leaves a new file.
+            /// The array that was saved to a file, by any of the languages or by judystore. The file is read into memory first.
             ///
             /// # Errors
             ///
