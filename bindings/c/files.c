@@ -1,5 +1,6 @@
-/* One array in a file of its own: saved, opened again, and why a file is none as text. No proof reads this; the bytes of a file are what the proved
- * `dump` writes and `load` reads. Rust's crate and Python's extension take it in too. */
+/* One array in a file of its own: saved, opened again, and why a file is none as text. No proof reads this; the
+ * bytes of a file are what the proved `dump` writes and `load` reads. Rust's crate and Python's extension take it in
+ * too. */
 #ifndef _DEFAULT_SOURCE
 #define _DEFAULT_SOURCE
 #endif
@@ -25,7 +26,8 @@ static uint32_t why(void) { return errno == ENOMEM ? SELLUMAQ_NO_MEMORY : SELLUM
 
 /* ---- out ---- */
 
-/* A file beside has one of so many names. One that is taken is another thread's, or was left by a process that ended. */
+/* A file beside has one of so many names. One that is taken is another thread's, or was left by a process that
+ * ended. */
 enum { TURNS = 1000, NAME_ROOM = 48 };
 
 /* Where a file is to stand. */
@@ -111,7 +113,8 @@ static bool replace(const Place *place, const uint8_t *bytes, size_t count) {
     return false;
 }
 
-/* Puts bytes at a path; false with errno set. A file system that has no such call for folders keeps them in its own way. */
+/* Puts bytes at a path; false with errno set. A file system that has no such call for folders keeps them in its own
+ * way. */
 static bool put(const char *path, const uint8_t *bytes, size_t count) {
     Place place = {.path = follow(path), .folder = -1};
     bool done = place.path && open_folder(&place) >= 0 && read_old(&place) && replace(&place, bytes, count) &&
@@ -146,7 +149,8 @@ typedef struct {
     size_t count, room;
 } Bytes;
 
-/* How many bytes are looked for first: all of a file, and one behind its end; of what tells no size, such as a pipe, a piece. */
+/* How many bytes are looked for first: all of a file, and one behind its end; of what tells no size, such as a pipe,
+ * a piece. */
 static size_t first_room(int file) {
     struct stat told;
     bool is_sized = fstat(file, &told) == 0 && S_ISREG(told.st_mode) && told.st_size > 0;
@@ -161,7 +165,8 @@ static bool make_room(Bytes *bytes, size_t room) {
     return true;
 }
 
-/* Reads up to the end. The bytes are a copy, so that nobody who writes to the file, or cuts it, changes them under a load. */
+/* Reads up to the end. The bytes are a copy, so that nobody who writes to the file, or cuts it, changes them under a
+ * load. */
 static bool read_all(int file, Bytes *bytes) {
     if (!make_room(bytes, first_room(file))) return false;
     for (;;) {

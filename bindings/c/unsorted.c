@@ -1,4 +1,5 @@
-/* Arrays of words made of lists in any order: sorted here, and made by the proved `from_sorted`. No proof reads this. */
+/* Arrays of words made of lists in any order: sorted here, and made by the proved `from_sorted`. No proof reads
+ * this. */
 #include <stdlib.h>
 #include <string.h>
 
@@ -32,7 +33,8 @@ static void order_by(const Items *items, uint64_t *to, int shift) {
     }
 }
 
-/* Sorts items byte by byte from the lowest on, and leaves of those with one key the last. There is room for as many behind them. */
+/* Sorts items byte by byte from the lowest on, and leaves of those with one key the last. There is room for as many
+ * behind them. */
 static void sort(Items *items) {
     uint64_t *spare = items->at + items->count * items->words, bits = differing(items);
     for (int shift = 0; shift < 64; shift += 8) {

@@ -1,14 +1,16 @@
-/* HP's names for Judy arrays, over Sellumaq: what the manual pages Judy1(3), JudyL(3), JudySL(3) and JudyHS(3) say of their functions,
- * so that a program written for libJudy compiles and links unchanged. Its functions are in this project's libJudy.
+/* HP's names for Judy arrays, over Sellumaq: what the manual pages Judy1(3), JudyL(3), JudySL(3) and JudyHS(3) say
+ * of their functions, so that a program written for libJudy compiles and links unchanged. Its functions are in this
+ * project's libJudy.
  *
  * What differs from HP's library:
- *   - A string that is a key has at most 1,024 bytes, and arrays of strings and of byte strings hold at most 4,294,967,295 keys. An
- *     insert beyond either is refused with JU_ERRNO_FULL. A longer string is found absent, and never deleted; a search may begin at it.
- *   - `MemUsed` and `FreeArray` answer the bytes of the array's blocks as malloc gave them (malloc_usable_size(3)), and `MemActive`
- *     the same as `MemUsed`. Where a program has a malloc of its own without malloc_usable_size, or a JudyMalloc, these are the bytes that
- *     were asked for, and each block takes two words more.
- *   - An array is found corrupt or of another kind by no call, so of the error numbers only those below with a comment come.
- */
+ *   - A string that is a key has at most 1,024 bytes, and arrays of strings and of byte strings hold at most
+ *     4,294,967,295 keys. An insert beyond either is refused with JU_ERRNO_FULL. A longer string is found absent,
+ *     and never deleted; a search may begin at it.
+ *   - `MemUsed` and `FreeArray` answer the bytes of the array's blocks as malloc gave them (malloc_usable_size(3)),
+ *     and `MemActive` the same as `MemUsed`. Where a program has a malloc of its own without malloc_usable_size, or
+ *     a JudyMalloc, these are the bytes that were asked for, and each block takes two words more.
+ *   - An array is found corrupt or of another kind by no call, so of the error numbers only those below with a
+ *     comment come. */
 #ifndef SELLUMAQ_HP_JUDY_H
 #define SELLUMAQ_HP_JUDY_H
 #define _JUDY_INCLUDED
@@ -119,8 +121,9 @@ PPvoid_t JudyHSIns(PPvoid_t array, void *bytes, Word_t length, PJError_t error);
 int JudyHSDel(PPvoid_t array, void *bytes, Word_t length, PJError_t error);
 Word_t JudyHSFreeArray(PPvoid_t array, PJError_t error);
 
-/* All blocks of all arrays are asked for by JudyMalloc, which takes and answers words, 0 where there are none, and given back by
- * JudyFree. A program may define both itself. The other two are here for those that call or define them. */
+/* All blocks of all arrays are asked for by JudyMalloc, which takes and answers words, 0 where there are none, and
+ * given back by JudyFree. A program may define both itself. The other two are here for those that call or define
+ * them. */
 Word_t JudyMalloc(Word_t words);
 Word_t JudyMallocVirtual(Word_t words);
 void JudyFree(Pvoid_t block, Word_t words);
@@ -134,9 +137,9 @@ extern const char *JudyLMallocSizes;
 }
 #endif
 
-/* The short forms: the answer goes into the first word named, and the array is named as the variable that holds it. On an error
- * JUDYERROR is called, which a program may define before it includes this header. With JUDYERROR_NOTEST it isn't called, and the
- * answer tells the error. Each is a block or an expression, as HP's is. */
+/* The short forms: the answer goes into the first word named, and the array is named as the variable that holds it.
+ * On an error JUDYERROR is called, which a program may define before it includes this header. With JUDYERROR_NOTEST
+ * it isn't called, and the answer tells the error. Each is a block or an expression, as HP's is. */
 #ifdef JUDYERROR_NOTEST
 
 #define J_SE(name, number) ((void)0)

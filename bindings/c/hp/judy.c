@@ -33,8 +33,8 @@ static change begin(PPvoid_t array) {
     return (change){sellumaq_hp_begins, sellumaq_hp_balance};
 }
 
-/* Ends it: what the balance has grown by are bytes of the array's, which a change that moves no memory leaves as they were. An array that
- * was made has grown by its own block. */
+/* Ends it: what the balance has grown by are bytes of the array's, which a change that moves no memory leaves as
+ * they were. An array that was made has grown by its own block. */
 static void end(PPvoid_t array, change change) {
     Word_t grown = sellumaq_hp_balance - change.before;
     if (!grown || !*array) return;
@@ -42,7 +42,8 @@ static void end(PPvoid_t array, change change) {
     *bytes = (change.is_new ? 0 : *bytes) + grown;
 }
 
-/* What an array that holds no key is after a change: null, as the manual pages say. And its end as a whole, which answers its bytes. */
+/* What an array that holds no key is after a change: null, as the manual pages say. And its end as a whole, which
+ * answers its bytes. */
 #define ENDS(kind) \
     static void kind##_end(PPvoid_t array, change change) { \
         sellumaq_##kind *held = (sellumaq_##kind *)array; \
@@ -137,8 +138,9 @@ PPvoid_t JudyLGet(Pcvoid_t array, Word_t key, PJError_t error) {
     return sellumaq_judyl_slot(&map, key, &slot) ? (PPvoid_t)slot : NULL;
 }
 
-/* A search for a key that finds none leaves its word where HP's library does: one further on its way, round the ends too;
- * an array of no key leaves it. Programs go on from there. The searches for words that are no keys leave theirs. */
+/* A search for a key that finds none leaves its word where HP's library does: one further on its way, round the ends
+ * too; an array of no key leaves it. Programs go on from there. The searches for words that are no keys leave
+ * theirs. */
 enum { UP = 1, DOWN = -1, STAYS = 0 };
 
 static void pass(Pcvoid_t array, Word_t *word, int step) {
@@ -295,9 +297,9 @@ PPvoid_t JudySLGet(Pcvoid_t array, const uint8_t *string, PJError_t error) {
 
 typedef uint32_t scan(const sellumaq_judysl *map, uint8_t *buffer, size_t capacity, size_t *length, uint64_t **slot);
 
-/* A search from a string, which the string found replaces. How much room the caller has for that isn't told, so it is found in a buffer
- * of this call's. A string that is longer than a key may be is cut: no key lies between it and its longest beginning that is short enough,
- * so that is searched from by another call. */
+/* A search from a string, which the string found replaces. How much room the caller has for that isn't told, so it
+ * is found in a buffer of this call's. A string that is longer than a key may be is cut: no key lies between it and
+ * its longest beginning that is short enough, so that is searched from by another call. */
 static PPvoid_t search(scan *call, scan *cut, Pcvoid_t array, uint8_t *string, PJError_t error) {
     READS(refuse_slot);
     sellumaq_judysl map = {(void *)array};

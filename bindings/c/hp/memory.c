@@ -1,8 +1,9 @@
-/* The three functions by which the proved calls take memory, over JudyMalloc and JudyFree, which a program may replace.
+/* The three functions by which the proved calls take memory, over JudyMalloc and JudyFree, which a program may
+ * replace.
  *
- * The bytes of a block are asked for when it is given back, and the proved calls don't tell them. malloc knows them of its
- * own blocks, and tells them by malloc_usable_size. Where a program has a malloc of its own without that call, or a
- * JudyMalloc, each block begins with a head that says its words. */
+ * The bytes of a block are asked for when it is given back, and the proved calls don't tell them. malloc knows them
+ * of its own blocks, and tells them by malloc_usable_size. Where a program has a malloc of its own without that
+ * call, or a JudyMalloc, each block begins with a head that says its words. */
 #define _GNU_SOURCE
 #include "memory.h"
 
