@@ -27,7 +27,9 @@ def tell(name, holds):
 
 
 def run(command, **how):
-    return subprocess.run(command, stdout=subprocess.PIPE, stderr=subprocess.STDOUT, encoding="utf-8", check=False, **how)
+    return subprocess.run(
+        command, stdout=subprocess.PIPE, stderr=subprocess.STDOUT, encoding="utf-8", check=False, **how
+    )
 
 
 def told(*command, **how):

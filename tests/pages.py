@@ -1,5 +1,5 @@
-"""The programs that README.md, the bindings' pages and those of docs/use show. Each stands once, in examples/: a page names that file, shows its
-text, and then commands with what they print."""
+"""The programs that README.md, the bindings' pages and those of docs/use show. Each stands once, in examples/: a page
+names that file, shows its text, and then commands with what they print."""
 
 import os
 import re
@@ -19,7 +19,10 @@ class Example:
         text, *told = re.sub(r"^    ", "", "".join(blocks), flags=re.MULTILINE).strip("\n").split("\n$ ")
         self.page, self.text = page, text.strip() + "\n"
         self.name = re.search(r"examples/[\w.]+", part)[0]
-        self.commands = [(command, answer and answer.strip("\n") + "\n") for command, _, answer in (each.partition("\n") for each in told)]
+        self.commands = [
+            (command, answer and answer.strip("\n") + "\n")
+            for command, _, answer in (each.partition("\n") for each in told)
+        ]
 
     def is_file(self):
         """Whether the page shows the file as it is."""
@@ -34,5 +37,13 @@ class Example:
     @staticmethod
     def run_one(command, folder, told, change):
         """What a command prints; None where it fails."""
-        ran = subprocess.run(change(command), shell=True, cwd=folder, env=os.environ | told, stdout=subprocess.PIPE, encoding="utf-8", check=False)
+        ran = subprocess.run(
+            change(command),
+            shell=True,
+            cwd=folder,
+            env=os.environ | told,
+            stdout=subprocess.PIPE,
+            encoding="utf-8",
+            check=False,
+        )
         return ran.stdout if ran.returncode == 0 else None

@@ -44,7 +44,8 @@ class Refuser:
         subprocess.run(["cc", "-O1", "-shared", "-fPIC", "-o", self.library, LIBRARY], check=True)
 
     def run(self, words, given=b"", refuse=None):
-        """One run with that standard input: how it ended, and whether each call was made and refused that `refuse` names, as REFUSE does."""
+        """One run with that standard input: how it ended, and whether each call was made and refused that `refuse`
+        names, as REFUSE does."""
         if os.path.exists(self.told):
             os.remove(self.told)
         environment = {"LD_PRELOAD": self.library, "REFUSE": refuse, "REFUSED": self.told} if refuse else {}
@@ -53,8 +54,8 @@ class Refuser:
 
 
 def in_turn(run):
-    """All runs that are refused a call for memory, alone or with all after it, and which call: its number, and the way. `run` makes the
-    one for what REFUSE is to be, and its `refused` says whether that came to pass."""
+    """All runs that are refused a call for memory, alone or with all after it, and which call: its number, and the way.
+    `run` makes the one for what REFUSE is to be, and its `refused` says whether that came to pass."""
     for onward in ("", "+"):
         for call in count(1):
             ran = run(f"{call}{onward}")

@@ -1,8 +1,10 @@
-"""The compiler's assembly text, with names that stay: a change of one function changes the lines of that function alone.
+"""The compiler's assembly text, with names that stay: a change of one function changes the lines of that function
+alone.
 
-The compiler quotes a function's whole path as its name, which some assemblers can't read, and numbers labels, tables and constants through the
-whole module. Here a function is named by the end of its path and a sum of the whole path, which stands above it as a comment. A label
-has the sum of its function and the number that it has in it. A constant has a sum of what it holds."""
+The compiler quotes a function's whole path as its name, which some assemblers can't read, and numbers labels, tables
+and constants through the whole module. Here a function is named by the end of its path and a sum of the whole path,
+which stands above it as a comment. A label has the sum of its function and the number that it has in it. A constant has
+a sum of what it holds."""
 
 import hashlib
 import re
@@ -61,7 +63,9 @@ def symbol_of(path):
 
 def section_of(name):
     """The name of a section that is named by what stands in it."""
-    found = re.fullmatch(r"(\.(?:text|rodata|data\.rel\.ro|bss|data)(?:\.(?:unlikely|hot|startup|cst\d+))*)(?:\.(.+))?", name)
+    found = re.fullmatch(
+        r"(\.(?:text|rodata|data\.rel\.ro|bss|data)(?:\.(?:unlikely|hot|startup|cst\d+))*)(?:\.(.+))?", name
+    )
     if not found or not found[2] or found[2].startswith(".L"):
         return name
     return f"{found[1]}.{symbol_of(found[2])}"
@@ -142,7 +146,10 @@ def named_by_contents(lines):
     def name_of(constant):
         if constant not in names:
             names[constant] = None
-            held = "\n".join(CONSTANT.sub(lambda found: "" if found[0] == constant else name_of(found[0]), line) for line in constants[constant])
+            held = "\n".join(
+                CONSTANT.sub(lambda found: "" if found[0] == constant else name_of(found[0]), line)
+                for line in constants[constant]
+            )
             made = f".Lconst.{sum_of(held)}"
             used[made] = used.get(made, 0) + 1
             names[constant] = made if used[made] == 1 else f"{made}.{used[made]}"
@@ -169,7 +176,8 @@ def parts_of(lines):
 
 
 def with_unwinding(plain, unwound):
-    """The plain text, with the lines that tell how the stack is unwound in each function whose code is the same with them."""
+    """The plain text, with the lines that tell how the stack is unwound in each function whose code is the same with
+    them."""
     # The last of these lines stands behind what ends a function here.
     told = LATE_END.sub(r"\2\1", UNWINDING_PLACE.sub("", unwound))
     both = zip(parts_of(plain.splitlines()), parts_of(told.splitlines()), strict=True)
@@ -182,7 +190,9 @@ def with_lasting_names(text):
     lines = list(named_by_contents(list(named_by_function(list(tables_as_constants(text.splitlines()))))))
     defined = [line for line in lines if re.match(r"[^\s#][^\s]*:$", line)]
     if len(defined) != len(set(defined)):
-        raise Unknown("two things of one name: " + ", ".join(sorted({each for each in defined if defined.count(each) > 1})[:3]))
+        raise Unknown(
+            "two things of one name: " + ", ".join(sorted({each for each in defined if defined.count(each) > 1})[:3])
+        )
     strange = [line for line in lines if not TEXT_LINE.match(line) and re.search(r'"[^"]*(::|<)', line)]
     if strange:
         raise Unknown(f"a quoted name is left: {strange[0].strip()}")

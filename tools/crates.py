@@ -1,5 +1,5 @@
-"""The crates of this repository, as crates.txt tells them: what stands on what, how much each is, and a proof of some of them side by
-side."""
+"""The crates of this repository, as crates.txt tells them: what stands on what, how much each is, and a proof of some
+of them side by side."""
 
 import concurrent.futures
 import importlib.machinery
@@ -70,8 +70,11 @@ def wait_for_room():
 
 
 def load_rt():
-    """The kit's command `rt`, as a module, by which must-fail edits are tried as the kit tries them; its `rtlib` is what it stands on."""
-    kit = os.path.dirname(subprocess.run(["rt", "doc"], stdout=subprocess.PIPE, encoding="utf-8", check=True).stdout.strip())
+    """The kit's command `rt`, as a module, by which must-fail edits are tried as the kit tries them; its `rtlib` is
+    what it stands on."""
+    kit = os.path.dirname(
+        subprocess.run(["rt", "doc"], stdout=subprocess.PIPE, encoding="utf-8", check=True).stdout.strip()
+    )
     loader = importlib.machinery.SourceFileLoader("rt", f"{kit}/bin/rt")
     rt = importlib.util.module_from_spec(importlib.util.spec_from_loader("rt", loader))
     loader.exec_module(rt)
@@ -81,11 +84,12 @@ def load_rt():
 
 
 class Proof:
-    """A proof of some crates and of all that they stand on: as many side by side as may be, those first on which the longest chain of others
-    waits. A library is built as it is proved. It tells each crate that is done, and how much is left.
+    """A proof of some crates and of all that they stand on: as many side by side as may be, those first on which the
+    longest chain of others waits. A library is built as it is proved. It tells each crate that is done, and how much is
+    left.
 
-    One `rt check` keeps every other out of all crates below its own, so crates are proved side by side by the calls that it makes itself. Where
-    it begins with what clones on the machine kept, and keeps for them, so does this."""
+    One `rt check` keeps every other out of all crates below its own, so crates are proved side by side by the calls
+    that it makes itself. Where it begins with what clones on the machine kept, and keeps for them, so does this."""
 
     def __init__(self, goals, jobs):
         stands_on = read_needs()
@@ -127,7 +131,10 @@ class Proof:
         share = 100 * sum(self.lines[each] for each in self.proved) // max(1, sum(self.lines.values()))
         what = f"NOT PROVED: see {LOGS}/{name}.log" if name in self.failed else f"proved, {seconds:.0f} s"
         beside = ", ".join(sorted(name for name, _, _ in self.running.values()))
-        print(f"{len(self.proved):2} of {self.count}, {share:3} %  {name:<15} {what}{beside and '; beside it ' + beside}", flush=True)
+        print(
+            f"{len(self.proved):2} of {self.count}, {share:3} %  {name:<15} {what}{beside and '; beside it ' + beside}",
+            flush=True,
+        )
 
     def go(self):
         """Proves all, or as many as can be before one fails. Answers whether none did."""
@@ -148,7 +155,8 @@ class Proof:
 
 
 def prove(crate, jobs):
-    """Proves a crate over what earlier proofs kept, and builds it where it is a library. The status is 0 where it is proved."""
+    """Proves a crate over what earlier proofs kept, and builds it where it is a library. The status is 0 where it is
+    proved."""
     with open(f"{TOP}/{LOGS}/{crate.name}.log", "w", encoding="utf-8") as crate.out:
         os.makedirs(f"{crate.folder}/out", exist_ok=True)
         flags = ["--jobs", str(jobs)]

@@ -218,7 +218,11 @@ def summary(told):
     table = Table("array", *SUMMARY.values())
     for (array, _), each in told.items():
         std = std_of(array)
-        for library, name in ("sellumaq", KINDS[array]), ("relinked", "by HP's names"), (std, f"Rust's {name_of(array, std)}"):
+        for library, name in (
+            ("sellumaq", KINDS[array]),
+            ("relinked", "by HP's names"),
+            (std, f"Rust's {name_of(array, std)}"),
+        ):
             table.row(name, *(each.mean(library, it) for it in SUMMARY))
     return table.plain()
 
@@ -491,7 +495,9 @@ def rust(told):
         table = tables.setdefault(tuple(of_array), Table("array", "call", *heads))
         for call in told[array, of_array[0][0]].calls():
             goal = RUST_GOAL if call in RUST_WALKS else None
-            table.row(array, call, *(rust_cell(table, told[array, keys], pattern, call, goal) for keys, pattern in of_array))
+            table.row(
+                array, call, *(rust_cell(table, told[array, keys], pattern, call, goal) for keys, pattern in of_array)
+            )
     return "\n\n".join(table.text() for table in tables.values())
 
 

@@ -1,5 +1,5 @@
-"""Object files (ELF for x86-64) as their parts, and where two differ: sections with their bytes, alignment and flags, relocations by what
-they lead to, and the names that are given and asked for."""
+"""Object files (ELF for x86-64) as their parts, and where two differ: sections with their bytes, alignment and flags,
+relocations by what they lead to, and the names that are given and asked for."""
 
 import struct
 
@@ -21,7 +21,8 @@ class Section:
 
 
 class Object:
-    """What an object file has. Names of functions are given as symbols (see `assembly`), so that both spellings are one."""
+    """What an object file has. Names of functions are given as symbols (see `assembly`), so that both spellings are
+    one."""
 
     def __init__(self, data):
         self.data = data
@@ -51,18 +52,23 @@ class Object:
             yield told if is_label(told) else assembly.symbol_of(told), info, visible, section, value, size
 
     def read_relocations(self, head):
-        """Each as its place, its kind, and what it leads to: a place in a section, or a name that another object gives."""
+        """Each as its place, its kind, and what it leads to: a place in a section, or a name that another object gives.
+        """
         for offset, info, addend in struct.iter_unpack("<QQq", self.bytes_of(head)):
             name, _, _, section, value, _ = self.symbols[info >> 32]
             target = (name, addend) if section == UNDEFINED else (self.place.get(section), value + addend)
             yield offset, info & 0xFFFFFFFF, target
 
     def given(self):
-        """The names that it gives, each with its kind, how far it is seen, its place and its size. A label is no name."""
+        """The names that it gives, each with its kind, how far it is seen, its place and its size. A label is no name.
+        """
         told = (each for each in self.symbols if not is_label(each[0]) and each[3] != UNDEFINED)
         named = (each for each in told if each[1] & 15 not in (SECTION_TYPE, FILE_TYPE))
         # A name that stands for a number, and in no section, keeps its own mark of that.
-        return sorted((name, info, visible, self.place.get(section, -section), value, size) for name, info, visible, section, value, size in named)
+        return sorted(
+            (name, info, visible, self.place.get(section, -section), value, size)
+            for name, info, visible, section, value, size in named
+        )
 
     def asked(self):
         """The names that it asks for."""

@@ -27,23 +27,28 @@ def changed(folder, edit):
 
 
 def lines_of(folder, edit):
-    """The lines that an edit changes, as they become, by their file and number. Old and new texts are one line each, so none moves."""
+    """The lines that an edit changes, as they become, by their file and number. Old and new texts are one line each, so
+    none moves."""
     found = {}
     for file, text in changed(folder, edit).items():
         before = (folder / file).read_text(encoding="utf-8").split("\n")
-        found |= {(file, at): new for at, (old, new) in enumerate(zip(before, text.split("\n"), strict=True)) if old != new}
+        found |= {
+            (file, at): new for at, (old, new) in enumerate(zip(before, text.split("\n"), strict=True)) if old != new
+        }
     return found
 
 
 def function_of(sources, folder, edit):
-    """The one function in whose body all that an edit changes stands; none where it changes something else, as a constant or a clause."""
+    """The one function in whose body all that an edit changes stands; none where it changes something else, as a
+    constant or a clause."""
     found = {sources.around(file, at, new) for (file, at), new in lines_of(folder, edit).items()}
     return found.pop() if len(found) == 1 else None
 
 
 def groups_of(sources, folder, edits):
-    """The edits in as few lists as a first fit finds, in each of which no two change the same function, or functions of one cycle of calls: so
-    each is refused or not by itself. One that changes something outside of functions is a list of its own."""
+    """The edits in as few lists as a first fit finds, in each of which no two change the same function, or functions of
+    one cycle of calls: so each is refused or not by itself. One that changes something outside of functions is a list
+    of its own."""
     groups = []
     for edit in edits:
         own = function_of(sources, folder, edit)
@@ -59,7 +64,8 @@ def groups_of(sources, folder, edits):
 
 
 def changed_by_all(folder, edits):
-    """The texts of the files that some edits change, which change different functions, as they become where all are applied."""
+    """The texts of the files that some edits change, which change different functions, as they become where all are
+    applied."""
     texts = {}
     for edit in edits:
         for (file, at), line in lines_of(folder, edit).items():

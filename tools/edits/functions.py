@@ -1,4 +1,5 @@
-"""The functions of a crate's sources, as `rt fmt` lays them out: where each stands, and by which path the prover means it."""
+"""The functions of a crate's sources, as `rt fmt` lays them out: where each stands, and by which path the prover means
+it."""
 
 import re
 from typing import NamedTuple
@@ -11,9 +12,9 @@ TYPE = re.compile(r"^ *(?:pub(?:\([^)]*\))? )?(?:struct|enum|union|trait) (\w+)"
 
 
 class Function(NamedTuple):
-    """A function with a body: its file and name; the lines at which its attributes and comments begin, of its head, of the brace that opens its
-    body, and of the one that closes it, counted from 0; the header of the impl or trait that it stands in; and its cycle of calls, if it says
-    that it is in one."""
+    """A function with a body: its file and name; the lines at which its attributes and comments begin, of its head, of
+    the brace that opens its body, and of the one that closes it, counted from 0; the header of the impl or trait that
+    it stands in; and its cycle of calls, if it says that it is in one."""
 
     file: str
     name: str
@@ -31,8 +32,8 @@ class Function(NamedTuple):
 
 
 class Owner(NamedTuple):
-    """What the header of an impl says: its trait with its arguments, if there is one, its type, and the names of its own parameters. The
-    type of a trait's header is the trait."""
+    """What the header of an impl says: its trait with its arguments, if there is one, its type, and the names of its
+    own parameters. The type of a trait's header is the trait."""
 
     trait: str
     kind: str
@@ -98,7 +99,9 @@ def functions_in(file, text):
         body = body_of(lines, first) if head else None
         if body:
             begin = begin_of(lines, first)
-            found.append(Function(file, head[2], begin, first, *body, owner_of(lines, first), cycle_of(lines[begin:first])))
+            found.append(
+                Function(file, head[2], begin, first, *body, owner_of(lines, first), cycle_of(lines[begin:first]))
+            )
     return found
 
 
@@ -130,8 +133,8 @@ def name_of(kind):
 
 
 def words_of(text, own):
-    """What the prover calls a type, or a trait with its arguments: its words, each with a large letter first, without lifetimes and the impl's
-    own parameters."""
+    """What the prover calls a type, or a trait with its arguments: its words, each with a large letter first, without
+    lifetimes and the impl's own parameters."""
     plain = re.sub(r"'\w+ ?|\bmut |\b\w+::", "", text)
     words = ""
     for found in re.finditer(r"\w+|[&\[(]", plain):
@@ -163,18 +166,20 @@ class Sources:
                 self.modules.setdefault(name, []).append(module_of(file))
 
     def around(self, file, at, new):
-        """The innermost function in whose body a line stands that becomes another, if nothing but its own proof reads that body; none where the
-        line is in no body. On the line that opens a body a text behind the brace is in it. A `const fn` may be read by a constant, and a macro's
-        text by others."""
+        """The innermost function in whose body a line stands that becomes another, if nothing but its own proof reads
+        that body; none where the line is in no body. On the line that opens a body a text behind the brace is in it. A
+        `const fn` may be read by a constant, and a macro's text by others."""
         if file not in self.lines or file in self.with_macros:
             return None
         is_behind = new.startswith(self.lines[file][at])
-        inside = [each for each in self.functions if each.file == file and each.opens + (not is_behind) <= at < each.last]
+        inside = [
+            each for each in self.functions if each.file == file and each.opens + (not is_behind) <= at < each.last
+        ]
         return inside[-1] if inside and "const fn" not in self.lines[file][inside[-1].first] else None
 
     def middle_of(self, function):
-        """The modules in which a function's path may stand, and what stands before its name, if anything does. A method stands by its type, in
-        the module of the type's declaration, a trait's method by the words of its impl."""
+        """The modules in which a function's path may stand, and what stands before its name, if anything does. A method
+        stands by its type, in the module of the type's declaration, a trait's method by the words of its impl."""
         module = module_of(function.file)
         if not function.owner:
             return [module], None
@@ -185,8 +190,8 @@ class Sources:
         return self.modules.get(kind, [module]), kind
 
     def may_be(self, function, path):
-        """Whether the prover may mean a function by a path that it prints, as judy_bits::skip::Skip::new. Behind a type may stand its
-        arguments, as Filling+Width+1."""
+        """Whether the prover may mean a function by a path that it prints, as judy_bits::skip::Skip::new. Behind a type
+        may stand its arguments, as Filling+Width+1."""
         *place, name = path.split("::")[1:]
         modules, middle = self.middle_of(function)
         if name != function.name:
@@ -196,7 +201,8 @@ class Sources:
         return bool(place) and place[:-1] in modules and place[-1].partition("+")[0] == middle
 
     def asked_as(self, function):
-        """The path by which a check is asked for a function; that of its module where it stands behind a type's arguments."""
+        """The path by which a check is asked for a function; that of its module where it stands behind a type's
+        arguments."""
         modules, middle = self.middle_of(function)
         if middle is None:
             return "::".join([*modules[0], function.name])
@@ -205,7 +211,8 @@ class Sources:
         return "::".join([*modules[0], middle, function.name] if is_sure else modules[0])
 
     def path_of(self, function, paths):
-        """The one path that means this function and no other, of the paths that the prover printed; none where that isn't sure."""
+        """The one path that means this function and no other, of the paths that the prover printed; none where that
+        isn't sure."""
         own = [path for path in paths if self.may_be(function, path)]
         others = [each for each in self.functions if each != function and own and self.may_be(each, own[0])]
         return own[0] if len(own) == 1 and not others else None

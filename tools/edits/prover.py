@@ -33,7 +33,8 @@ class Check:
         self.places = [Place(found[1], int(found[2]), found[3]) for line in lines if (found := PLACE.match(line))]
 
     def refusal(self, function, path):
-        """The first thing that is said of a goal of this function, which stands under that path; none where no goal of it was refused."""
+        """The first thing that is said of a goal of this function, which stands under that path; none where no goal of
+        it was refused."""
         if not TRIED.match(self.functions.get(path, "")):
             return None
         folder = f"proofs/{'/'.join(path.split('::')[1:])}/"
@@ -42,7 +43,11 @@ class Check:
             is_own = place.file.startswith(folder) or (cycle and cycle in place.file)
             if is_own and place.said.startswith("error: ") and not NAMES.search(place.said):
                 return place
-            if place.file == function.file and function.begin < place.line <= function.last + 1 and GOAL.match(place.said):
+            if (
+                place.file == function.file
+                and function.begin < place.line <= function.last + 1
+                and GOAL.match(place.said)
+            ):
                 return place
         return None
 

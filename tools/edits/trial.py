@@ -1,4 +1,5 @@
-"""The must-fail edits of one crate as they are tried: as many as can be in one check, the others alone, as the kit tries them."""
+"""The must-fail edits of one crate as they are tried: as many as can be in one check, the others alone, as the kit
+tries them."""
 
 import os
 import pathlib
@@ -11,7 +12,8 @@ FLAGS = ["--jobs", "1"]
 
 
 class Trial:
-    """The edits of a crate as they are tried over what the checks keep in a folder: what was found of each, and why some are tried alone."""
+    """The edits of a crate as they are tried over what the checks keep in a folder: what was found of each, and why
+    some are tried alone."""
 
     def __init__(self, rt, crate, kept):
         self.rt, self.crate, self.kept = rt, crate, kept
@@ -34,12 +36,14 @@ class Trial:
                 self.alone[edit] = "it can't be applied, or changes something else than the body of one function"
 
     def check(self, texts, tried):
-        """A check of the functions of some edits, and of what they call, with these texts in place of the crate's own."""
+        """A check of the functions of some edits, and of what they call, with these texts in place of the crate's own.
+        """
         only = [word for edit in tried for word in ("--only", self.sources.asked_as(self.own[edit]))]
         return self.rt.checked(self.crate, texts, [*FLAGS, *only], self.kept)
 
     def fault_of(self, ran, texts):
-        """Why a check says nothing of its edits, if so: it has to end with what it found, and to have read all texts."""
+        """Why a check says nothing of its edits, if so: it has to end with what it found, and to have read all texts.
+        """
         lines = ran.stdout.rstrip("\n").split("\n")
         if self.rt.rtlib.STALE.search(ran.stdout):
             return "the kept work of a library could not be used"
@@ -50,8 +54,8 @@ class Trial:
         return None
 
     def try_at_once(self, tried):
-        """Tries edits that change different functions. Those that are left, since a function that theirs calls has an edit too, are returned.
-        Where the check says nothing of them, each half of them is tried."""
+        """Tries edits that change different functions. Those that are left, since a function that theirs calls has an
+        edit too, are returned. Where the check says nothing of them, each half of them is tried."""
         texts = files.changed_by_all(self.folder, tried)
         ran = self.check(texts, tried)
         fault = self.fault_of(ran, texts)
@@ -89,13 +93,15 @@ class Trial:
             waiting = self.try_at_once(first)
             left = [edit for edit in left if edit not in first or edit in waiting]
         if self.found and not self.is_proved():
-            self.alone |= {edit: "the functions as they stand were not proved over what was kept" for edit in self.found}
+            self.alone |= {
+                edit: "the functions as they stand were not proved over what was kept" for edit in self.found
+            }
             self.found, self.kept = {}, None
         return [self.verdict(pathlib.Path(name)) for name in names]
 
     def verdict(self, edit):
-        """Whether an edit is refused, and what to say; by itself where it wasn't refused at its own function. What isn't refused over what was
-        kept is tried once more, from nothing."""
+        """Whether an edit is refused, and what to say; by itself where it wasn't refused at its own function. What
+        isn't refused over what was kept is tried once more, from nothing."""
         if edit in self.found:
             return True, f"must-fail {self.crate.name}/{edit.name}: refused, as it must be, at {self.found[edit]}"
         refused, text = self.try_alone(edit, self.kept)
@@ -104,14 +110,15 @@ class Trial:
         return refused, f"{text} (tried alone: {self.alone[edit]})"
 
     def try_alone(self, edit, kept):
-        """Whether the kit refuses an edit, over what was kept, and what it says of it. By the kit it is yes or no, or a word: `limit` where a limit of
-        the prover refuses it."""
+        """Whether the kit refuses an edit, over what was kept, and what it says of it. By the kit it is yes or no, or a
+        word: `limit` where a limit of the prover refuses it."""
         what, text = self.rt.must_fail(self.crate, str(edit), FLAGS, kept)
         return what in (True, "refused", "limit"), text
 
 
 def copy_kept(crate, kept):
-    """Copies what earlier checks of the crate kept into a folder, where there is any: proved modules as links, since the prover writes each anew."""
+    """Copies what earlier checks of the crate kept into a folder, where there is any: proved modules as links, since
+    the prover writes each anew."""
 
     def copy(old, new):
         return os.link(old, new) if old.endswith(".oantt") else shutil.copy2(old, new)
