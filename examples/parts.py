@@ -2,14 +2,12 @@ import sys
 from multiprocessing import Pool
 from sellumaq import JudySL
 
-
 def count(name):
     times = JudySL()
     with open(name, encoding="utf-8") as file:
         for word in file.read().split():
             times[word] = times.get(word, 0) + 1
     return times
-
 
 if __name__ == "__main__":
     whole = JudySL()
