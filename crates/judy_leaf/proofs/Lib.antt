@@ -32,3 +32,4 @@ pub mod BitsPut
 pub mod NextKeys
 pub mod Fills
 pub mod NextBits
+pub mod BitsMet

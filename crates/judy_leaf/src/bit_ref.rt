@@ -1,6 +1,6 @@
 //! The reading of a bitmap leaf whose block stands in a node.
 
-ghost use Rattle.std.specs.Prelude.{◌≡◌, ◌+◌, ◌<◌, ◌≤◌, ◌==◌, length, slice_index, slice_get, Some};
+ghost use Rattle.std.specs.Prelude.{◌≡◌, ◌+◌, ◌<◌, ◌≤◌, ◌==◌, filter, length, slice_index, slice_get, Some};
 ghost use Rattle.judy_model.specs.Keys.{word_order};
 ghost use Rattle.judy_model.specs.Nearest.{IsFirst, IsLast};
 ghost use Rattle.judy_bits.specs.ByteSets as set;
@@ -13,7 +13,7 @@ ghost use Rattle.judy_leaf.specs.Searches.{IsSearched};
 
 use crate::layout::{BIT_WORDS, bit_count, bit_width};
 use crate::words::{ValueWords, Words};
-use judy_bits::BitsRef;
+use judy_bits::{Bits256, BitsRef};
 use judy_block::Block;
 use std::marker::{Model, PhantomData};
 
@@ -90,6 +90,14 @@ impl<'a, V: Words + Drop> BitRef<'a, V> {
         ensures within { (1 ≤ result) × (result ≤ 8) }
     {
         bit_width(self.block) as u8
+    }
+
+    /// How many of the keys another bitmap leaf has too: the bits that are 1 in the words of both, a word at a time.
+    pub fn common_count(&self, other: &BitRef<'_, V>) -> usize
+        ensures { result
+            ≡ length (filter (set.has (keys_of other.now.pairs)) (keys_of self.now.pairs)) }
+    {
+        in_both(self.bit_words(), other.bit_words())
     }
 
     /// How many keys are below a word.
@@ -228,6 +236,19 @@ impl<'a, V: Words + Drop> BitRef<'a, V> {
             self.len()
         }
     }
+}
+
+// How many bits are 1 in four words and in four others.
+fn in_both(one: &[u64], other: &[u64]) -> usize
+    requires four { length one.now ≡ 4 }
+    requires other_four { length other.now ≡ 4 }
+    ensures { result ≡ length (filter (set.has (members_of other.now)) (members_of one.now)) }
+{
+    let first = one[0] & other[0];
+    let second = one[1] & other[1];
+    let third = one[2] & other[2];
+    let fourth = one[3] & other[3];
+    Bits256::of_words([first, second, third, fourth]).len()
 }
 
 // A byte as a word.

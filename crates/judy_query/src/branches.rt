@@ -13,7 +13,7 @@ use judy_leaf::Words;
 use judy_node::{BranchOf, Step};
 
 /// How many children are before a key, by its step: the place of its child, or the one that it would have.
-pub(crate) fn passed<V: Words + Drop>(branch: &BranchOf<V>, step: Step) -> usize
+pub fn passed<V: Words + Drop>(branch: &BranchOf<V>, step: Step) -> usize
     ensures { result ≡ passed (length branch.now.children.items) step }
 {
     match step {
@@ -85,7 +85,7 @@ pub(crate) fn start_from<V: Words + Drop>(branch: &BranchOf<V>, place: usize, fr
 
 /// The byte of the first child from a byte on, whose place is known. Where all 256 children stand, that place is the
 /// byte.
-pub(crate) fn byte_from<V: Words + Drop>(branch: &BranchOf<V>, place: usize, from: u64) -> u8
+pub fn byte_from<V: Words + Drop>(branch: &BranchOf<V>, place: usize, from: u64) -> u8
     requires branch { IsWholeBranch V.WORDS branch.now }
     requires place { place < length branch.now.children.items }
     requires from { place ≡ set.rank branch.now.bytes from }
@@ -132,7 +132,7 @@ fn byte_below<V: Words + Drop>(branch: &BranchOf<V>, place: usize, below: u64) -
 }
 
 /// Where the keys of the child of a byte begin.
-pub(crate) fn start_at<V: Words + Drop>(branch: &BranchOf<V>, byte: u8) -> u64
+pub fn start_at<V: Words + Drop>(branch: &BranchOf<V>, byte: u8) -> u64
     requires branch { IsWholeBranch V.WORDS branch.now }
     requires byte { (place : ℕ) × (place < length branch.now.children.items)
         × (slice_get branch.now.bytes place ≡ Some byte) }

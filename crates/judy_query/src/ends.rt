@@ -115,7 +115,7 @@ pub(crate) fn rank_in<V: Words + Drop>(view: &ViewOf<'_, V>, key: u64) -> u64
 }
 
 /// How many keys there are.
-pub(crate) fn len_in<V: Words + Drop>(view: &ViewOf<'_, V>) -> u64
+pub fn len_in<V: Words + Drop>(view: &ViewOf<'_, V>) -> u64
     requires { IsEnd view.now }
     ensures { result ≡ length (view_pairs view.now) }
 {
@@ -132,7 +132,7 @@ pub(crate) fn len_in<V: Words + Drop>(view: &ViewOf<'_, V>) -> u64
 /// The pair at a place, counted from 0.
 // As `from_in` below.
 #[inline(always)]
-pub(crate) fn entry_in<V: Words + Drop>(view: &ViewOf<'_, V>, at: u64) -> Entry
+pub fn entry_in<V: Words + Drop>(view: &ViewOf<'_, V>, at: u64) -> Entry
     requires end { IsEnd view.now }
     requires shown { IsShown V.WORDS view.now }
     requires inside { at < length (view_pairs view.now) }

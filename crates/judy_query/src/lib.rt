@@ -51,13 +51,16 @@ mod watch;
 
 pub use after::entry_at_or_after;
 pub use before::entry_at_or_before;
+pub use branches::{byte_from, passed, start_at};
 pub use counts::rank;
 pub use empties::nearest_empty;
+pub use ends::{entry_in, len_in};
 pub use many::{MOST_WAYS, lookup_many};
 pub use places::entry_nth;
+pub use rooms::is_full;
 pub use sides::Side;
 pub use surroundings::around;
-pub use values::{Start, lookup, lookup_further, lookup_one, lookup_start};
+pub use values::{Start, lookup, lookup_below, lookup_further, lookup_one, lookup_start};
 pub use walk::Walk;
 
 /// A key with its value, which is 0 where keys have no value.

@@ -7,7 +7,7 @@ ghost use Rattle.judy_node.specs.Views.{view_pairs};
 ghost use Rattle.judy_node.specs.declared.view.ViewOf.TheVariants.{Branch};
 ghost use Rattle.judy_query.specs.Ends.{value_at, IsEndIfAny};
 ghost use Rattle.judy_query.specs.Maps.{map_of};
-ghost use Rattle.judy_query.specs.Parts.{value_of, IsEnd, IsShown};
+ghost use Rattle.judy_query.specs.Parts.{value_of, width_of, IsEnd, IsShown};
 ghost use Rattle.judy_query.specs.Starts.{IsBegun};
 ghost use Rattle.judy_query.specs.Visits.{most_visits_below, most_visits_down};
 
@@ -101,6 +101,27 @@ pub fn lookup_further<V: Words + Drop>(
 {
     let (end, left) = end_of_way(branch, key, meter)?;
     value_in(&end, left)
+}
+
+/// The value of a key of a node that was entered, 0 where keys have no value; `None` where it is absent. At most 7
+/// visits more; the meter stands at most at `u64::MAX - 16`.
+pub fn lookup_below<V: Words + Drop>(
+    view: &ViewOf<'_, V>,
+    key: u64,
+    meter: &mut Meter,
+) -> Option<u64>
+    requires below { meter.old ≤ 2 ^ 64 - 17 }
+    requires shown { IsShown V.WORDS view.now }
+    requires inside { key < 256 ^ width_of view.now }
+    ensures value { result ≡ value_of (view_pairs view.now) key }
+    ensures no_fewer { meter.old ≤ meter.new }
+    ensures visits { meter.new ≤ meter.old + most_visits_below }
+{
+    let ViewOf::Branch(branch) = view else {
+        return value_in(view, key);
+    };
+    let (end, rest) = end_of_way(branch, key, meter)?;
+    value_in(&end, rest)
 }
 
 /// The node without children that a key leads to, and what is left of the key there; none where its way ends beside a

@@ -5,7 +5,6 @@ pub mod Lengths
 pub mod SliceSteps
 pub mod PageFacts
 pub mod CountFacts
-pub mod RelationFacts
 pub mod FillFacts
 pub mod RangeFacts
 pub mod FromFacts
@@ -16,3 +15,5 @@ pub mod Retained
 pub mod WordPuts
 pub mod LookFacts
 pub mod DownFacts
+pub mod MeetFacts
+pub mod LotFacts

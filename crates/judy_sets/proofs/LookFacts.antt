@@ -10,7 +10,7 @@ use Rattle.std.proofs.lemmas.List.Filters.{length-filter_more}
 use mir.Val.{bool_byte}
 use Rattle.judy_model.specs.Keys.{word_order}
 use Rattle.judy_model.specs.Arrays.{ArrayOf, with_map}
-use Rattle.judy_model.specs.TwoMaps.{intersection, difference, IsSubset, IsDisjoint}
+use Rattle.judy_model.specs.TwoMaps.{intersection, difference, IsSubset, IsDisjoint, HaveSameKeys}
 use Rattle.judy_word.specs.Held.{with_new}
 use Rattle.judy_sets.specs.declared.keep.Keep.{Keep}
 use Rattle.judy_sets.specs.Merges.{Pairs, taken, pick}
@@ -29,34 +29,6 @@ pub behind : (ahead after : Ahead) (page : Pairs) (count : ℕ) → page ≡ ahe
 behind ahead after page count is all left =
     let nothing : drop count ahead.0 ≡ [] = drop_of_length-le ahead.0 (let long = ap length is in omega (arith, all, long)) in
     left ∙ ap (λ (ps : Pairs). ps ++ ahead.1) nothing
-
-pub page_found : (test : ℕ → Bool) (ahead after : Ahead) (page : Pairs) (count : ℕ) → page ≡ ahead.0 → count ≡ length page → rest after ≡ drop count ahead.0 ++ ahead.1
-    → length (where_key word_order test page) + length (where_key word_order test (rest after)) ≡ length (where_key word_order test (rest ahead))
-page_found test ahead after page count is all left =
-    let whole = ap length (filter-append (λ (e : ℕ × ℕ). test e.0) ahead.0 ahead.1) ∙ length-append (where_key word_order test ahead.0) (where_key word_order test ahead.1) in
-    let first = ap (λ (ps : Pairs). length (where_key word_order test ps)) is in
-    let later = ap (λ (ps : Pairs). length (where_key word_order test ps)) (behind ahead after page count is all left) in
-    omega (arith, whole, first, later)
-
-pub page_most : (test : ℕ → Bool) (ahead : Ahead) (page : Pairs) → page ≡ ahead.0 → length (where_key word_order test page) ≤ length (where_key word_order test (rest ahead))
-page_most test ahead page is =
-    let whole = ap length (filter-append (λ (e : ℕ × ℕ). test e.0) ahead.0 ahead.1) ∙ length-append (where_key word_order test ahead.0) (where_key word_order test ahead.1) in
-    let first = ap (λ (ps : Pairs). length (where_key word_order test ps)) is in
-    omega (arith, whole, first)
-
-pub one_more : (test : ℕ → Bool) (pairs : Pairs) (at count : ℕ) (found : Bool) → at < length pairs → found ≡ test (get_or pairs at (0, 0)).0
-    → count ≡ length (where_key word_order test (take at pairs)) → count + bool_byte found ≡ length (where_key word_order test (take (at + 1) pairs))
-one_more test pairs at count found within is counted =
-    let more = length-filter_more (λ (e : ℕ × ℕ). test e.0) pairs at (0, 0) within in
-    let byte = byte_of found ∙ ap (λ b. cond b 1 0) is in
-    omega (arith, more, byte, counted)
-  where
-    byte_of : (b : Bool) → bool_byte b ≡ cond b 1 0
-    byte_of true = refl
-    byte_of false = refl
-
-pub none_found : (test : ℕ → Bool) (pairs : Pairs) → pairs ≡ [] → length (where_key word_order test pairs) ≡ 0
-none_found test pairs none = ap (λ (ps : Pairs). length (where_key word_order test ps)) none
 
 pub common_is : (one other : Words) → length (where_key word_order (is_wanted true other) (entries one)) ≡ len (intersection one other)
 unfolding intersection
@@ -149,6 +121,35 @@ more_keys one other more = (
       let rest = len-rest one other in
       omega (arith, none, parts, rest, more)),
 )
+
+-- Those that have the same keys have as many.
+same_subset : (one other : Words) → HaveSameKeys one other → IsSubset one other
+same_subset one other all key = (all key).0
+
+turned_subset : (one other : Words) → HaveSameKeys one other → IsSubset other one
+turned_subset one other all key = (all key).1
+
+pub same_long : (one other : Words) → HaveSameKeys one other → len one ≡ len other
+same_long one other all =
+    let none = subset_lacks one other (same_subset one other all) in
+    let none_turned = subset_lacks other one (turned_subset one other all) in
+    let parts = len-difference one other in
+    let rest = len-rest one other in
+    omega (arith, none, none_turned, parts, rest)
+
+-- Those that have as many have the same where none is lacking.
+pub same_by : (one other : Words) (some : Bool) → len one ≡ len other → some ≡ nat_lt 0 (length (where_key word_order (is_wanted false other) (entries one)))
+    → IsTrue (not some) ↔ HaveSameKeys one other
+same_by one other some long is =
+    let by = subset_by one other some is in (
+      λ none key.
+          let within = by.0 none in
+          let nothing = subset_lacks one other within in
+          let parts = len-difference one other in
+          let rest = len-rest one other in
+          (within key, lacks_subset other one (omega (arith, long, nothing, parts, rest)) key),
+      λ all. by.1 (same_subset one other all),
+    )
 
 -- ---- pairs put in
 

@@ -4,41 +4,8 @@ use Rattle.std.specs.Option.{option_or}
 use Rattle.std.specs.FinMap.{find}
 use Rattle.judy_model.specs.Keys.{word_order}
 use Rattle.judy_sets.specs.declared.keep.Keep.{Keep}
-use Rattle.judy_sets.specs.Merges.{Pairs, Ascends, taken, pick, met}
+use Rattle.judy_sets.specs.Merges.{Pairs, Ascends, taken, pick}
 use Rattle.judy_sets.proofs.Finds.{same_or, find-same, find-apart, find-below, find-join}
-
--- ---- how many keys both have
-
--- A key that isn't among the one's keys is dropped from the other.
-pub met-other : (one : Pairs) (pair : ℕ × ℕ) (other : Pairs) → find word_order pair.0 one ≡ None → met one (pair ∷ other) ≡ met one other
-met-other [] pair other none = refl
-met-other (first ∷ one) pair other none = ⊎_elim
-    (λ (same : pair.0 ≡ first.0). let found = sym (find-same pair.0 first one same) ∙ none in cc)
-    (λ (apart : pair.0 ≢ first.0).
-    ap (λ (found : Option ℕ). cond (is_some found) (suc (met one (pair ∷ other))) (met one (pair ∷ other))) (find-apart first.0 pair other (λ e. apart (sym e)))
-    ∙ ap (λ (rest : ℕ). cond (is_some (find word_order first.0 other)) (suc rest) rest) (met-other one pair other (sym (find-apart pair.0 first one apart) ∙ none)))
-    (same_or pair.0 first.0)
-
--- A key of the one that the other lacks.
-pub met-lacking : (pair : ℕ × ℕ) (one other : Pairs) → find word_order pair.0 other ≡ None → met (pair ∷ one) other ≡ met one other
-met-lacking pair one other none = ap (λ (found : Option ℕ). cond (is_some found) (suc (met one other)) (met one other)) none
-
--- The lower of two first keys is passed.
-pub met-less : (left right : ℕ × ℕ) (one other : Pairs) → left.0 < right.0 → Ascends (right.0 + 1) other → met (left ∷ one) (right ∷ other) ≡ met one (right ∷ other)
-met-less left right one other less up = met-lacking left one (right ∷ other) (find-below left.0 right.0 (right ∷ other) less (omega arith, up))
-
-pub met-greater : (left right : ℕ × ℕ) (one other : Pairs) → right.0 < left.0 → Ascends (left.0 + 1) one → met (left ∷ one) (right ∷ other) ≡ met (left ∷ one) other
-met-greater left right one other less up = met-other (left ∷ one) right other (find-below right.0 left.0 (left ∷ one) less (omega arith, up))
-
--- Both are passed where they are one key.
-pub met-same : (left right : ℕ × ℕ) (one other : Pairs) → left.0 ≡ right.0 → Ascends (left.0 + 1) one → met (left ∷ one) (right ∷ other) ≡ suc (met one other)
-met-same left right one other same up =
-    ap (λ (found : Option ℕ). cond (is_some found) (suc (met one (right ∷ other))) (met one (right ∷ other))) (find-same left.0 right other same)
-    ∙ ap suc (met-other one right other (find-below right.0 (left.0 + 1) one (omega (arith, same)) up))
-
-pub met-none : (one : Pairs) → met one [] ≡ 0
-met-none [] = refl
-met-none (pair ∷ one) = met-none one
 
 -- ---- what is taken
 

@@ -28,22 +28,6 @@ pub page_passed : (page behind : Pairs) (at end count : ℕ) → end ≤ length 
 page_passed page behind at end count within is =
     let long = length_ahead page at end within in ap (λ (ps : Pairs). ps ++ behind) (drop_of_length-le (drop at (take end page)) (omega (arith, long, is)))
 
-no_length : (pairs : Pairs) → length pairs ≡ 0 → pairs ≡ []
-no_length [] e = refl
-no_length (pair ∷ pairs) e = absurd (omega (arith, e))
-
-pub page_end : (page : Pairs) (at : ℕ) (end : ℕ) → end ≤ length page → at ≡ end → drop at (take end page) ≡ []
-page_end page at end within is = let long = length_ahead page at end within in no_length (drop at (take end page)) (omega (arith, long, is))
-
--- The first of a page.
-pub page_first : (page behind : Pairs) (at end : ℕ) → end ≤ length page → at < end → (more : Pairs) × (drop at (take end page) ++ behind ≡ get_or page at (0, 0) ∷ more)
-page_first page behind at end within less =
-    let long = length-take-le end page within in
-    let inside : at < length (take end page) = omega (arith, long, less) in (
-      drop (suc at) (take end page) ++ behind,
-      ap (λ (ps : Pairs). ps ++ behind) (drop-cons (take end page) at (0, 0) inside) ∙ ap (λ (pair : ℕ × ℕ). pair ∷ (drop (suc at) (take end page) ++ behind)) (get_or-take end page at (0, 0) less),
-    )
-
 -- A part of two.
 module _ (keep : Keep) (left right left_after right_after : Ahead) (one other : Pairs) (passed_left passed_right : ℕ) where
   up : (ahead after : Ahead) (passed : ℕ) → rest after ≡ drop passed ahead.0 ++ ahead.1 → Ascends 0 (rest ahead) → Ascends 0 (rest after)

@@ -8,9 +8,9 @@ use Rattle.std.specs.Option.{option_or}
 use Rattle.std.specs.FinMap.{find}
 use Rattle.judy_model.specs.Keys.{word_order}
 use Rattle.judy_sets.specs.declared.keep.Keep.{Keep}
-use Rattle.judy_sets.specs.Merges.{Pairs, Ascends, pick, met, IsMet, IsMerged}
+use Rattle.judy_sets.specs.Merges.{Pairs, Ascends, pick, IsMerged}
 use Rattle.judy_sets.proofs.Finds.{find-below, ascends-drop}
-use Rattle.judy_sets.proofs.Merging.{one_if, met-less, met-greater, met-same, pass-left, pass-right, pass-both}
+use Rattle.judy_sets.proofs.Merging.{one_if, pass-left, pass-right, pass-both}
 use Rattle.std.proofs.Math.Dec.{leb}
 use Rattle.std.proofs.lemmas.Bool.{le-leb, lt-leb, leb-true, leb-false}
 use Rattle.std.proofs.lemmas.Bool.Decides.{eqb_tells}
@@ -44,9 +44,6 @@ pub byte_small : (b : Bool) → bool_byte b ≤ 1
 byte_small true = omega arith
 byte_small false = omega arith
 
-pub same_small : (one other : ℕ) → bool_byte (nat_eq one other) ≤ bool_byte (leb one other)
-same_small one other = by_tests one other (λ b _ e. bool_byte e ≤ bool_byte b) (λ _. omega arith) (λ _. omega arith) (λ _. omega arith)
-
 pub taken_small : (one other : ℕ) (keep : Keep) → bool_byte (cond (leb one other) (cond (leb other one) keep.both keep.left) keep.right) ≤ bool_byte (leb one other) + bool_byte (leb other one)
 taken_small one other keep = by_tests one other (λ b c _. bool_byte (cond b (cond c keep.both keep.left) keep.right) ≤ bool_byte b + bool_byte c)
     (λ _. let most = byte_small keep.left in omega (arith, most)) (λ _. let most = byte_small keep.right in omega (arith, most)) (λ _. let most = byte_small keep.both in omega (arith, most))
@@ -61,45 +58,6 @@ written true out count pair room = take_more_set out count pair room
 written false out count pair room = ap (λ (n : ℕ). take n (set out count pair)) (add-zero count) ∙ take-set out count pair ∙ sym (append-nil (take count out))
 
 module _ (one other : Pairs) (left right : ℕ) (in_one : left < length one) (in_other : right < length other) where
-  -- ---- counted
-
-  pub met_left : (count : ℕ) → (get_or one left (0, 0)).0 < (get_or other right (0, 0)).0 → IsMet one other left right count → IsMet one other (left + 1) right count
-  met_left count less is = λ one_more other_more up_one up_other.
-      ap (λ (n : ℕ). count + n)
-      ((λ t. met (drop (left + 1) one ++ one_more) (from_place other other_more right in_other t))
-      ∙ sym (met-less (get_or one left (0, 0)) (get_or other right (0, 0)) (drop (left + 1) one ++ one_more) (drop (right + 1) other ++ other_more) less
-      (behind other other_more right in_other up_other))
-      ∙ (λ t. met (sym (from_place one one_more left in_one) t) (sym (from_place other other_more right in_other) t)))
-      ∙ is one_more other_more up_one up_other
-
-  pub met_right : (count : ℕ) → (get_or other right (0, 0)).0 < (get_or one left (0, 0)).0 → IsMet one other left right count → IsMet one other left (right + 1) count
-  met_right count less is = λ one_more other_more up_one up_other.
-      ap (λ (n : ℕ). count + n)
-      ((λ t. met (from_place one one_more left in_one t) (drop (right + 1) other ++ other_more))
-      ∙ sym (met-greater (get_or one left (0, 0)) (get_or other right (0, 0)) (drop (left + 1) one ++ one_more) (drop (right + 1) other ++ other_more) less (behind one one_more left in_one up_one))
-      ∙ (λ t. met (sym (from_place one one_more left in_one) t) (sym (from_place other other_more right in_other) t)))
-      ∙ is one_more other_more up_one up_other
-
-  pub met_both : (count : ℕ) → (get_or one left (0, 0)).0 ≡ (get_or other right (0, 0)).0 → IsMet one other left right count → IsMet one other (left + 1) (right + 1) (count + 1)
-  met_both count same is = λ one_more other_more up_one up_other.
-      let rest_one : Pairs = drop (left + 1) one ++ one_more in
-      let rest_other : Pairs = drop (right + 1) other ++ other_more in
-      let step = met-same (get_or one left (0, 0)) (get_or other right (0, 0)) rest_one rest_other same (behind one one_more left in_one up_one) in
-      let whole : met (drop left one ++ one_more) (drop right other ++ other_more) ≡ met (get_or one left (0, 0) ∷ rest_one) (get_or other right (0, 0) ∷ rest_other) = λ t. met
-      (from_place one one_more left in_one t) (from_place other other_more right in_other t) in
-      let before = is one_more other_more up_one up_other in
-      omega (arith, step, whole, before)
-
-  -- By the tests of the two keys.
-  pub met_tested : (count : ℕ) → IsMet one other left right count →
-      IsMet one other (left + bool_byte (leb (get_or one left (0, 0)).0 (get_or other right (0, 0)).0)) (right + bool_byte (leb (get_or other right (0, 0)).0 (get_or one left (0, 0)).0))
-      (count + bool_byte (nat_eq (get_or one left (0, 0)).0 (get_or other right (0, 0)).0))
-  met_tested count is = by_tests (get_or one left (0, 0)).0 (get_or other right (0, 0)).0
-      (λ b c e. IsMet one other (left + bool_byte b) (right + bool_byte c) (count + bool_byte e))
-      (λ less. subst (λ (n : ℕ). IsMet one other (left + 1) n (count + 0)) (sym (add-zero right)) (subst (IsMet one other (left + 1) right) (sym (add-zero count)) (met_left count less is)))
-      (λ more. subst (λ (n : ℕ). IsMet one other n (right + 1) (count + 0)) (sym (add-zero left)) (subst (IsMet one other left (right + 1)) (sym (add-zero count)) (met_right count more is)))
-      (λ same. met_both count same is)
-
   -- ---- written
 
   module _ (keep : Keep) (out : Pairs) where

@@ -5,3 +5,4 @@ pub mod Fills
 pub mod RangeWords
 pub mod LookUps
 pub mod Downward
+pub mod Meets

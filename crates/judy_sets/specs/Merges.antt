@@ -33,13 +33,7 @@ abbrev pub met : Pairs → Pairs → ℕ
 met [] other = 0
 met (pair ∷ pairs) other = if is_some (find word_order pair.0 other) then suc (met pairs other) else met pairs other
 
--- The fronts of two lists that ascend were passed, so many pairs of each: so many keys both had there.
-abbrev pub IsMet : Pairs → Pairs → ℕ → ℕ → ℕ → Type 0
-IsMet one other left right count =
-    (one_more other_more : Pairs) → Ascends 0 (one ++ one_more) → Ascends 0 (other ++ other_more) → count + met (drop left one ++ one_more) (drop right other ++ other_more) ≡
-    met (one ++ one_more) (other ++ other_more)
-
--- The same, and what is taken there is a list.
+-- The fronts of two lists that ascend were passed, so many pairs of each: what is taken there is a list.
 abbrev pub IsMerged : Keep → Pairs → Pairs → ℕ → ℕ → Pairs → Type 0
 IsMerged keep one other left right out =
     (one_more other_more : Pairs) → Ascends 0 (one ++ one_more) → Ascends 0 (other ++ other_more) → (key : ℕ) →

@@ -41,13 +41,6 @@ pub record IsPart (keep : Keep) (left right left_after right_after : Ahead) (out
   pub taken : IsTaken keep (rest left) (rest right) (rest left_after) (rest right_after) (take count out)
   pub fewer : length (rest left_after) + length (rest right_after) < length (rest left) + length (rest right)
 
--- Whether a key is kept of those of two lists of pairs.
-abbrev pub Keeps : Bool → Keep → Pairs → Pairs → Type 0
-Keeps answer keep one other =
-    MatchBool answer
-    ((key : ℕ) × IsSome (pick keep (find word_order key one) (find word_order key other)))
-    ((key : ℕ) → pick keep (find word_order key one) (find word_order key other) ≡ None)
-
 -- The keys of a map are words.
 abbrev pub AreWords : FinMap word_order ℕ → Type 0
 AreWords map = (key : ℕ) → IsTrue (contains_key map key) → key ≤ 18446744073709551615

@@ -5,47 +5,32 @@ ghost use Rattle.std.specs.FinMap as map;
 ghost use Rattle.judy_model.specs.Ranges as ranges;
 ghost use Rattle.judy_model.specs.TwoMaps as two;
 
-use crate::lookups::{are_few, found_count};
-use crate::merges::meet;
-use crate::pages::Pages;
+use crate::meets::{Sought, count_sought};
 use judy_leaf::Words;
 use judy_word::WordArray;
 
-/// How many keys both arrays have. Both are gone through once; where one has less than an eighth of the other's keys,
-/// they are looked up there.
+/// How many keys both arrays have. The nodes of the one that has fewer keys are met with those of the other that have
+/// their words.
 pub fn common_count<V: Words + Drop>(one: &WordArray<V>, other: &WordArray<V>) -> u64
     ensures { result ≡ map.len (two.intersection one.now.map other.now.map) }
 {
-    let ours = one.len();
-    let theirs = other.len();
-    if are_few(ours, theirs) {
-        return found_count(one, other);
+    if one.len() <= other.len() {
+        count_common(one, other)
+    } else {
+        count_common(other, one)
     }
-    if are_few(theirs, ours) {
-        return found_count(other, one);
-    }
-    met_count(one, other)
 }
 
-// The same, by going through both.
-fn met_count<V: Words + Drop>(one: &WordArray<V>, other: &WordArray<V>) -> u64
+// The same, by the nodes of the one.
+fn count_common<V: Words + Drop>(one: &WordArray<V>, other: &WordArray<V>) -> u64
     ensures { result ≡ map.len (two.intersection one.now.map other.now.map) }
 {
     let _most = one.len();
-    let mut left = Pages::of(one);
-    let mut right = Pages::of(other);
-    let mut count = 0;
-    'pages: loop {
-        let ours = left.ahead();
-        let theirs = right.ahead();
-        if ours.is_empty() || theirs.is_empty() {
-            return count;
-        }
-        let passed = meet(ours, theirs);
-        left.pass(passed.left);
-        right.pass(passed.right);
-        count += passed.count as u64;
-    }
+    let all = Sought {
+        wanted: true,
+        enough: u64::MAX,
+    };
+    count_sought(all, one, other)
 }
 
 /// How many keys of the one array the other lacks.

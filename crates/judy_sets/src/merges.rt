@@ -1,12 +1,11 @@
 //! Two slices of pairs by ascending key, gone through side by side.
 
 ghost use Rattle.std.specs.Prelude.{◌≡◌, ◌+◌, ◌≤◌, ◌⊎◌, length, take};
-ghost use Rattle.judy_sets.specs.Merges.{IsMet, IsMerged};
+ghost use Rattle.judy_sets.specs.Merges.{IsMerged};
 
 use crate::keep::Keep;
 
-// How many pairs of the left slice and of the right one were passed, and how many keys were counted, or pairs written,
-// of these.
+// How many pairs of the left slice and of the right one were passed, and how many were written.
 #[derive(Clone, Copy)]
 pub struct Passed {
     pub left: usize,
@@ -14,27 +13,8 @@ pub struct Passed {
     pub count: usize,
 }
 
-// Passes the pairs of two slices by ascending key, until one is at its end, and counts the keys that both have.
-pub fn meet(one: &[(u64, u64)], other: &[(u64, u64)]) -> Passed
-    ensures left { result.left ≤ length one.now }
-    ensures right { result.right ≤ length other.now }
-    ensures end { (result.left ≡ length one.now) ⊎ (result.right ≡ length other.now) }
-    ensures met { IsMet one.now other.now result.left result.right result.count }
-{
-    let mut left = 0;
-    let mut right = 0;
-    let mut count = 0;
-    'pairs: while left < one.len() && right < other.len() {
-        let ours = one[left].0;
-        let theirs = other[right].0;
-        left += (ours <= theirs) as usize;
-        right += (theirs <= ours) as usize;
-        count += (ours == theirs) as usize;
-    }
-    Passed { left, right, count }
-}
-
-// Passes them likewise, and writes the pairs that are kept to the front of a slice, which has a place for each.
+// Passes the pairs of two slices by ascending key, until one is at its end, and writes those that are kept to the front
+// of a slice, which has a place for each.
 pub fn merge(keep: Keep, one: &[(u64, u64)], other: &[(u64, u64)], out: &mut [(u64, u64)]) -> Passed
     requires room { length one.now + length other.now ≤ length out.old }
     ensures left { result.left ≤ length one.now }

@@ -1,6 +1,6 @@
 //! The pairs of an array by ascending key, read ahead a page at a time.
 
-ghost use Rattle.std.specs.Prelude.{◌≡◌, ◌≤◌, ℕ, List, [], ◌∷◌, ◌++◌, drop, length, MatchOption};
+ghost use Rattle.std.specs.Prelude.{◌≡◌, ◌≤◌, [], ◌++◌, drop, length};
 ghost use Rattle.std.specs.FinMap as map;
 ghost use Rattle.judy_query.specs.Maps.{map_of};
 ghost use Rattle.judy_sets.specs.Pages.{rest, IsFrom};
@@ -91,17 +91,6 @@ impl<'a, V: Words + Drop> Pages<'a, V> {
         ensures last { self.now.0 ≡ [] → self.now.1 ≡ [] }
     {
         &self.page[self.at..self.end]
-    }
-
-    /// The first of them; `None` where none is left.
-    pub fn first(&self) -> Option<(u64, u64)>
-        ensures { MatchOption result (rest self.now ≡ [])
-            (λ pair. (more : List (ℕ × ℕ)) × (rest self.now ≡ pair ∷ more)) }
-    {
-        if self.at == self.end {
-            return None;
-        }
-        Some(self.page[self.at])
     }
 
     /// Passes so many of these. Where none of them is left, the next are read.
