@@ -23,4 +23,5 @@ mod words;
 
 pub use record::Record;
 pub use records::Records;
+pub use text::record_of;
 pub use words::{first_word, fresh_word, words_for};

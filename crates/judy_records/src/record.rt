@@ -28,8 +28,8 @@ impl<'a> Model for Record<'a> {
 }
 
 impl<'a> Record<'a> {
-    // The record of these words, its value and then its text.
-    pub(crate) fn new(words: &'a [u64]) -> Record<'a>
+    /// The record of these words, its value and then its text.
+    pub fn new(words: &'a [u64]) -> Record<'a>
         requires { 0 < length words.now }
         ensures { result ≡ held (get_or words.now 0 0) (drop 1 words.now) }
     {

@@ -2,11 +2,12 @@
 //! that tests nothing else, which the compiler turns into code for several words a step; a shorter word behind them is
 //! read by itself.
 
-ghost use Rattle.std.specs.Prelude.{◌≡◌, ◌↔◌, ◌≤◌, ◌+◌, ◌-◌, ◌∷◌, ◌++◌, take, drop, IsTrue, length, vec_len, vec_capacity};
+ghost use Rattle.std.specs.Prelude.{◌≡◌, ◌↔◌, ◌≤◌, ◌+◌, ◌-◌, ◌∷◌, ◌++◌, take, drop, IfOk, IsTrue, length, vec_len, vec_capacity};
 ghost use Rattle.judy_model.specs.Keys.{byte_order};
 ghost use Rattle.judy_records.specs.Texts.{words_in, words_of, words_for};
 
 use crate::words::{after_first, first_word, last_word, words_for};
+use std::alloc::{AllocError, Global};
 use std::cmp::Ordering;
 use std::mem;
 
@@ -48,6 +49,14 @@ pub fn push_record(words: &mut Vec<u64>, value: u64, size: usize, bytes: &[u8])
     let alloc = *words.allocator();
     let all = mem::replace(words, Vec::new(alloc));
     *words = with_record(all, value, bytes);
+}
+
+/// The words of one record by itself: its value, and then the words of the bytes. The error is want of memory.
+pub fn record_of(alloc: Global, value: u64, bytes: &[u8]) -> Result<Vec<u64>, AllocError>
+    ensures { IfOk result (λ words. words.items ≡ value ∷ words_of bytes.now) }
+{
+    let words = Vec::with_capacity(alloc, words_for(bytes.len()) + 1)?;
+    Ok(with_record(words, value, bytes))
 }
 
 // The words with a record behind them.

@@ -15,7 +15,7 @@ use Rattle.std.proofs.lemmas.Map.Steps.{length-le_from_distinct_below}
 use Rattle.std.proofs.lemmas.Option.{slice_get-get_or, slice_get_within, get_or_from_slice_get}
 use Rattle.judy_records.specs.Spots.{RecordList, empty_list}
 use Rattle.judy_records.proofs.PagesChange.{empty-next}
-use Rattle.judy_tails.specs.Tails.{TailLists}
+use Rattle.judy_tails.specs.Short.{ShortLists}
 use Rattle.judy_tails.specs.Inside.{size_of, next_of, tails_in, lists_of, IsTailList, AreTails, AreSame}
 use Rattle.judy_tails.proofs.ListLemmas.{list_at, pushed-other}
 
@@ -128,11 +128,11 @@ module _ (lists : List RecordList) (words : ℕ) where
       pushed-last (map size_of lists) words
 
 -- What is one of the lists by its number of words.
-pub is-one : (lists : List RecordList) (all : TailLists) (number words : ℕ) → lists_of lists ≡ all → slice_get all.words number ≡ Some words →
+pub is-one : (lists : List RecordList) (all : ShortLists) (number words : ℕ) → lists_of lists ≡ all → slice_get all.words number ≡ Some words →
     (number < length lists) × ((list_at lists number).size ≡ words)
 is-one lists all number words same is =
     let sizes = map size_of lists in
-    let here : slice_get sizes number ≡ Some words = ap (λ (all : TailLists). slice_get all.words number) same ∙ is in
+    let here : slice_get sizes number ≡ Some words = ap (λ (all : ShortLists). slice_get all.words number) same ∙ is in
     let within = slice_get_within sizes number words here in
     let long = length-map lists size_of in (
       omega (arith, within, long),

@@ -1,5 +1,5 @@
 -- Lists of tails, and what stands at a place of them.
-use Rattle.std.proofs.Common.{◌≡◌, ◌≢◌, ◌+◌, ◌-◌, ◌<◌, ◌%◌, ◌/◌, ◌^◌, ◌≤◌, ℕ, zero, suc, List, [], ◌∷◌, ◌++◌, length, map, get_or, set, Option, None, Some, IsSome}
+use Rattle.std.proofs.Common.{◌≡◌, ◌≢◌, ◌<◌, ◌%◌, ◌/◌, ◌^◌, ◌≤◌, ℕ, zero, suc, List, [], ◌∷◌, ◌++◌, length, map, get_or, set, Option, None, Some, IsSome}
 use Rattle.std.proofs.Common.{⊎_elim, eqb, sym, refl, ap, ◌∙◌, subst, arith}
 use Rattle.std.proofs.Math.ListN.{get_or-map}
 use Rattle.std.proofs.Math.Seq.{map-set_same}
@@ -16,8 +16,9 @@ use Rattle.judy_records.proofs.PadLemmas.{text-back}
 use Rattle.judy_records.proofs.FreeLemmas.{held-inside}
 use Rattle.judy_records.proofs.SpotsTo.{put-here, put-other, put-long, put-longer}
 use Rattle.judy_records.proofs.ListHolds.{next-set}
-use Rattle.judy_tails.specs.Tails.{TailLists, tail_at, Updates}
-use Rattle.judy_tails.specs.Tails as tails
+use Rattle.judy_tails.specs.Short.{ShortLists, tail_at, Updates}
+use Rattle.judy_tails.specs.Places as places
+use Rattle.judy_tails.specs.Short as tails
 use Rattle.judy_tails.proofs.TailLemmas.{whole-is}
 use Rattle.judy_tails.specs.Inside.{tail_of, tails_in, size_of, next_of, lists_of, IsPadded, IsPaddedOrFree, IsTailList, AreTails, AreSame}
 
@@ -66,8 +67,8 @@ module _ (lists : List RecordList) (place : ℕ) (some : IsSome (tail_at (lists_
   is-tail = tail-at lists place ∙ tail-held (spot_at (list_at lists (place % 256)) (place / 256)) is-held
 
   -- It is a text with the value of that record.
-  pub is-valued : tail_at (lists_of lists) place ≡ Some (tails.text_of (tail_at (lists_of lists) place), value_of (spot_at (list_at lists (place % 256)) (place / 256)))
-  is-valued = is-tail ∙ ap (λ text. Some (text, value_of (spot_at (list_at lists (place % 256)) (place / 256)))) (sym (ap tails.text_of is-tail))
+  pub is-valued : tail_at (lists_of lists) place ≡ Some (places.text_of (tail_at (lists_of lists) place), value_of (spot_at (list_at lists (place % 256)) (place / 256)))
+  is-valued = is-tail ∙ ap (λ text. Some (text, value_of (spot_at (list_at lists (place % 256)) (place / 256)))) (sym (ap places.text_of is-tail))
 
   -- The list is read there.
   pub is-read : (list : RecordList) → list ≡ get_or lists (place % 256) list → list ≡ list_at lists (place % 256)
@@ -143,7 +144,7 @@ module _ (lists : List RecordList) (place : ℕ) (some : IsSome (tail_at (lists_
       map-set tails_in lists (place % 256) (with_value list (place / 256) value)
       ∙ ap (set (map tails_in lists) (place % 256))
       (map-set tail_of list.spots (place / 256) (held value (text_of spot))
-      ∙ (λ i. set (sym (get_or-map tails_in lists (place % 256) (empty_list 0)) i) (place / 256) (Some (ap tails.text_of (sym (is-tail lists place some)) i, value))))
+      ∙ (λ i. set (sym (get_or-map tails_in lists (place % 256) (empty_list 0)) i) (place / 256) (Some (ap places.text_of (sym (is-tail lists place some)) i, value))))
 
   pub value-lists : lists_of valued ≡ tails.with_value (lists_of lists) place value
   value-lists = λ i. record {
@@ -189,9 +190,9 @@ module _ (lists : List RecordList) (place : ℕ) (some : IsSome (tail_at (lists_
 
 -- ---- the same of the list that was read, by lists as callers see them
 
-module _ (lists : List RecordList) {seen : TailLists} (view_is : lists_of lists ≡ seen) (place : ℕ) (some : IsSome (tail_at seen place)) where
+module _ (lists : List RecordList) {seen : ShortLists} (view_is : lists_of lists ≡ seen) (place : ℕ) (some : IsSome (tail_at seen place)) where
   seen-some : IsSome (tail_at (lists_of lists) place)
-  seen-some = subst (λ (all : TailLists). IsSome (tail_at all place)) (sym view_is) some
+  seen-some = subst (λ (all : ShortLists). IsSome (tail_at all place)) (sym view_is) some
 
   pub seen-inside : place % 256 < length lists
   seen-inside = is-inside lists place seen-some
@@ -208,7 +209,7 @@ module _ (lists : List RecordList) {seen : TailLists} (view_is : lists_of lists 
 
     pub list-tail : tail_at seen place ≡ Some (text_in (text_of (spot_at list (place / 256))), value_of (spot_at list (place / 256)))
     list-tail =
-        ap (λ (all : TailLists). tail_at all place) (sym view_is)
+        ap (λ (all : ShortLists). tail_at all place) (sym view_is)
         ∙ is-tail lists place seen-some
         ∙ ap (λ (list : RecordList). Some (text_in (text_of (spot_at list (place / 256))), value_of (spot_at list (place / 256)))) (sym list-is)
 
@@ -220,12 +221,12 @@ module _ (lists : List RecordList) {seen : TailLists} (view_is : lists_of lists 
     lent-lists value =
         ap (λ (list : RecordList). lists_of (set lists (place % 256) (with_value list (place / 256) value))) list-is
         ∙ value-lists lists place seen-some value
-        ∙ ap (λ (all : TailLists). tails.with_value all place value) view_is
+        ∙ ap (λ (all : ShortLists). tails.with_value all place value) view_is
 
-    pub lent-value : {value : ℕ} → value ≡ value_of (spot_at list (place / 256)) → tail_at seen place ≡ Some (tails.text_of (tail_at seen place), value)
+    pub lent-value : {value : ℕ} → value ≡ value_of (spot_at list (place / 256)) → tail_at seen place ≡ Some (places.text_of (tail_at seen place), value)
     lent-value {value} is =
-        subst (λ (all : TailLists). tail_at all place ≡ Some (tails.text_of (tail_at all place), value)) view_is
-        (is-valued lists place seen-some ∙ ap (λ value. Some (tails.text_of (tail_at (lists_of lists) place), value))
+        subst (λ (all : ShortLists). tail_at all place ≡ Some (places.text_of (tail_at all place), value)) view_is
+        (is-valued lists place seen-some ∙ ap (λ value. Some (places.text_of (tail_at (lists_of lists) place), value))
         (sym (is ∙ ap (λ (list : RecordList). value_of (spot_at list (place / 256))) list-is)))
 
     -- The record goes.
@@ -238,7 +239,7 @@ module _ (lists : List RecordList) {seen : TailLists} (view_is : lists_of lists 
 
       pub gone-updates : Updates seen (lists_of (set lists (place % 256) after)) place None
       gone-updates =
-          subst (λ (all : TailLists). Updates all (lists_of (set lists (place % 256) after)) place None) view_is
+          subst (λ (all : ShortLists). Updates all (lists_of (set lists (place % 256) after)) place None) view_is
           (without-updates lists place seen-some after gone-is known)
 
 -- ---- a record that comes
@@ -344,11 +345,11 @@ list-free lists number words size place other within none stands beside =
     }
 
 -- What holds of the same lists.
-module _ (before middle : TailLists) (same : AreSame before middle) where
+module _ (before middle : ShortLists) (same : AreSame before middle) where
   pub tail-same : (place : ℕ) → tail_at middle place ≡ tail_at before place
   tail-same place = ap (λ all. get_or all (place / 256) None) (same.lists (place % 256))
 
-  pub updates-same : (after : TailLists) (place : ℕ) (tail : Option (List ℕ × ℕ)) → Updates middle after place tail → Updates before after place tail
+  pub updates-same : (after : ShortLists) (place : ℕ) (tail : Option (List ℕ × ℕ)) → Updates middle after place tail → Updates before after place tail
   updates-same after place tail is = record {
     here = is.here;
     elsewhere = λ other apart. is.elsewhere other apart ∙ tail-same other;

@@ -1,9 +1,9 @@
 -- How tails stand in lists of records, each of which has the texts that take as many words as it says.
-use Rattle.std.specs.Prelude.{◌≡◌, ◌≤◌, ◌^◌, eqb, ℕ, List, [], length, get_or, map, Option, None, Some}
+use Rattle.std.specs.Prelude.{◌≡◌, ◌<◌, ◌≤◌, ◌^◌, eqb, ℕ, List, [], length, get_or, drop, map, Option, None, Some}
 use Rattle.std.specs.List.{IsDistinct}
 use Rattle.judy_records.specs.Texts.{first_word, words_of, text_in, IsText}
 use Rattle.judy_records.specs.Spots.{Spot, free, held, RecordList, IsNext, empty_list, spot_at}
-use Rattle.judy_tails.specs.Tails.{TailLists}
+use Rattle.judy_tails.specs.Short.{ShortLists}
 
 -- What stands at a place of a list.
 abbrev pub tail_of : Spot → Option (List ℕ × ℕ)
@@ -23,7 +23,7 @@ abbrev pub next_of : RecordList → ℕ
 next_of list = list.next
 
 -- What the lists hold.
-abbrev pub lists_of : List RecordList → TailLists
+abbrev pub lists_of : List RecordList → ShortLists
 lists_of lists = record {
   words = map size_of lists;
   lists = map tails_in lists;
@@ -44,6 +44,15 @@ IsPaddedOrFree (held value words) = words ≡ words_of (text_in words)
 abbrev pub BeginsText : ℕ → Type 0
 BeginsText word = (text : List ℕ) × IsText text × (word ≡ first_word text)
 
+-- The words of a record by itself: its text and its value.
+abbrev pub pair_of : List ℕ → List ℕ × ℕ
+pair_of words = (text_in (drop 1 words), get_or words 0 0)
+
+-- They begin with the value, and the text is whole.
+pub record IsRecord (words : List ℕ) : Type 0 where
+  pub some : 0 < length words
+  pub whole : drop 1 words ≡ words_of (text_in (drop 1 words))
+
 -- A list has whole texts of no more words than the longest one takes, and no more than places are words for; and no free place of it is lost.
 pub record IsTailList (list : RecordList) : Type 0 where
   pub short : list.size ≤ 128
@@ -57,6 +66,6 @@ pub record AreTails (lists : List RecordList) : Type 0 where
   pub apart : IsDistinct eqb (map size_of lists)
 
 -- To callers the lists are what they were, and one may be there that has no text.
-pub record AreSame (before after : TailLists) : Type 0 where
+pub record AreSame (before after : ShortLists) : Type 0 where
   pub lists : (number : ℕ) → get_or after.lists number [] ≡ get_or before.lists number []
   pub next : (number : ℕ) → get_or after.next number 0 ≡ get_or before.next number 0

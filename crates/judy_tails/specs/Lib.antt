@@ -1,5 +1,10 @@
+pub mod Places
+pub mod Short
+pub mod Long
 pub mod Tails
 pub mod Inside
+pub mod ShortLends
+pub mod LongLends
 pub mod Lends
 pub mod Writers
 pub mod Rooms

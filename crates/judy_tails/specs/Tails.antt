@@ -1,57 +1,49 @@
 -- Tails, place by place: a tail is a text, with the value that it has.
-use Rattle.std.specs.Prelude.{◌≡◌, ◌≢◌, ◌<◌, ℕ, ◌*◌, ◌+◌, ◌/◌, ◌%◌, ◌==◌, List, [], length, get_or, set, Option, None, Some, IsSome}
-use Rattle.std.specs.List.{position_or_len}
-use Rattle.judy_records.specs.Texts.{words_for}
-use Rattle.judy_records.specs.Pages.{per_of, page_of}
+use Rattle.std.specs.Prelude.{◌≡◌, ◌≤◌, ◌*◌, ◌+◌, ◌/◌, ◌%◌, ◌==◌, Bool, nat_le, ℕ, List, Option, if◌then◌else◌}
+use Rattle.judy_model.specs.declared.keys.TheConstants.{LONGEST_KEY}
+use Rattle.judy_tails.specs.Places.{text_of, UpdatesBy}
+use Rattle.judy_tails.specs.Short.{ShortLists}
+use Rattle.judy_tails.specs.Short as short
+use Rattle.judy_tails.specs.Long.{LongList}
+use Rattle.judy_tails.specs.Long as long
 
--- Of each list, by its number: how many words each text in it takes, what stands at each place, and which place is taken next.
+-- The tails of at most 1,024 bytes, and the longer ones.
 pub record TailLists : Type 0 where
-  pub words : List ℕ
-  pub lists : List (List (Option (List ℕ × ℕ)))
-  pub next : List ℕ
+  pub short : ShortLists
+  pub long : LongList
 
--- A place tells by its lowest byte the number of a list, and by the others the place in it. What stands there: a text and its value, or nothing.
+-- Whether a place is one for longer tails: its lowest byte tells.
+abbrev pub is_long : ℕ → Bool
+is_long place = place % 256 == 254
+
+-- What stands at a place: a text and its value, or nothing.
 abbrev pub tail_at : TailLists → ℕ → Option (List ℕ × ℕ)
-tail_at all place = get_or (get_or all.lists (place % 256) []) (place / 256) None
-
--- The list for texts of so many bytes, by its number: the first one whose texts take as many words, or else the next one to be made.
-abbrev pub list_for : TailLists → ℕ → ℕ
-list_for all bytes = position_or_len (λ words. words_for bytes == words) all.words
+tail_at all place = if is_long place then long.tail_at all.long (place / 256) else short.tail_at all.short place
 
 -- The place that the next text of so many bytes takes.
 abbrev pub next_place : TailLists → ℕ → ℕ
-next_place all bytes = get_or all.next (list_for all bytes) 0 * 256 + list_for all bytes
+next_place all bytes = if nat_le bytes LONGEST_KEY then short.next_place all.short bytes else all.long.next * 256 + 254
 
--- A place of the list for texts of so many bytes is free, beside a text in its page.
+-- The text is no longer one, and a place of the list for texts of so many bytes is free, beside a text in its page.
 pub record HasFree (all : TailLists) (bytes : ℕ) : Type 0 where
-  pub place : ℕ
-  pub within : place < length (get_or all.lists (list_for all bytes) [])
-  pub is_free : get_or (get_or all.lists (list_for all bytes) []) place None ≡ None
-  pub other : ℕ
-  pub stands : IsSome (get_or (get_or all.lists (list_for all bytes) []) other None)
-  pub beside : page_of (per_of (words_for bytes)) other ≡ page_of (per_of (words_for bytes)) place
+  pub few : bytes ≤ LONGEST_KEY
+  pub free : short.HasFree all.short bytes
 
 -- No tail stands anywhere.
 abbrev pub no_tails : TailLists
-no_tails = record { words = []; lists = []; next = [] }
+no_tails = record { short = short.no_tails; long = long.no_tails }
 
 -- Another tail at a place where one stands.
 abbrev pub with_tail : TailLists → ℕ → List ℕ × ℕ → TailLists
-with_tail all place tail = record all { lists = set all.lists (place % 256) (set (get_or all.lists (place % 256) []) (place / 256) (Some tail)) }
-
--- The text of what stands at a place.
-abbrev pub text_of : Option (List ℕ × ℕ) → List ℕ
-text_of None = []
-text_of (Some tail) = tail.0
+with_tail all place tail = if is_long place then record all { long = long.with_tail all.long (place / 256) tail } else record all { short = short.with_tail all.short place tail }
 
 -- Another value at a place where a tail stands.
 abbrev pub with_value : TailLists → ℕ → ℕ → TailLists
 with_value all place value = with_tail all place (text_of (tail_at all place), value)
 
 -- One place has this, and all others what they had.
-pub record Updates (before after : TailLists) (place : ℕ) (tail : Option (List ℕ × ℕ)) : Type 0 where
-  pub here : tail_at after place ≡ tail
-  pub elsewhere : (other : ℕ) → other ≢ place → tail_at after other ≡ tail_at before other
+abbrev pub Updates : TailLists → TailLists → ℕ → Option (List ℕ × ℕ) → Type 0
+Updates = UpdatesBy tail_at
 
 -- All places have what they had.
 abbrev pub SameTails : TailLists → TailLists → Type 0

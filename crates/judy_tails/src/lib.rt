@@ -1,12 +1,17 @@
-//! Tails: texts without a zero byte, each with a value, kept by how many words they take. A text stands in a record of
-//! just these words, so none has a tag, a length or a pointer, and a text of no byte takes the word of its value alone.
+//! Tails: texts without a zero byte, each with a value. Those of at most 1,024 bytes are kept by how many words they
+//! take. A text stands in a record of just these words, so none has a tag, a length or a pointer, and a text of no byte
+//! takes the word of its value alone. A longer text has a block of its own.
 //!
 //! A [`Tails`] gives each text a place, a number that stays its own until it is removed. Its lowest byte tells a list,
-//! which has the texts of one length in words. To contracts a `Tails` is a `TailLists`: what stands at each place.
+//! which has the texts of one length in words, or the longer ones. To contracts a `Tails` is a `TailLists`: what stands
+//! at each place.
 //!
-//! tails.rt has the lists, tail.rt one tail as it is read, and writer.rt where a key is written byte behind byte.
+//! tails.rt has all tails, short.rt the lists by length, long.rt the longer ones, tail.rt one tail as it is read, and
+//! writer.rt where a key is written byte behind byte.
 #![tactic(auto)]
 
+mod long;
+mod short;
 mod tail;
 mod tails;
 mod writer;

@@ -1,22 +1,26 @@
-//! The lists of tails, one for each number of words that some tail took.
+//! Tails of any length.
 
-ghost use Rattle.std.specs.Prelude.{◌≡◌, ◌<◌, ◌≤◌, ◌%◌, ℕ, List, Some, None, IsSome, IsOk, IfOk, OnOk, OnErr, length, slice_get};
+ghost use Rattle.std.specs.Prelude.{◌≡◌, ◌<◌, ◌≤◌, ◌%◌, ℕ, List, Some, None, IsSome, IsOk, IfOk, OnOk, OnErr, length};
 ghost use Rattle.std.specs.Borrow.{sem};
 ghost use Rattle.judy_model.specs.Keys.{IsWord};
-ghost use Rattle.judy_model.specs.declared.keys.TheConstants.{LONGEST_KEY};
-ghost use Rattle.judy_records.specs.Texts.{IsText, words_for};
-ghost use Rattle.judy_tails.specs.Tails.{tail_at, list_for, next_place, HasFree, no_tails, text_of, Updates, SameTails};
+ghost use Rattle.judy_model.specs.declared.keys.TheConstants.{LONGEST_STRING};
+ghost use Rattle.judy_records.specs.Texts.{IsText};
+ghost use Rattle.judy_tails.specs.Places.{text_of};
+ghost use Rattle.judy_tails.specs.Tails.{is_long, tail_at, next_place, HasFree, no_tails, Updates, SameTails};
 
+use crate::long::LongTails;
+use crate::short::ShortTails;
 use crate::tail::Tail;
-use judy_records::{Records, words_for};
+use judy_model::keys::LONGEST_KEY;
 use std::alloc::{AllocError, Global};
 use std::marker::Model;
 
-/// Texts without a zero byte, of at most 1,024 bytes, each with a value and a place of its own. To contracts it is a
-/// `TailLists`.
+/// Texts without a zero byte, each with a value and a place of its own. To contracts it is a `TailLists`. A text of at
+/// most 1,024 bytes stands in the list of its length; a longer one in a block of its own.
 #[derive(Drop)]
 pub struct Tails {
-    lists: Vec<Records>,
+    short: ShortTails,
+    long: LongTails,
 }
 
 impl Model for Tails {
@@ -24,15 +28,20 @@ impl Model for Tails {
 
     ghost Value = { TailLists };
 
-    ghost use Rattle.judy_tails.specs.Inside.{lists_of, AreTails};
+    ghost view = { λ t. record { short = t.short; long = t.long } };
+}
 
-    ghost view = { λ t. lists_of t.lists.items };
+// The lowest byte of a place for a longer text. The lists by length have the numbers 0 to 128.
+const LONG: u64 = 254;
 
-    ghost invariant = { λ t. AreTails t.lists.items };
+// Whether a place is one for longer texts.
+fn is_long(place: u64) -> bool
+    ensures { result ≡ is_long place }
+{
+    place % 256 == LONG
 }
 
 impl Tails {
-    ghost use Rattle.judy_tails.specs.Inside.{AreSame};
     ghost use Rattle.judy_tails.specs.Lends.{LendsValue};
 
     /// No tails. It asks for no memory.
@@ -40,7 +49,8 @@ impl Tails {
         ensures { result ≡ no_tails }
     {
         Tails {
-            lists: Vec::new(alloc),
+            short: ShortTails::new(alloc),
+            long: LongTails::new(alloc),
         }
     }
 
@@ -49,7 +59,11 @@ impl Tails {
         requires { IsSome (tail_at self.now place) }
         ensures { tail_at self.now place ≡ Some result }
     {
-        Tail::new(self.lists[(place % 256) as usize].at((place / 256) as usize))
+        if is_long(place) {
+            self.long.at((place / 256) as usize)
+        } else {
+            self.short.at(place)
+        }
     }
 
     /// The value of the tail at a place, where one stands. It reads no more of the tail.
@@ -57,7 +71,11 @@ impl Tails {
         requires { IsSome (tail_at self.now place) }
         ensures { tail_at self.now place ≡ Some (text_of (tail_at self.now place), result) }
     {
-        self.lists[(place % 256) as usize].value((place / 256) as usize)
+        if is_long(place) {
+            self.long.value((place / 256) as usize)
+        } else {
+            self.short.value(place)
+        }
     }
 
     /// Lends the value of the tail at a place; all else stays.
@@ -67,78 +85,78 @@ impl Tails {
         ensures value { tail_at self.old place
             ≡ Some (text_of (tail_at self.old place), result.now) }
     {
-        self.lists[(place % 256) as usize].slot((place / 256) as usize)
+        if is_long(place) {
+            self.long.slot((place / 256) as usize)
+        } else {
+            self.short.slot(place)
+        }
     }
 
     /// The place that the next text of so many bytes takes.
     pub fn next_place(&self, bytes: usize) -> u64
-        requires { bytes ≤ LONGEST_KEY }
         ensures { result ≡ next_place self.now bytes }
     {
-        let number = self.list_for(bytes);
-        match self.lists.get(number) {
-            Some(list) => list.next_place() as u64 * 256 + number as u64,
-            None => number as u64,
+        if bytes <= LONGEST_KEY {
+            self.short.next_place(bytes)
+        } else {
+            self.long.next_place() as u64 * 256 + LONG
         }
     }
 
     /// Puts a text with its value in at the next place for its length, and answers that place. Where a place of that
-    /// length is free in a page with another text it takes one, which asks for no memory and can't be refused. The
-    /// error is want of memory, or 2^55 texts of that length, and all places have then what they had.
+    /// length is free in a page with another text it takes one, which asks for no memory and can't be refused; a text
+    /// of more than 1,024 bytes always asks. The error is want of memory, or 2^55 texts of that length, and all places
+    /// have then what they had.
     pub fn put(&mut self, text: &[u8], value: u64) -> Result<u64, AllocError>
-        requires text { IsText text.now }
-        requires short { length text.now ≤ LONGEST_KEY }
+        requires { IsText text.now }
         ensures place { IfOk result (λ place. place ≡ next_place self.old (length text.now)) }
-        ensures kind { IfOk result (λ place. place % 256 ≤ 128) }
+        ensures kind { IfOk result (λ place. place % 256 ≤ 254) }
         ensures free { IfOk result (λ place. tail_at self.old place ≡ None) }
         ensures put { IfOk result
             (λ place. Updates self.old self.new place (Some (text.now, value))) }
         ensures unasked { HasFree self.old (length text.now) → IsOk result }
         ensures refused { OnErr result (SameTails self.old self.new) }
     {
-        let number = self.list_for(text.len());
-        self.put_in(number, text, value)
+        if text.len() <= LONGEST_KEY {
+            self.short.put(text, value)
+        } else {
+            self.put_long(text, value)
+        }
     }
 
     /// The same where the caller has asked for that place (`next_place`), which tells the list for the length.
     #[inline(always)]
     pub fn put_next(&mut self, place: u64, text: &[u8], value: u64) -> Result<u64, AllocError>
         requires text { IsText text.now }
-        requires short { length text.now ≤ LONGEST_KEY }
         requires next { place ≡ next_place self.old (length text.now) }
         ensures place { IfOk result (λ at. at ≡ place) }
-        ensures kind { OnOk result (place % 256 ≤ 128) }
+        ensures kind { OnOk result (place % 256 ≤ 254) }
         ensures free { OnOk result (tail_at self.old place ≡ None) }
         ensures put { OnOk result (Updates self.old self.new place (Some (text.now, value))) }
         ensures unasked { HasFree self.old (length text.now) → IsOk result }
         ensures refused { OnErr result (SameTails self.old self.new) }
     {
-        self.are_few();
-        self.put_in((place % 256) as usize, text, value)
+        if text.len() <= LONGEST_KEY {
+            self.short.put_next(place, text, value)
+        } else {
+            self.put_long(text, value)
+        }
     }
 
-    // The same where the number of the list is known.
-    #[inline(always)]
-    fn put_in(&mut self, number: usize, text: &[u8], value: u64) -> Result<u64, AllocError>
+    // The same of a text that no list by length takes.
+    #[inline(never)]
+    fn put_long(&mut self, text: &[u8], value: u64) -> Result<u64, AllocError>
         requires text { IsText text.now }
-        requires short { length text.now ≤ LONGEST_KEY }
-        requires number { number ≡ list_for self.old (length text.now) }
+        requires long { LONGEST_KEY < length text.now }
         ensures place { IfOk result (λ place. place ≡ next_place self.old (length text.now)) }
-        ensures kind { IfOk result (λ place. place % 256 ≤ 128) }
+        ensures kind { IfOk result (λ place. place % 256 ≤ 254) }
         ensures free { IfOk result (λ place. tail_at self.old place ≡ None) }
         ensures put { IfOk result
             (λ place. Updates self.old self.new place (Some (text.now, value))) }
-        ensures unasked { HasFree self.old (length text.now) → IsOk result }
         ensures refused { OnErr result (SameTails self.old self.new) }
     {
-        self.reach(number, text.len())?;
-        let list = &mut self.lists[number];
-        if list.next_place() as u64 >= MOST {
-            return Err(AllocError);
-        }
-        let place = list.put(value, text)?;
-        list.law();
-        Ok(place as u64 * 256 + number as u64)
+        let place = self.long.put(text, value)?;
+        Ok(place as u64 * 256 + LONG)
     }
 
     /// Takes the tail at a place out. It asks for no memory; with the last text of its page goes the memory of that,
@@ -147,9 +165,11 @@ impl Tails {
         requires { IsSome (tail_at self.old place) }
         ensures { Updates self.old self.new place None }
     {
-        let list = &mut self.lists[(place % 256) as usize];
-        list.remove((place / 256) as usize);
-        list.law();
+        if is_long(place) {
+            self.long.remove((place / 256) as usize);
+        } else {
+            self.short.remove(place);
+        }
     }
 
     /// Does nothing: it tells a caller's proof that values are words.
@@ -157,63 +177,7 @@ impl Tails {
         ensures { (place : ℕ) (tail : List ℕ × ℕ) → tail_at self.now place ≡ Some tail
             → IsWord tail.1 }
     {
-        for list in &self.lists {
-            list.values_law();
-        }
-    }
-
-    // The number of the list for texts of so many bytes; where there is none, that of the next one. Lists are as few as
-    // lengths in words: fourteen at most where no text has more than a hundred bytes.
-    fn list_for(&self, bytes: usize) -> usize
-        ensures { result ≡ list_for self.now bytes }
-    {
-        let words = words_for(bytes);
-        for number in 0..self.lists.len() {
-            if self.lists[number].size() == words {
-                return number;
-            }
-        }
-        self.lists.len()
-    }
-
-    // Does nothing: it tells a proof that a byte has room for the number of a list.
-    fn are_few(&self)
-        ensures { (bytes : ℕ) → list_for self.now bytes ≤ 129 }
-    {
-        let _lists = &self.lists;
-    }
-
-    // Sees to it that there is the list for texts of so many bytes, by its number. The error is want of memory.
-    fn reach(&mut self, number: usize, bytes: usize) -> Result<(), AllocError>
-        requires short { bytes ≤ LONGEST_KEY }
-        requires number { number ≡ list_for self.old bytes }
-        ensures same { AreSame self.old self.new }
-        ensures found { number < length self.old.lists → IsOk result }
-        ensures reached { OnOk result (slice_get self.new.words number ≡ Some (words_for bytes)) }
-    {
-        if number == self.lists.len() {
-            self.make(bytes)
-        } else {
-            Ok(())
-        }
-    }
-
-    // Makes the list for texts of so many bytes, of which there is none. The error is want of memory.
-    #[inline(never)]
-    fn make(&mut self, bytes: usize) -> Result<(), AllocError>
-        requires short { bytes ≤ LONGEST_KEY }
-        requires none { list_for self.old bytes ≡ length self.old.lists }
-        ensures same { AreSame self.old self.new }
-        ensures made { OnOk result
-            (slice_get self.new.words (list_for self.old bytes) ≡ Some (words_for bytes)) }
-    {
-        let alloc = *self.lists.allocator();
-        self.lists.reserve_exact(self.lists.len() / 2 + 1)?;
-        self.lists
-            .push_reserved(Records::new(alloc, words_for(bytes)));
-        Ok(())
+        self.short.law();
+        self.long.law();
     }
 }
-
-// The most records that a list holds, so that each place is a word.
-const MOST: u64 = 36_028_797_018_963_968;
