@@ -1,13 +1,15 @@
 -- The levels and tails of an array, place by place.
-use Rattle.std.specs.Prelude.{◌≡◌, ◌≤◌, ◌^◌, ◌/◌, ℕ, zero, suc, cond, List}
-use Rattle.std.specs.FinMap.{FinMap, len}
+use Rattle.std.specs.Prelude.{◌≡◌, ◌≤◌, ◌^◌, ◌/◌, ℕ, zero, suc, cond, List, Some, length}
+use Rattle.std.specs.FinMap.{FinMap, get, len}
 use Rattle.judy_model.specs.Keys.{byte_order}
 use Rattle.judy_model.specs.Arrays.{ArrayOf}
-use Rattle.judy_model.specs.Tables.{table, string_keys}
+use Rattle.judy_model.specs.Tables.{table}
+use Rattle.judy_model.specs.declared.keys.TheConstants.{LONGEST_KEY}
 use Rattle.judy_tails.specs.Tails.{tail_at}
 use Rattle.slab.specs.Slab as slab
 use Rattle.judy_sl.specs.Children.{Child, Free, Tail, Level, is_level, level_child, tail_child}
 use Rattle.judy_sl.specs.declared.arena.Arena.{Arena}
+use Rattle.judy_sl.specs.Strings.{all_strings}
 use Rattle.judy_sl.specs.Pieces.{pieces, IsText}
 use Rattle.judy_sl.specs.World.{World, Node, gone, tail, level, lookup}
 use Rattle.judy_sl.specs.WorldInvariants.{IsWorld, AllLed}
@@ -46,11 +48,19 @@ pub record HasRoom (arena : Arena) (more : ℕ) : Type 0 where
 
 -- The map that they are.
 abbrev pub map_of : Arena → FinMap byte_order ℕ
-map_of arena = table string_keys (λ key. lookup (world_of arena) 0 (pieces key))
+map_of arena = table all_strings (λ key. lookup (world_of arena) 0 (pieces key))
 
 -- The array that they are, under a limit.
 abbrev pub array_of : ℕ → Arena → ArrayOf byte_order
 array_of limit arena = record { limit = limit; map = map_of arena }
+
+-- No key has more than so many bytes.
+abbrev pub AreWithin : ℕ → FinMap byte_order ℕ → Type 0
+AreWithin longest map = (key : List ℕ) (value : ℕ) → get map key ≡ Some value → length key ≤ longest
+
+-- None has more than 1,024.
+abbrev pub AreShort : FinMap byte_order ℕ → Type 0
+AreShort map = AreWithin LONGEST_KEY map
 
 -- What always holds of an array: it keeps nothing to which no entry leads, and it counts its keys.
 pub record IsStrings (limit count : ℕ) (arena : Arena) : Type 0 where
@@ -60,3 +70,4 @@ pub record IsStrings (limit count : ℕ) (arena : Arena) : Type 0 where
   pub within_limit : count ≤ limit
   pub holds_some : 1 ≤ limit
   pub limit_fits : limit ≤ 4294967295
+  pub short : AreShort (map_of arena)

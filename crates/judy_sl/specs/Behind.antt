@@ -3,14 +3,15 @@ use Rattle.std.specs.Prelude.{◌≡◌, ◌==◌, ◌%◌, ℕ, suc, if◌then�
 use Rattle.std.specs.List.{flat_map}
 use Rattle.std.specs.FinMap.{FinMap, entries}
 use Rattle.judy_model.specs.Keys.{word_order, byte_order}
-use Rattle.judy_model.specs.Tables.{table, string_keys}
+use Rattle.judy_model.specs.Tables.{table}
 use Rattle.judy_sl.specs.Pieces.{pieces, piece_bytes}
 use Rattle.judy_sl.specs.World.{World, level, lookup}
 use Rattle.judy_sl.specs.WorldInvariants.{IsWorld}
+use Rattle.judy_sl.specs.Strings.{all_strings}
 
 -- The map of the keys behind a seat: the bytes that are left of each there, with its value.
 abbrev pub map_behind : World → ℕ → FinMap byte_order ℕ
-map_behind world seat = table string_keys (λ rest. lookup world seat (pieces rest))
+map_behind world seat = table all_strings (λ rest. lookup world seat (pieces rest))
 
 -- The keys behind an entry of a level: one where its piece is final, and else the piece's bytes before those behind its child.
 abbrev pub entry_keys : World → ℕ × ℕ → List (List ℕ × ℕ)

@@ -8,15 +8,17 @@ use Rattle.judy_sl.specs.World.{World, gone, lookup}
 use Rattle.judy_sl.specs.WorldInvariants.{AllLed}
 use Rattle.judy_sl.specs.Arenas.{world_of, node_of, child_at, IsArena}
 use Rattle.std.specs.FinMap.{FinMap, contains_key}
-use Rattle.judy_model.specs.Keys.{word_order, IsStringKey}
+use Rattle.judy_model.specs.Keys.{word_order}
 use Rattle.judy_model.specs.Arrays.{ArrayOf}
-use Rattle.judy_model.specs.declared.keys.TheConstants.{LONGEST_KEY}
 use Rattle.judy_word.specs.Writes.{with_value}
 use Rattle.judy_sl.specs.declared.branches.Twig.{Twig}
 use Rattle.judy_sl.specs.declared.branches.Branch.{Branch}
 use Rattle.judy_sl.specs.Branches.{IsBuilt, AreSingle}
 use Rattle.judy_sl.specs.Ways.{IsOnWay, IsFound, IsClash, left_of, levels_passed}
 use Rattle.judy_sl.specs.Counted.{AreCounted, AreCountedBut}
+use Rattle.judy_sl.specs.Listed.{StaysLed}
+use Rattle.judy_model.specs.declared.keys.TheConstants.{LONGEST_STRING}
+use Rattle.judy_sl.specs.Strings.{IsString}
 
 -- Another thing is found under one key, and nothing else changes.
 pub record IsChange (world other : World) (key : List ℕ) (new : Option ℕ) : Type 0 where
@@ -58,7 +60,7 @@ IsHung before after words linked (Some twig) (Some at) = IsPut before after (Tai
 -- The bytes of a twig are those of a tail.
 abbrev pub IsTwigText : Option Twig → Type 0
 IsTwigText None = Unit {0}
-IsTwigText (Some twig) = IsText twig.rest.now × (length twig.rest.now ≤ LONGEST_KEY)
+IsTwigText (Some twig) = IsText twig.rest.now × (length twig.rest.now ≤ LONGEST_STRING)
 
 -- The level has the entry that is to lead there.
 abbrev pub HasTwig : ArrayOf word_order → Option Twig → Type 0
@@ -88,7 +90,7 @@ pub record IsGraft (arena : Arena) (key : List ℕ) (from : Place) (at left : �
   pub is_arena : IsArena arena
   pub led : AllLed (world_of arena)
   pub counted : AreCounted arena
-  pub is_key : IsStringKey key
+  pub is_key : IsString key
   pub clash : IsClash (world_of arena) key from at left
   pub bytes : List ℕ
   pub held_is : clash.held ≡ pieces bytes
@@ -99,6 +101,7 @@ pub record IsGrafted (before after : Arena) (key : List ℕ) (left top : ℕ) : 
   pub is_arena : IsArena after
   pub led : AllLed (world_of after)
   pub counted : AreCountedBut after (levels_passed (world_of before) key)
+  pub stays : StaysLed before after
   pub change : IsChange (world_of before) (world_of after) (pieces key) (Some 0)
   pub within : left ≤ length key
   pub map : FinMap word_order ℕ

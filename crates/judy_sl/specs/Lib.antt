@@ -1,3 +1,4 @@
+pub mod Strings
 pub mod Pieces
 pub mod World
 pub mod WorldInvariants
@@ -25,3 +26,4 @@ pub mod Nth
 pub mod Stepped
 pub mod Sorted
 pub mod Planted
+pub mod Listed

@@ -1,9 +1,9 @@
 -- Keys as pieces of eight bytes. (This project's own.)
 use Rattle.std.specs.Prelude.{◌≡◌, ◌≢◌, ℕ, zero, suc, ◌-◌, ◌/◌, ◌%◌, ◌<◌, nat_lt, List, [], ◌∷◌, length, drop, slice_get, Some, filter, All}
 use Rattle.std.specs.List.{flat_map}
-use Rattle.judy_model.specs.Keys.{IsStringKey}
 use Rattle.judy_model.specs.WordBytes.{low_bytes}
 use Rattle.judy_records.specs.Texts.{spelled}
+use Rattle.judy_sl.specs.Strings.{IsString}
 
 -- The piece with which bytes begin: the number that their first eight spell.
 unfoldable pub piece_of : List ℕ → ℕ
@@ -48,7 +48,7 @@ EndsWell bytes = slice_get bytes (length bytes - 1) ≢ Some 0
 -- The pieces are those of a key.
 pub record SpellKey (ps : List ℕ) : Type 0 where
   pub key : List ℕ
-  pub is_key : IsStringKey key
+  pub is_key : IsString key
   pub spells : pieces key ≡ ps
 
 -- The bytes that a piece spells: those of the word that aren't zero.

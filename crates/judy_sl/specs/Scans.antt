@@ -5,7 +5,7 @@ use Rattle.std.specs.Ordering.{is_lt, is_le}
 use Rattle.std.specs.Cmp.Lexicographic.{slice_cmp}
 use Rattle.std.specs.Option.{option_map}
 use Rattle.std.specs.FinMap.{FinMap, get, contains_key}
-use Rattle.judy_model.specs.Keys.{IsStringKey, word_order, byte_order}
+use Rattle.judy_model.specs.Keys.{word_order, byte_order}
 use Rattle.judy_model.specs.Nearest.{IsLeast}
 use Rattle.judy_model.specs.Neighbours.{first, next, last, prev}
 use Rattle.judy_sl.specs.declared.scans.Side.{Side}
@@ -16,6 +16,7 @@ use Rattle.judy_sl.specs.declared.scans.Scanned.{Scanned}
 use Rattle.judy_sl.specs.Pieces.{AreInner, ArePieces, pieces, spelling}
 use Rattle.judy_sl.specs.World.{World, level, lookup, walk}
 use Rattle.judy_sl.specs.Ways.{seat_in, IsFound}
+use Rattle.judy_sl.specs.Strings.{IsString}
 
 -- The order of pieces from one side: what is met first comes first.
 abbrev pub along : Side → ℕ → ℕ → Ordering
@@ -86,7 +87,7 @@ value_in found = option_map (λ (one : Scanned). one.value) found
 
 -- These bytes are a key, whose value stands at the place that was found.
 abbrev pub StandsAt : World → List ℕ → Option Scanned → Type 0
-StandsAt world key found = IfSome found (λ (one : Scanned). IsStringKey key × IsFound world key one.place)
+StandsAt world key found = IfSome found (λ (one : Scanned). IsString key × IsFound world key one.place)
 
 module _ (look : Look) (world : World) where
   -- Whether pieces are met from others.
@@ -139,7 +140,7 @@ module _ (look : Look) (world : World) where
   -- A scan leaves the key that is met first, and answers its value; or none is met, and the key stays.
   abbrev pub IsNeighbour : List ℕ → List ℕ → Option ℕ → Type 0
   IsNeighbour key after None = IsNone 0 (pieces key) × (after ≡ key)
-  IsNeighbour key after (Some value) = IsNear 0 (pieces key) (pieces after) × IsStringKey after × (lookup world 0 (pieces after) ≡ Some value)
+  IsNeighbour key after (Some value) = IsNear 0 (pieces key) (pieces after) × IsString after × (lookup world 0 (pieces after) ≡ Some value)
 
   -- The same with the place at which that key stands.
   abbrev pub IsScanned : List ℕ → Option Scanned → List ℕ → Type 0

@@ -2,16 +2,16 @@
 use Rattle.std.specs.Prelude.{◌≡◌, ◌≢◌, ℕ, suc, ◌*◌, ◌≤◌, List, [], ◌∷◌, ◌++◌, length, Some}
 use Rattle.std.specs.FinMap.{FinMap, empty, get}
 use Rattle.judy_model.specs.Keys.{word_order}
-use Rattle.judy_model.specs.declared.keys.TheConstants.{LONGEST_KEY}
 use Rattle.judy_sl.specs.Pieces.{IsInner, IsFinal, SpellKey}
 use Rattle.judy_sl.specs.World.{World, gone, tail, level}
+use Rattle.judy_model.specs.declared.keys.TheConstants.{LONGEST_STRING}
 
 -- What holds of a level behind the pieces of a place: an entry under an inner piece leads to a seat that has
 -- something, behind the same pieces and that one; an entry under a final piece ends a key; and no key is too long.
 pub record FitsBehind (world : World) (behind : ℕ → List ℕ) (place : List ℕ) (map : FinMap word_order ℕ) : Type 0 where
   pub leads : (piece found : ℕ) → get map piece ≡ Some found → IsInner piece → (behind (suc found) ≡ place ++ piece ∷ []) × (world (suc found) ≢ gone)
   pub ends : (piece value : ℕ) → get map piece ≡ Some value → IsFinal piece → SpellKey (place ++ piece ∷ [])
-  pub short : 8 * length place ≤ LONGEST_KEY
+  pub short : 8 * length place ≤ LONGEST_STRING
 
 -- What always holds of the seats. To each seat the same pieces lead, however one comes there (`behind`): none
 -- to the first level, and to what an inner piece leads to, those of its level and that piece. So no two

@@ -5,7 +5,6 @@ ghost use Rattle.std.specs.Borrow.{sem};
 ghost use Rattle.std.specs.Option.{option_copied_mut};
 ghost use Rattle.std.specs.FinMap as map;
 ghost use Rattle.judy_model.specs.Arrays.{empty_array};
-ghost use Rattle.judy_model.specs.Keys.{IsStringKey};
 ghost use Rattle.judy_sl.specs.Pieces.{pieces, IsText, EndsWell};
 ghost use Rattle.judy_sl.specs.Children.{IsRefTo, IsTaken};
 ghost use Rattle.judy_sl.specs.Arenas.{world_of, child_at, map_of, IsArena};
@@ -13,6 +12,7 @@ ghost use Rattle.judy_sl.specs.Places.{place_value, place_with, IsPlace, IsLevel
 ghost use Rattle.judy_tails.specs.Tails.{no_tails};
 ghost use Rattle.judy_sl.specs.declared.arena.Way.TheVariants.{At};
 ghost use Rattle.judy_sl.specs.Ways.{is_below, place_in, seat_in, left_of, ends_first, passed_from, levels_passed, IsOnWay, IsWay};
+ghost use Rattle.judy_sl.specs.Strings.{IsString};
 
 use crate::child::{ChildRef, is_level, put_in};
 use crate::level_list::LevelList;
@@ -114,7 +114,7 @@ impl Arena {
         ensures way { IsText key.now → IsWay self.now key.now result }
         ensures passed { IsText key.now
             → N.has notes.new (levels_passed (world_of self.now) key.now) }
-        ensures there { (place : Place) → result ≡ At place → IsStringKey key.now }
+        ensures there { (place : Place) → result ≡ At place → IsString key.now }
     {
         self.walk_on(key, &self.root, None, key.len(), notes)
     }
@@ -137,7 +137,7 @@ impl Arena {
         ensures way { IsText key.now → IsWay self.now key.now result }
         ensures passed { IsText key.now → N.has notes.new
             (passed_from (world_of self.now) (seat_in under) (pieces (left_of key.now left))) }
-        ensures there { (place : Place) → result ≡ At place → IsStringKey key.now }
+        ensures there { (place : Place) → result ≡ At place → IsString key.now }
     {
         let mut level = top;
         let mut child = under;

@@ -1,9 +1,8 @@
 //! How levels come to tell how many keys stand behind them: the way of an insert or a delete notes the places of those
 //! that it passes. Once a key is in, it is counted there, and before one goes, it is counted no more.
 
-ghost use Rattle.std.specs.Prelude.{◌≡◌, ◌<◌, IfOk, OnErr};
+ghost use Rattle.std.specs.Prelude.{◌≡◌, ◌<◌, IfOk, OnOk, OnErr};
 ghost use Rattle.std.specs.FinMap as map;
-ghost use Rattle.judy_model.specs.Keys.{IsStringKey};
 ghost use Rattle.judy_sl.specs.WorldInvariants.{AllLed};
 ghost use Rattle.judy_sl.specs.Arenas.{world_of, child_at, map_of, IsArena};
 ghost use Rattle.judy_sl.specs.Children.{IsLevelChild};
@@ -11,7 +10,9 @@ ghost use Rattle.judy_sl.specs.Places.{with_child};
 ghost use Rattle.judy_sl.specs.Stepped.{child_stepped, ChildCanStep};
 ghost use Rattle.judy_sl.specs.Ways.{levels_passed, IsWay, IsNew};
 ghost use Rattle.judy_sl.specs.Grown.{IsAdded, IsSame};
+ghost use Rattle.judy_sl.specs.Listed.{StaysLed};
 ghost use Rattle.judy_sl.specs.Counted.{AreCounted, AreOnce, CanStepAt, AreStepped};
+ghost use Rattle.judy_sl.specs.Strings.{IsString};
 
 use crate::arena::{Arena, Place, Way};
 use std::alloc::AllocError;
@@ -47,13 +48,14 @@ impl Arena {
         requires is_arena { IsArena self.old }
         requires counted { AreCounted self.old }
         requires led { AllLed (world_of self.old) }
-        requires is_key { IsStringKey key.now }
+        requires is_key { IsString key.now }
         requires way { IsWay self.old key.now way }
         requires new { IsNew way }
         requires passed { passed.now ≡ levels_passed (world_of self.old) key.now }
         requires few { map.len (map_of self.old) < 4294967295 }
         ensures added { IfOk result (λ made. IsAdded self.old self.new key.now made) }
         ensures counted { AreCounted self.new }
+        ensures stays { OnOk result (StaysLed self.old self.new) }
         ensures refused { OnErr result (IsSame self.old self.new) }
     {
         let made = self.add(key, way)?;

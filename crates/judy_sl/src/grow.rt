@@ -3,12 +3,11 @@
 //! that can be refused, and where it is, the tail is taken out again. Only where a key is tried as a new one does that
 //! insert come first.
 
-ghost use Rattle.std.specs.Prelude.{ℕ, List, [], ◌≡◌, ◌+◌, ◌<◌, ◌≤◌, None, IfOk, IsOk, OnOk, IfErr, OnErr, IfSome, IsSome, IsTrue, length};
+ghost use Rattle.std.specs.Prelude.{ℕ, List, [], ◌≡◌, ◌+◌, ◌<◌, ◌≤◌, None, IfOk, IsOk, OnOk, IfErr, OnErr, IfSome, IsSome, IsTrue, length, take};
 ghost use Rattle.std.specs.FinMap as map;
 ghost use Rattle.judy_word.specs.Writes.{with_value};
 ghost use Rattle.judy_tails.specs.Tails.{next_place, HasFree};
 ghost use Rattle.judy_model.specs.Keys.{IsStringKey};
-ghost use Rattle.judy_model.specs.declared.keys.TheConstants.{LONGEST_KEY};
 ghost use Rattle.judy_sl.specs.Pieces.{piece_of, IsText};
 ghost use Rattle.judy_sl.specs.Children.{Tail, Level as LevelChild, IsTaken};
 ghost use Rattle.judy_sl.specs.Arenas.{world_of, child_at, map_of, IsArena, HasRoom};
@@ -18,14 +17,18 @@ ghost use Rattle.judy_sl.specs.Ways.{levels_passed, IsGap, IsClash, IsWay, IsNew
 ghost use Rattle.judy_sl.specs.WorldInvariants.{AllLed};
 ghost use Rattle.judy_sl.specs.Counted.{AreCounted, AreCountedBut};
 ghost use Rattle.judy_sl.specs.Firsts.{beginning};
+ghost use Rattle.judy_sl.specs.Listed.{StaysLed};
 ghost use Rattle.judy_sl.specs.Grown.{IsPut, IfShown, IsHung, AreHung, HasTwig, IsTwigText, IsSound, IsGraft, IsGrafted, IsAdded, IsSame};
+ghost use Rattle.judy_model.specs.declared.keys.TheConstants.{LONGEST_STRING};
+ghost use Rattle.judy_sl.specs.Strings.{IsString};
 
 use crate::arena::{Arena, Place, Way};
 use crate::branches::{Branch, Twig, branch_of};
 use crate::child::{ChildRef, LEVEL};
-use crate::keys::{KeyBuf, is_key};
+use crate::keys::is_key;
 use crate::pieces::first_piece;
-use judy_tails::KeyEnd;
+use judy_model::keys::LONGEST_KEY;
+use judy_tails::KeyFront;
 use judy_word::WordMap;
 use std::alloc::AllocError;
 
@@ -73,7 +76,6 @@ impl Arena {
     // memory is asked for.
     pub fn put_tail(&mut self, rest: &[u8], value: u64) -> Result<u64, AllocError>
         requires text { IsText rest.now }
-        requires short { length rest.now ≤ LONGEST_KEY }
         ensures place { IfOk result (λ at. at ≡ next_place self.old.tails (length rest.now)) }
         ensures put { IfOk result (λ at. IsPut self.old self.new (Tail ((rest.now, value))) at) }
         ensures unasked { HasFree self.old.tails (length rest.now) → IsOk result }
@@ -88,7 +90,6 @@ impl Arena {
     #[inline(always)]
     fn put_tail_next(&mut self, at: u64, rest: &[u8], value: u64) -> Result<u64, AllocError>
         requires text { IsText rest.now }
-        requires short { length rest.now ≤ LONGEST_KEY }
         requires next { at ≡ next_place self.old.tails (length rest.now) }
         ensures place { IfOk result (λ place. place ≡ at) }
         ensures put { OnOk result (IsPut self.old self.new (Tail ((rest.now, value))) at) }
@@ -111,6 +112,7 @@ impl Arena {
             (λ found. IfSome found (λ place. IsAdded self.old self.new key.now place)) }
         ensures first { IfOk result
             (λ found. IfSome found (λ place. beginning (map_of self.old) (piece_of key.now) ≡ 0)) }
+        ensures stays { IfOk result (λ found. IsSome found → StaysLed self.old self.new) }
         ensures open { IfOk result (λ found. found ≡ None → self.new ≡ self.old) }
         ensures refused { OnErr result (IsSame self.old self.new) }
     {
@@ -145,6 +147,7 @@ impl Arena {
             (λ found. IfSome found (λ place. IsAdded self.old self.new key.now place)) }
         ensures first { IfOk result
             (λ found. IfSome found (λ place. beginning (map_of self.old) (piece_of key.now) ≡ 0)) }
+        ensures stays { IfOk result (λ found. IsSome found → StaysLed self.old self.new) }
         ensures open { IfOk result (λ found. found ≡ None → self.new ≡ self.old) }
         ensures refused { OnErr result (IsSame self.old self.new) }
     {
@@ -175,13 +178,14 @@ impl Arena {
     // Adds a key whose way ends at a place without an entry.
     fn fill(&mut self, key: &[u8], place: Place, left: usize) -> Result<Place, AllocError>
         requires is_arena { IsArena self.old }
-        requires is_key { IsStringKey key.now }
+        requires is_key { IsString key.now }
         requires gap { IsGap (world_of self.old) key.now place left }
         requires counted { AreCounted self.old }
         requires led { AllLed (world_of self.old) }
         ensures added { IfOk result (λ made. IsAdded self.old self.new key.now made) }
         ensures counted { IfOk result
             (λ made. AreCountedBut self.new (levels_passed (world_of self.old) key.now)) }
+        ensures stays { OnOk result (StaysLed self.old self.new) }
         ensures refused { OnErr result (IsSame self.old self.new) }
     {
         if left < 8 {
@@ -268,40 +272,75 @@ impl Arena {
         place
     }
 
-    // Puts the bytes of the tail at a place into an empty buffer, and answers its value.
-    fn read_tail(&self, at: u64, key: &mut KeyBuf) -> u64
+    // Writes the bytes of the tail at a place to the front of a buffer where they find room, and answers its value and
+    // how many bytes they are.
+    fn read_tail(&self, at: u64, buffer: &mut [u8]) -> (u64, usize)
         requires tail { (rest : List ℕ × ℕ) × (child_at self.now at ≡ Tail rest)
-            × (length rest.0 ≤ LONGEST_KEY) }
-        requires empty { key.old.items ≡ [] }
-        ensures { child_at self.now at ≡ Tail ((key.new.items, result)) }
+            × (length rest.0 ≤ LONGEST_STRING) }
+        ensures tail { (bytes : List ℕ) × (child_at self.now at ≡ Tail ((bytes, result.0)))
+            × (result.1 ≡ length bytes)
+            × (length bytes ≤ length buffer.old → take result.1 buffer.new ≡ bytes) }
+        ensures room { length buffer.new ≡ length buffer.old }
     {
         match self.child(at) {
             ChildRef::Tail(tail) => {
-                let mut end = KeyEnd::new(key);
-                tail.push_to(&mut end);
-                tail.value()
+                let mut key = KeyFront::new(buffer, 0);
+                tail.push_to(&mut key);
+                (tail.value(), key.len())
             }
             ChildRef::Level(_) => unreachable!(),
         }
     }
 
-    // Adds a key whose way comes to another's tail. It has a buffer, which no other insert is to make room for.
+    // Adds a key whose way comes to another's tail. It has a buffer, which no other insert is to make room for; a tail
+    // that is longer is copied before anything changes.
     #[inline(never)]
     fn split(&mut self, key: &[u8], from: Place, at: u64, left: usize) -> Result<Place, AllocError>
         requires is_arena { IsArena self.old }
-        requires is_key { IsStringKey key.now }
+        requires is_key { IsString key.now }
         requires clash { IsClash (world_of self.old) key.now from at left }
         requires counted { AreCounted self.old }
         requires led { AllLed (world_of self.old) }
         ensures added { IfOk result (λ made. IsAdded self.old self.new key.now made) }
         ensures counted { IfOk result
             (λ made. AreCountedBut self.new (levels_passed (world_of self.old) key.now)) }
+        ensures stays { OnOk result (StaysLed self.old self.new) }
         ensures refused { OnErr result (IsSame self.old self.new) }
     {
-        let mut held = KeyBuf::new();
-        let value = self.read_tail(at, &mut held);
+        let mut buffer = [0; LONGEST_KEY];
+        let (value, len) = self.read_tail(at, &mut buffer);
+        if len <= LONGEST_KEY {
+            return self.split_held(key, from, at, left, &buffer[..len], value);
+        }
+        let mut copy = Vec::from_elem(self.alloc, 0, len)?;
+        self.read_tail(at, &mut copy);
+        self.split_held(key, from, at, left, &copy, value)
+    }
+
+    // The same where the other's bytes are known, and its value.
+    fn split_held(
+        &mut self,
+        key: &[u8],
+        from: Place,
+        at: u64,
+        left: usize,
+        held: &[u8],
+        value: u64,
+    ) -> Result<Place, AllocError>
+        requires is_arena { IsArena self.old }
+        requires is_key { IsString key.now }
+        requires clash { IsClash (world_of self.old) key.now from at left }
+        requires held { child_at self.old at ≡ Tail ((held.now, value)) }
+        requires counted { AreCounted self.old }
+        requires led { AllLed (world_of self.old) }
+        ensures added { IfOk result (λ made. IsAdded self.old self.new key.now made) }
+        ensures counted { IfOk result
+            (λ made. AreCountedBut self.new (levels_passed (world_of self.old) key.now)) }
+        ensures stays { OnOk result (StaysLed self.old self.new) }
+        ensures refused { OnErr result (IsSame self.old self.new) }
+    {
         let rest = &key[key.len() - left..];
-        let mut made = branch_of(self.alloc, held.as_slice(), value, rest)?;
+        let mut made = branch_of(self.alloc, held, value, rest)?;
         self.make_room(made.upper.len() + 1)?;
         self.hang_both(&mut made)?;
         let top = self.graft(from, at, made);
@@ -321,12 +360,13 @@ impl Arena {
         requires is_arena { IsArena self.old }
         requires counted { AreCounted self.old }
         requires led { AllLed (world_of self.old) }
-        requires is_key { IsStringKey key.now }
+        requires is_key { IsString key.now }
         requires way { IsWay self.old key.now way }
         requires new { IsNew way }
         ensures added { IfOk result (λ made. IsAdded self.old self.new key.now made) }
         ensures counted { IfOk result
             (λ made. AreCountedBut self.new (levels_passed (world_of self.old) key.now)) }
+        ensures stays { OnOk result (StaysLed self.old self.new) }
         ensures refused { OnErr result (IsSame self.old self.new) }
     {
         match way {

@@ -15,7 +15,7 @@ use crate::firsts;
 use crate::keys::is_key;
 use crate::passed::{FEW_PIECES, MOST_PIECES, Passed, are_few};
 use crate::pieces::ends_in_zero;
-use judy_sums::Sums;
+use judy_sums::{LevelSums, Sums};
 use std::alloc::Global;
 use std::marker::Model;
 
@@ -28,6 +28,8 @@ pub struct JudySl {
     pub(crate) arena: Arena,
     // How many keys begin with each first piece, less one.
     pub(crate) firsts: Sums,
+    // The same of each next piece behind wide levels below the first.
+    pub(crate) lists: LevelSums,
     // Whether one of the last two inserts put a key in whose first piece led nowhere. The next one is then tried as
     // such a one, which finds its place and puts it in by one way down the first level.
     expects_new: bool,
@@ -44,14 +46,15 @@ impl Model for JudySl {
 
     ghost coded = { array_code (coded_list coded_ℕ) };
 
-    ghost use Rattle.judy_sl.specs.Arenas.{array_of, map_of, IsStrings};
+    ghost use Rattle.judy_sl.specs.Arenas.{array_of, map_of, world_of, IsStrings};
     ghost use Rattle.judy_sl.specs.Counted.{AreCounted};
     ghost use Rattle.judy_sl.specs.Firsts.{AreFirsts};
+    ghost use Rattle.judy_sl.specs.Listed.{AreListed};
 
     ghost view = { λ a. array_of a.limit a.arena };
 
     ghost invariant = { λ a. IsStrings a.limit a.count a.arena × AreCounted a.arena
-        × AreFirsts (map_of a.arena) a.firsts };
+        × AreFirsts (map_of a.arena) a.firsts × AreListed (world_of a.arena) a.lists };
 }
 
 impl JudySl {
@@ -71,6 +74,7 @@ impl JudySl {
             count: 0,
             arena: Arena::new(alloc),
             firsts: Sums::new(alloc),
+            lists: LevelSums::new(alloc),
             expects_new: true,
             added: true,
         }
@@ -84,11 +88,13 @@ impl JudySl {
         ensures { result ≡ array_of limit arena }
     {
         let firsts = Sums::new(arena.alloc);
+        let lists = LevelSums::new(arena.alloc);
         JudySl {
             limit,
             count,
             arena,
             firsts,
+            lists,
             expects_new: true,
             added: true,
         }
@@ -155,6 +161,7 @@ impl JudySl {
                 let made = firsts::insert_counted(
                     &mut self.arena,
                     &mut self.firsts,
+                    &mut self.lists,
                     key,
                     way,
                     passed,
@@ -207,7 +214,7 @@ impl JudySl {
         if !is_key(key) {
             return false;
         }
-        let found = firsts::del(&mut self.arena, &mut self.firsts, key);
+        let found = firsts::del(&mut self.arena, &mut self.firsts, &mut self.lists, key);
         if found {
             self.count -= 1;
             self.give_back();
@@ -257,6 +264,7 @@ impl JudySl {
         let alloc = self.arena.alloc;
         self.arena = Arena::new(alloc);
         self.firsts = Sums::new(alloc);
+        self.lists = LevelSums::new(alloc);
         self.count = 0;
         freed
     }

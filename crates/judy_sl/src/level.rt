@@ -4,6 +4,7 @@ ghost use Rattle.std.specs.Prelude.{◌≡◌, ◌%◌, IfSome, IsSome, length};
 ghost use Rattle.judy_model.specs.Keys.{IsStringKey};
 ghost use Rattle.judy_sl.specs.Arenas.{map_of, IsArena};
 ghost use Rattle.judy_sl.specs.Levels.{IsLevelOf, HasBranch};
+ghost use Rattle.judy_sl.specs.Strings.{IsString};
 
 use crate::arena::Arena;
 use crate::child::ChildRef;
@@ -15,7 +16,7 @@ impl Arena {
     // The level behind the pieces of bytes, eight each.
     fn level(&self, at: &[u8]) -> Option<&WordMap>
         requires is_arena { IsArena self.now }
-        requires is_key { IsStringKey at.now }
+        requires is_key { IsString at.now }
         requires whole { length at.now % 8 ≡ 0 }
         ensures there { HasBranch (map_of self.now) at.now → IsSome result }
         ensures keys { IfSome result (λ level. IsLevelOf (map_of self.now) at.now level.now.map) }
@@ -40,6 +41,7 @@ impl JudySl {
     /// stands what only the array itself can follow. `None` where no level stands there, as where no key, or only one,
     /// begins with `at`; the empty `at` has a level always, and so has one with which two keys begin. (This project's
     /// own.)
+    #[tactic(auto, using(crate::proofs::lemmas::pieces::Strings::string_of_key))]
     pub fn level(&self, at: &[u8]) -> Option<&JudyL>
         requires is_key { IsStringKey at.now }
         requires whole { length at.now % 8 ≡ 0 }

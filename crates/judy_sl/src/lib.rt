@@ -15,8 +15,9 @@
 //! key with its slot; cursor.rt and runs.rt have walks that go from key to key by what a level and the one above it
 //! still have, some of which is read ahead (ahead.rt). counted.rt has how levels come to tell how many keys stand
 //! behind them, by those that a way passes (passed.rt), counts.rt what is counted by that, firsts.rt how many keys
-//! begin with each first piece, and nth.rt which key stands at a place. sorted.rt and planting.rt have arrays made at
-//! once of strings that ascend, kept.rt what every array keeps, and laws.rt laws of pieces.
+//! begin with each first piece, lists.rt the same behind wide levels, and nth.rt which key stands at a place. sorted.rt
+//! and planting.rt have arrays made at once of strings that ascend, kept.rt what every array keeps, and laws.rt laws of
+//! pieces.
 #![tactic(auto)]
 
 mod ahead;
@@ -35,6 +36,7 @@ mod keys;
 pub mod laws;
 mod level;
 mod level_list;
+mod lists;
 mod nearest_slots;
 mod nth;
 mod passed;

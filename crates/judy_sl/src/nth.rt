@@ -1,32 +1,35 @@
-//! Which key stands at a place: the first piece is sought among the first level's by how many keys stand before it, and
-//! behind it each level's entries are read from the nearer end up to the place, unless each has one key behind it.
+//! Which key stands at a place: in a level with a list the piece is sought by how many keys stand before it. Another
+//! level's entries are read from the nearer end up to the place, unless each has one key behind it.
 
 ghost use Rattle.std.specs.Prelude.{◌≡◌, ◌<◌, ◌≤◌, ◌+◌, ◌^◌, ℕ, List, Some, suc, drop, unwrap_or, All};
 ghost use Rattle.std.specs.FinMap as map;
+ghost use Rattle.std.specs.Option.{option_copied};
 ghost use Rattle.judy_model.specs.Counts as counts;
-ghost use Rattle.judy_sl.specs.Arenas.{world_of, map_of, IsArena};
+ghost use Rattle.judy_sl.specs.Arenas.{world_of, map_of, AreShort, IsArena};
 ghost use Rattle.judy_sl.specs.Counted.{LeadsOn, keys_behind, keys_behind_all, AreCounted, StandsWith};
 ghost use Rattle.judy_sl.specs.Firsts.{AreFirsts};
-ghost use Rattle.judy_sl.specs.Nth.{before_entry, KeysFit, IsChosen, AreReadFor, IsSpotIn, IsSpotOf, IsNthBehind};
+ghost use Rattle.judy_sl.specs.Listed.{AreListed, IsListOf};
+ghost use Rattle.judy_sl.specs.Nth.{before_entry, KeysFit, IsChosen, AreReadFor, IsSpotIn, IsSpotOf, IsListedSpot, IsNthBehind};
 ghost use Rattle.judy_tails.specs.Writers.{StaysBeyond, WasGiven};
 ghost use Rattle.judy_sl.specs.Scans.{value_found};
 
 use crate::arena::Arena;
 use crate::child::ChildRef;
+use crate::counts::list_of;
 use crate::judysl::JudySl;
 use crate::keys::KeyBuf;
 use crate::pieces::push_piece;
-use judy_sums::Sums;
+use judy_sums::{LevelSums, Sums};
 use judy_tails::{KeyEnd, KeyWriter};
 use judy_word::{Entries, WordMap};
 
 impl JudySl {
     /// The value of the `n`-th key in ascending order, counted from 1; that key is then in the buffer, whatever was
     /// there before. `None` for 0, and for an `n` above the number of keys (both this project's own), and the buffer
-    /// stays. It asks for no memory. It takes one way down the array: the entry of the first level is sought by halves
-    /// and in proportion, and in each level below the entries up to the key's own are read, from the end that is nearer
-    /// by the keys between, unless one key stands behind each of that level's entries. (This project's own; the manual
-    /// has counts of words alone.)
+    /// stays. It asks for no memory. It takes one way down the array: in a level with a list, as the first and each
+    /// that has come to 65 entries have, unless memory for that was refused, the entry is sought by halves and in
+    /// proportion. In another level the entries up to the key's own are read, from the end that is nearer by the keys
+    /// between, and none where one key stands behind each. (This project's own; the manual has counts of words alone.)
     ///
     /// Of the keys `a`, `ab` and `c`, `by_count(2, &mut key)` puts `ab` into `key`.
     pub fn by_count(&self, n: u64, key: &mut KeyBuf) -> Option<u64>
@@ -36,14 +39,14 @@ impl JudySl {
         if n == 0 || n > self.len() {
             return None;
         }
-        self.arena.nth(&self.firsts, n - 1, key)
+        self.arena.nth(&self.firsts, &self.lists, n - 1, key)
     }
 }
 
 // How many entries of a level are read at a time. It isn't known how many will be needed.
 const PAGE: usize = 32;
 
-// A place among the entries of the first level, and what stands before the entry there.
+// A place among the entries of a level, and what stands before the entry there.
 #[derive(Clone, Copy)]
 struct Mark {
     place: u64,
@@ -81,7 +84,7 @@ fn between(low: Mark, high: Mark, most: u64, turn: u64) -> u64
     }
 }
 
-// What stands before the entry at a place of the first level: the entries before it, and what the list holds below its
+// What stands before the entry at a place of a level: the entries before it, and what the level's list holds below its
 // word.
 fn before_entry(level: &WordMap, firsts: &Sums, place: u64) -> u64
     requires within { place < map.len level.now.map }
@@ -94,7 +97,7 @@ fn before_entry(level: &WordMap, firsts: &Sums, place: u64) -> u64
     place + firsts.below(piece)
 }
 
-// The last entry of the first level before which at most so much stands.
+// The last entry of a level before which at most so much stands.
 fn chosen(level: &WordMap, firsts: &Sums, most: u64) -> Mark
     requires some { 1 ≤ map.len level.now.map }
     requires first { before_entry level.now.map firsts.now 0 ≡ 0 }
@@ -140,6 +143,19 @@ fn entry_spot(level: &WordMap, entry: u64, place: u64) -> EntryPlace
         value,
         place,
     }
+}
+
+// The entry of a level with a list behind which the key at a place stands.
+fn listed_spot(level: &WordMap, list: &Sums, place: u64) -> EntryPlace
+    requires some { 1 ≤ map.len level.now.map }
+    requires few { map.len level.now.map ≤ 4294967295 }
+    requires first { before_entry level.now.map list.now 0 ≡ 0 }
+    requires fits { (at : ℕ) → at < map.len level.now.map
+        → before_entry level.now.map list.now at ≤ 4294967295 }
+    ensures { IsListedSpot level.now.map list.now place result }
+{
+    let mark = chosen(level, list, place);
+    entry_spot(level, mark.place, place - mark.before)
 }
 
 // The entries of a level from a place on.
@@ -227,13 +243,14 @@ impl Arena {
     }
 
     // The entry of a level behind which the key at a place stands. The level tells how many keys stand behind it: where
-    // they are as many as its entries, each entry has one, and the place is the entry's own. Where there is one entry,
-    // all stand behind it. Else the entries are read, from the end where the place is in the upper half of the keys,
-    // unless they are one page.
-    fn spot_at(&self, level: &WordMap, keys: u32, place: u64) -> EntryPlace
+    // they are as many as its entries, each entry has one, and the place is the entry's own. Where the level has a list
+    // the entry is sought by that, and where there is one entry, all stand behind it. Else the entries are read, from
+    // the end where the place is in the upper half of the keys, unless they are one page.
+    fn spot_at(&self, level: &WordMap, keys: u32, list: Option<&Sums>, place: u64) -> EntryPlace
         requires is_arena { IsArena self.now }
         requires counted { AreCounted self.now }
         requires told { StandsWith (world_of self.now) level.now.map keys }
+        requires list { IsListOf (world_of self.now) level.now.map (option_copied list) }
         requires within { place < keys_behind_all (world_of self.now) (map.entries level.now.map) }
         ensures { IsSpotOf (world_of self.now) level.now.map place result }
     {
@@ -241,6 +258,9 @@ impl Arena {
         let keys = u64::from(keys);
         if keys == entries {
             return entry_spot(level, place, 0);
+        }
+        if let Some(list) = list {
+            return listed_spot(level, list, place);
         }
         if entries == 1 {
             return entry_spot(level, 0, place);
@@ -254,9 +274,16 @@ impl Arena {
 
     // Puts what is left of the key at a place behind a child, counted from 0, behind the bytes that a writer has, and
     // answers its value.
-    fn nth_behind<K: KeyWriter>(&self, child: u64, place: u64, key: &mut K) -> Option<u64>
+    fn nth_behind<K: KeyWriter>(
+        &self,
+        lists: &LevelSums,
+        child: u64,
+        place: u64,
+        key: &mut K,
+    ) -> Option<u64>
         requires is_arena { IsArena self.now }
         requires counted { AreCounted self.now }
+        requires listed { AreListed (world_of self.now) lists.now }
         requires within { place < keys_behind (world_of self.now) (suc child) }
         requires begun { (before : List ℕ) × KeysFit (world_of self.now) (suc child) before
             × K.has key.old before }
@@ -271,7 +298,8 @@ impl Arena {
         'down: loop {
             match self.child(at) {
                 ChildRef::Level(level) => {
-                    let spot = self.spot_at(level, self.keys_told(at), left);
+                    let list = list_of(lists, at);
+                    let spot = self.spot_at(level, self.keys_told(at), list, left);
                     push_piece(key, spot.piece);
                     if spot.piece % 256 == 0 {
                         return Some(spot.value);
@@ -288,9 +316,11 @@ impl Arena {
     }
 
     // Puts the key at a place, counted from 0, into the buffer, and answers its value.
-    fn nth(&self, firsts: &Sums, place: u64, key: &mut KeyBuf) -> Option<u64>
+    fn nth(&self, firsts: &Sums, lists: &LevelSums, place: u64, key: &mut KeyBuf) -> Option<u64>
         requires is_arena { IsArena self.now }
+        requires short { AreShort (map_of self.now) }
         requires counted { AreCounted self.now }
+        requires listed { AreListed (world_of self.now) lists.now }
         requires firsts { AreFirsts (map_of self.now) firsts.now }
         requires few { map.len (map_of self.now) ≤ 4294967295 }
         requires within { place < map.len (map_of self.now) }
@@ -307,6 +337,6 @@ impl Arena {
         if piece % 256 == 0 {
             return Some(value);
         }
-        self.nth_behind(value, place - mark.before, &mut end)
+        self.nth_behind(lists, value, place - mark.before, &mut end)
     }
 }

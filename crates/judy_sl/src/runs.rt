@@ -1,11 +1,12 @@
 //! The entries of a level that are still to come, and the levels above it, by which a walk goes from key to key without
 //! a way down from the first level for each.
 
-ghost use Rattle.std.specs.Prelude.{◌≡◌, ℕ, List, IsTrue, IfSome, None, false, drop, All};
+ghost use Rattle.std.specs.Prelude.{◌≡◌, ◌≤◌, ℕ, List, IsTrue, IfSome, None, false, drop, All, length};
 ghost use Rattle.std.specs.FinMap.{contains_key, entries};
 ghost use Rattle.judy_model.specs.Counts.{rank};
+ghost use Rattle.judy_model.specs.declared.keys.TheConstants.{LONGEST_KEY};
 ghost use Rattle.judy_sl.specs.Pieces.{IsText};
-ghost use Rattle.judy_sl.specs.Arenas.{world_of, IsArena};
+ghost use Rattle.judy_sl.specs.Arenas.{world_of, map_of, AreShort, IsArena};
 ghost use Rattle.judy_sl.specs.Counted.{LeadsOn};
 ghost use Rattle.judy_sl.specs.Runs.{AreBeyond, RunLeads, last_run, IsNextEntry, Stands, HasLevel, IsLevelBehind, IsAbove, IsClimbed, IsBegunAbove};
 ghost use Rattle.judy_tails.specs.Writers.{WasGiven};
@@ -84,6 +85,7 @@ impl Arena {
     // The level behind so many bytes of a key; the levels above it are kept.
     fn level_behind<'a>(&'a self, key: &[u8], depth: usize, above: &mut Levels<'a>) -> &'a WordMap
         requires is_arena { IsArena self.now }
+        requires short { length key.now ≤ LONGEST_KEY }
         requires leads { HasLevel (world_of self.now) key.now depth }
         ensures { IsLevelBehind (world_of self.now) key.now depth above.new.items result.now.map }
     {
@@ -118,6 +120,7 @@ impl Arena {
         key: &mut K,
     ) -> Option<u64>
         requires is_arena { IsArena self.now }
+        requires short { AreShort (map_of self.now) }
         requires begun { (from : List ℕ) × IsBegunAbove itself
             (world_of self.now) entry above.old.items run.old K.has key.old from }
         ensures { (from : List ℕ) → IsBegunAbove itself
@@ -207,6 +210,7 @@ impl Arena {
         key: &mut KeyRoom,
     ) -> Option<u64>
         requires is_arena { IsArena self.now }
+        requires short { AreShort (map_of self.now) }
         requires whole { IsWhole key.old }
         requires is_text { IsText (bytes_in key.old) }
         requires leads { RunLeads
@@ -235,6 +239,7 @@ impl Arena {
         key: &mut KeyRoom,
     ) -> Option<u64>
         requires is_arena { IsArena self.now }
+        requires short { AreShort (map_of self.now) }
         requires whole { IsWhole key.old }
         requires is_text { IsText (bytes_in key.old) }
         requires leads { RunLeads

@@ -9,7 +9,7 @@ ghost use Rattle.judy_model.specs.Neighbours as neighbours;
 ghost use Rattle.judy_model.specs.declared.keys.TheConstants.{LONGEST_KEY};
 ghost use Rattle.judy_tails.specs.Writers.{StaysBeyond, WasGiven};
 ghost use Rattle.judy_sl.specs.Pieces.{IsText};
-ghost use Rattle.judy_sl.specs.Arenas.{world_of, map_of, IsArena};
+ghost use Rattle.judy_sl.specs.Arenas.{world_of, map_of, AreWithin, AreShort, IsArena};
 ghost use Rattle.judy_sl.specs.Scans.{look_to, upward, is_beyond, along_bytes, IsNearestEntry, IsFirstEntry, piece_in, IsEntryOf, turn_or, neighbour_along, value_found, value_in, StandsAt, IsTurn, IsTurnOf, IsBegun, IsScanned, nearest_key, IsFront};
 
 use crate::arena::{Arena, Place, place_in};
@@ -175,6 +175,7 @@ impl Arena {
     // buffer stays.
     fn neighbour(&self, look: Look, key: &mut KeyBuf) -> Option<u64>
         requires is_arena { IsArena self.now }
+        requires short { AreShort (map_of self.now) }
         requires without_zero { All (λ byte. byte ≢ 0) key.old.items }
         ensures key { key.new.items ≡ nearest_key look (map_of self.now) key.old.items }
         ensures value { result
@@ -190,11 +191,11 @@ impl Arena {
         }
     }
 
-    // The same at the front of a buffer that has room for any key, where the key has so many bytes, with the place at
+    // The same at the front of a buffer that has room for each key, where the key has so many bytes, with the place at
     // which the neighbour stands; behind it the buffer stays.
     pub fn nearest_in(&self, look: Look, buffer: &mut [u8], len: &mut usize) -> Option<Scanned>
         requires is_arena { IsArena self.now }
-        requires room { LONGEST_KEY ≤ length buffer.old }
+        requires room { AreWithin (length buffer.old) (map_of self.now) }
         requires inside { len.old ≤ length buffer.old }
         requires without_zero { All (λ byte. byte ≢ 0) (take len.old buffer.old) }
         ensures key { IsFront (nearest_key look (map_of self.now) (take len.old buffer.old))

@@ -1,9 +1,8 @@
 //! How an arena loses a key: the entry at which its way leaves that of every other key is taken out, and what stands
 //! below it is given back. None of this asks for memory.
 
-ghost use Rattle.std.specs.Prelude.{◌≡◌, ◌+◌, ◌*◌, ◌<◌, ◌≤◌, [], length, is_some, IsSome, IfSome};
+ghost use Rattle.std.specs.Prelude.{◌≡◌, ◌+◌, ◌*◌, ◌<◌, ◌≤◌, [], length, is_some, IsSome, IsNone, IfSome};
 ghost use Rattle.std.specs.FinMap.{get};
-ghost use Rattle.judy_model.specs.Keys.{IsStringKey};
 ghost use Rattle.judy_sl.specs.Pieces.{pieces, piece_of, IsText};
 ghost use Rattle.judy_sl.specs.World.{lookup};
 ghost use Rattle.judy_sl.specs.WorldInvariants.{AllLed};
@@ -12,11 +11,13 @@ ghost use Rattle.judy_sl.specs.Arenas.{world_of, child_at, IsArena};
 ghost use Rattle.judy_sl.specs.Places.{IsLevelPlace};
 ghost use Rattle.judy_sl.specs.Ways.{levels_passed};
 ghost use Rattle.judy_sl.specs.Counted.{AreCounted};
+ghost use Rattle.judy_sl.specs.Listed.{AreLeft};
 ghost use Rattle.judy_sl.specs.Shrunk.{place_without, IsVacated, IsCut, IsDeeper, IsOrphan, IsCleared, IsShrunk};
+ghost use Rattle.judy_sl.specs.Strings.{IsString};
 
 use crate::arena::{Arena, Place, place_in};
 use crate::child::{ChildRef, is_level};
-use crate::passed::{FEW_PIECES, MOST_PIECES, Notes, Passed, are_few};
+use crate::passed::{MOST_PIECES, Notes, Passed};
 use crate::pieces::first_piece;
 use judy_word::WordMap;
 
@@ -46,7 +47,7 @@ impl Arena {
     // Where the key is cut off, and `None` where it isn't there. The levels that its way passes are noted.
     fn find_cut<const N: usize>(&self, key: &[u8], passed: &mut Passed<N>) -> Option<Cut>
         requires is_arena { IsArena self.now }
-        requires is_key { IsStringKey key.now }
+        requires is_key { IsString key.now }
         requires few { length key.now < 8 * N + 8 }
         requires begins { passed.old.items ≡ [] }
         ensures cut { IsCut (world_of self.now) key.now result }
@@ -143,41 +144,24 @@ impl Arena {
 
     // Takes a key out, and answers whether others begin with its first piece; `None` where it wasn't there. No level is
     // left empty but the first, and each place that becomes free is used again. The levels that stay on its way count
-    // it no more.
-    pub fn del(&mut self, key: &[u8]) -> Option<bool>
-        requires is_arena { IsArena self.old }
-        requires counted { AreCounted self.old }
-        requires led { AllLed (world_of self.old) }
-        requires is_key { IsStringKey key.now }
-        ensures answer { is_some result ≡ is_some (lookup (world_of self.old) 0 (pieces key.now)) }
-        ensures shrunk { IsShrunk self.old self.new key.now }
-        ensures beside { IfSome result
-            (λ beside. beside ≡ is_some (get self.new.root.map (piece_of key.now))) }
-        ensures counted { AreCounted self.new }
-    {
-        if are_few(key) {
-            self.del_noted::<FEW_PIECES>(key)
-        } else {
-            self.del_noted::<MOST_PIECES>(key)
-        }
-    }
-
-    // The same, where so many levels at most are on the key's way.
-    fn del_noted<const N: usize>(&mut self, key: &[u8]) -> Option<bool>
+    // it no more; they are noted.
+    pub fn del<const N: usize>(&mut self, key: &[u8], passed: &mut Passed<N>) -> Option<bool>
         requires most { N ≤ MOST_PIECES }
         requires is_arena { IsArena self.old }
         requires counted { AreCounted self.old }
         requires led { AllLed (world_of self.old) }
-        requires is_key { IsStringKey key.now }
+        requires is_key { IsString key.now }
         requires few { length key.now < 8 * N + 8 }
+        requires begins { passed.old.items ≡ [] }
         ensures answer { is_some result ≡ is_some (lookup (world_of self.old) 0 (pieces key.now)) }
         ensures shrunk { IsShrunk self.old self.new key.now }
         ensures beside { IfSome result
             (λ beside. beside ≡ is_some (get self.new.root.map (piece_of key.now))) }
         ensures counted { AreCounted self.new }
+        ensures left { IsSome result → AreLeft self.old self.new key.now passed.new.items }
+        ensures unchanged { IsNone result → self.new ≡ self.old }
     {
-        let mut passed = Passed::<N>::new();
-        let Some(cut) = self.find_cut(key, &mut passed) else {
+        let Some(cut) = self.find_cut(key, passed) else {
             return None;
         };
         passed.truncate(cut.depth);

@@ -2,3 +2,4 @@ pub mod Pairs
 pub mod Chunks
 pub mod Levels
 pub mod Laws
+pub mod Listed

@@ -30,34 +30,34 @@ fn part_long(chunks: &mut Vec<Chunk>, at: usize)
     let _ = part(chunks, at);
 }
 
-// The first word of a list comes in with the number 1. The error is want of memory, and the list stays
-// then.
-pub fn begin(chunks: &mut Vec<Chunk>, word: u64) -> Result<(), AllocError>
-    requires { chunks.old.items ≡ [] }
+// The first word of a list comes in. The error is want of memory, and the list stays then.
+pub fn begin(chunks: &mut Vec<Chunk>, entry: Entry) -> Result<(), AllocError>
+    requires empty { chunks.old.items ≡ [] }
+    requires fits { entry.1 < 2 ^ 64 }
     ensures are { AreChunks chunks.new.items }
     ensures inserted { OnOk result
-        (joined chunks.new.items ≡ put word_order word 1 (joined chunks.old.items)) }
+        (joined chunks.new.items ≡ put word_order entry.0 entry.1 (joined chunks.old.items)) }
     ensures unchanged { OnErr result (joined chunks.new.items ≡ joined chunks.old.items) }
 {
     let alloc = *chunks.allocator();
-    let chunk = Chunk::of(alloc, Entry::new(word))?;
+    let chunk = Chunk::of(alloc, entry)?;
     chunks.push(chunk)?;
     Ok(())
 }
 
-// A new word comes in with the number 1. The error is want of memory, and the list stays then.
-pub fn bring_in(chunks: &mut Vec<Chunk>, word: u64, spot: Spot) -> Result<(), AllocError>
+// A new word comes in. The error is want of memory, and the list stays then.
+pub fn bring_in(chunks: &mut Vec<Chunk>, entry: Entry, spot: Spot) -> Result<(), AllocError>
     requires are { AreChunks chunks.old.items }
-    requires place { IsSpot chunks.old.items word spot.chunk spot.at }
-    requires new { find word_order word (joined chunks.old.items) ≡ None }
+    requires place { IsSpot chunks.old.items entry.0 spot.chunk spot.at }
+    requires new { find word_order entry.0 (joined chunks.old.items) ≡ None }
     requires few { length (joined chunks.old.items) + 1 < 2 ^ 64 }
-    requires fits { sum_of (joined chunks.old.items) + 1 < 2 ^ 64 }
+    requires fits { sum_of (joined chunks.old.items) + entry.1 < 2 ^ 64 }
     ensures are { AreChunks chunks.new.items }
     ensures inserted { OnOk result
-        (joined chunks.new.items ≡ put word_order word 1 (joined chunks.old.items)) }
+        (joined chunks.new.items ≡ put word_order entry.0 entry.1 (joined chunks.old.items)) }
     ensures unchanged { OnErr result (joined chunks.new.items ≡ joined chunks.old.items) }
 {
-    insert(chunks, spot, Entry::new(word))?;
+    insert(chunks, spot, entry)?;
     part_long(chunks, spot.chunk);
     Ok(())
 }

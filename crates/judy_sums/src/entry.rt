@@ -20,11 +20,11 @@ impl Model for Entry {
 }
 
 impl Entry {
-    // A word with the number 1.
-    pub fn new(word: u64) -> Entry
-        ensures { result ≡ (word, 1) }
+    // A word with a number.
+    pub fn new(word: u64, number: u64) -> Entry
+        ensures { result ≡ (word, number) }
     {
-        Entry { word, number: 1 }
+        Entry { word, number }
     }
 
     // Its word.

@@ -1,6 +1,6 @@
 //! One more and one less at a word of a list.
 
-ghost use Rattle.std.specs.Prelude.{◌≡◌, ◌<◌, ◌≤◌, ◌+◌, ◌^◌, length, OnOk, OnErr, IsOk, IsSome};
+ghost use Rattle.std.specs.Prelude.{◌≡◌, ◌<◌, ◌≤◌, ◌+◌, ◌^◌, length, OnOk, OnErr, IsOk, IsSome, None, is_some};
 ghost use Rattle.std.specs.FinMap.{find, put};
 ghost use Rattle.judy_model.specs.Keys.{word_order};
 ghost use Rattle.judy_sums.specs.Pairs.{sum_of, number_in, put_less};
@@ -10,6 +10,7 @@ use crate::changes;
 use crate::chunk::Chunk;
 use crate::chunks::{Spot, number, spot_of, stands};
 use crate::comings::{begin, bring_in};
+use crate::entry::Entry;
 use std::alloc::AllocError;
 
 // Adds one to the number of a word. The error is want of memory, for a word that isn't there.
@@ -24,14 +25,43 @@ pub fn raise(chunks: &mut Vec<Chunk>, word: u64) -> Result<(), AllocError>
     ensures there { IsSome (find word_order word (joined chunks.old.items)) → IsOk result }
 {
     if chunks.is_empty() {
-        return begin(chunks, word);
+        return begin(chunks, Entry::new(word, 1));
     }
     let spot = spot_of(chunks, word);
     if stands(chunks, word, spot) {
         changes::raise(chunks, spot);
         return Ok(());
     }
-    bring_in(chunks, word, spot)
+    bring_in(chunks, Entry::new(word, 1), spot)
+}
+
+// Brings in a word that isn't there, with a number. The error is want of memory, and the list stays then.
+pub fn add(chunks: &mut Vec<Chunk>, word: u64, number: u64) -> Result<(), AllocError>
+    requires are { AreChunks chunks.old.items }
+    requires new { find word_order word (joined chunks.old.items) ≡ None }
+    requires few { length (joined chunks.old.items) + 1 < 2 ^ 64 }
+    requires fits { sum_of (joined chunks.old.items) + number < 2 ^ 64 }
+    ensures are { AreChunks chunks.new.items }
+    ensures added { OnOk result
+        (joined chunks.new.items ≡ put word_order word number (joined chunks.old.items)) }
+    ensures unchanged { OnErr result (joined chunks.new.items ≡ joined chunks.old.items) }
+{
+    if chunks.is_empty() {
+        return begin(chunks, Entry::new(word, number));
+    }
+    let place = spot_of(chunks, word);
+    bring_in(chunks, Entry::new(word, number), place)
+}
+
+// Whether a word is there.
+pub fn holds(chunks: &[Chunk], word: u64) -> bool
+    requires { AreChunks chunks.now }
+    ensures { result ≡ is_some (find word_order word (joined chunks.now)) }
+{
+    if chunks.is_empty() {
+        return false;
+    }
+    stands(chunks, word, spot_of(chunks, word))
 }
 
 // The place of a word that is there.

@@ -60,6 +60,24 @@ impl Sums {
         steps::raise(&mut self.chunks, word)
     }
 
+    /// Brings in a word that isn't there, with a number. The error is want of memory, and leaves the list as it was.
+    pub fn add(&mut self, word: u64, number: u64) -> Result<(), AllocError>
+        requires absent { map.get self.old word ≡ None }
+        requires few { map.len self.old + 1 < 2 ^ 64 }
+        requires fits { sum_of (map.entries self.old) + number < 2 ^ 64 }
+        ensures added { OnOk result (self.new ≡ map.insert self.old word number) }
+        ensures unchanged { OnErr result (self.new ≡ self.old) }
+    {
+        steps::add(&mut self.chunks, word, number)
+    }
+
+    /// Whether a word is there.
+    pub fn holds(&self, word: u64) -> bool
+        ensures { result ≡ map.contains_key self.now word }
+    {
+        steps::holds(&self.chunks, word)
+    }
+
     /// Takes one from the number of a word that is there, which is 1 or more; with its last one the word goes. It asks
     /// for no memory.
     pub fn lower(&mut self, word: u64)

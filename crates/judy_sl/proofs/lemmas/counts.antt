@@ -11,6 +11,13 @@ pub mod KeysTold
 pub mod EntryCounts
 pub mod LevelRanks
 pub mod FirstSums
+pub mod ListedLevels
+pub mod LedLevels
+pub mod ListChanges
+pub mod ListWays
+pub mod ListLost
+pub mod ListSteps
+pub mod ListPages
 pub mod RankCounts
 pub mod LoneKeys
 pub mod CountWays
@@ -21,3 +28,4 @@ pub mod CountedKeys
 pub mod Beginnings
 pub mod FirstWays
 pub mod CountedWrites
+pub mod ListWrites

@@ -7,3 +7,4 @@ pub mod Branching
 pub mod Exact
 pub mod Looked
 pub mod ZeroLemmas
+pub mod Strings

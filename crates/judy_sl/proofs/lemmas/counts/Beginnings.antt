@@ -56,6 +56,10 @@ beginning_new all key value none piece =
 one_itself : (word : ℕ) → one_if (word == word) ≡ 1
 one_itself word = ap (λ b. one_if b) (eq-eqb word word refl)
 
+-- So it is with its own.
+pub beginning_itself : (all : FinMap byte_order ℕ) (key : List ℕ) (value : ℕ) → get all key ≡ None → beginning (insert all key value) (piece_of key) ≡ beginning all (piece_of key) + 1
+beginning_itself all key value none = let new = beginning_new all key value none (piece_of key) in let one = one_itself (piece_of key) in omega arith
+
 one_apart : (word other : ℕ) → other ≢ word → one_if (word == other) ≡ 0
 one_apart word other apart = ap (λ b. one_if b) (ne_eqb word other (λ same. apart (sym same)))
 

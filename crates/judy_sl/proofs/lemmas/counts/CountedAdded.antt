@@ -1,7 +1,7 @@
 -- What levels tell of the keys behind them where one key more has come in.
 use Rattle.std.proofs.Common.{◌≡◌, ◌≢◌, ℕ, suc, List, ◌∷◌, ◌++◌, None, Some, ◌⊎◌, inl, inr, refl, sym, ap, subst, ◌∙◌}
 use Rattle.std.specs.FinMap.{FinMap}
-use Rattle.judy_model.specs.Keys.{word_order, IsStringKey}
+use Rattle.judy_model.specs.Keys.{word_order}
 use Rattle.judy_model.specs.Arrays.{ArrayOf}
 use Rattle.judy_sl.specs.Children.{Child, Free, Tail, Level, IsLevelChild}
 use Rattle.judy_sl.specs.declared.arena.Arena.{Arena}
@@ -12,20 +12,17 @@ use Rattle.judy_sl.specs.Arenas.{world_of, node_of, child_at, IsArena}
 use Rattle.judy_sl.specs.Ways.{levels_passed}
 use Rattle.judy_sl.specs.Counted.{keys_behind, LevelTells, Same, OneLess, AreCounted, IsAmong, AreCountedBut}
 use Rattle.judy_sl.specs.Grown.{IsChange}
+use Rattle.judy_sl.specs.Listed.{StaysLed}
 use Rattle.judy_sl.proofs.lemmas.counts.PassedLevels.{IsPassed, once-passed, among-way, way-among}
 use Rattle.judy_sl.proofs.lemmas.counts.KeptLevels.{IsReached, all-reached, reached-once}
 use Rattle.judy_sl.proofs.lemmas.counts.KeysBehind.{keys-reached, keys-stay, keys-come}
+use Rattle.judy_sl.specs.Strings.{IsString}
 
 -- A level was one before, and told the same number.
 abbrev pub LevelWas : Arena → ℕ → Child → Type 0
 LevelWas before at Free = Unit {0}
 LevelWas before at (Tail rest) = Unit {0}
 LevelWas before at (Level told words) = (was : ArrayOf word_order) × (child_at before at ≡ Level told was)
-
--- A level that was there stays one, and the pieces that lead to it still lead there.
-abbrev pub StaysLed : Arena → Arena → Type 0
-StaysLed before after = (at told : ℕ) (was : ArrayOf word_order) → child_at before at ≡ Level told was →
-    IsLevelChild (child_at after at) × ((front : List ℕ) → AreInner front → walk (world_of before) 0 front ≡ Some (suc at) → walk (world_of after) 0 front ≡ Some (suc at))
 
 -- A level that is new tells two keys, and there are two: the one whose tail stood there, and one that has come in.
 pub record IsNewLevel (before after : Arena) (at told : ℕ) : Type 0 where
@@ -50,7 +47,7 @@ level-told Free map is = absurd (cc)
 level-told (Tail rest) map is = absurd (cc)
 level-told (Level told words) map is = (told, words, refl)
 
-module _ (before after : Arena) (is : IsArena before) (is_after : IsArena after) (led : AllLed (world_of before)) (counted : AreCounted before) (key : List ℕ) (is_key : IsStringKey key)
+module _ (before after : Arena) (is : IsArena before) (is_after : IsArena after) (led : AllLed (world_of before)) (counted : AreCounted before) (key : List ℕ) (is_key : IsString key)
     (value : ℕ) (change : IsChange (world_of before) (world_of after) (pieces key) (Some value)) (none : lookup (world_of before) 0 (pieces key) ≡ None) (stays : StaysLed before after) where
   -- A level that was there.
   module _ (at told : ℕ) (was : ArrayOf word_order) (was_is : child_at before at ≡ Level told was) where

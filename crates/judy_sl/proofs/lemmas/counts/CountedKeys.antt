@@ -1,7 +1,7 @@
 -- An insert or a delete, and then the count of its key.
 use Rattle.std.proofs.Common.{◌≡◌, ℕ, ◌+◌, ◌<◌, ◌≤◌, Bool, true, false, cond, List, is_some, None, Some, sym, ap, subst, ◌∙◌, arith}
 use Rattle.std.specs.FinMap.{FinMap, get, len, len-insert}
-use Rattle.judy_model.specs.Keys.{byte_order, IsStringKey}
+use Rattle.judy_model.specs.Keys.{byte_order}
 use Rattle.judy_model.proofs.lemmas.maps.TableLemmas.{byte_order_total}
 use Rattle.judy_sl.specs.declared.arena.Arena.{Arena}
 use Rattle.judy_sl.specs.declared.arena.Place.{Place}
@@ -13,6 +13,7 @@ use Rattle.judy_sl.specs.Ways.{IsFound}
 use Rattle.judy_sl.specs.Grown.{IsChange, IsAdded}
 use Rattle.judy_sl.specs.Shrunk.{IsShrunk}
 use Rattle.judy_sl.proofs.lemmas.seats.Maps.{map_written}
+use Rattle.judy_sl.specs.Strings.{IsString}
 
 -- ---- how many keys there are
 
@@ -21,7 +22,7 @@ at-most true count most few = omega (arith, few)
 at-most false count most few = omega (arith, few)
 
 -- An insert makes one more at most.
-pub few-more : (before after : Arena) (key : List ℕ) (place : Place) (most : ℕ) → IsStringKey key → IsAdded before after key place → len (map_of before) < most → len (map_of after) ≤ most
+pub few-more : (before after : Arena) (key : List ℕ) (place : Place) (most : ℕ) → IsString key → IsAdded before after key place → len (map_of before) < most → len (map_of after) ≤ most
 few-more before after key place most is_key added few =
     let more = ap (λ (m : FinMap byte_order ℕ). len m) (map_written before after key is_key 0 added.change) ∙ len-insert byte_order_total (map_of before) key 0 in
     subst (λ n. n ≤ most) (sym more) (at-most (is_some (get (map_of before) key)) (len (map_of before)) most few)

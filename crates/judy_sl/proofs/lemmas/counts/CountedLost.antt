@@ -7,7 +7,7 @@ use Rattle.std.proofs.lemmas.Option.{none-some, same_Some}
 use Rattle.std.proofs.lemmas.Cmp.{nat_cmp_total}
 use Rattle.std.specs.Ordering.{eq_by_cmp}
 use Rattle.std.specs.FinMap.{FinMap, get, remove, get-remove}
-use Rattle.judy_model.specs.Keys.{word_order, IsStringKey}
+use Rattle.judy_model.specs.Keys.{word_order}
 use Rattle.judy_model.specs.Arrays.{ArrayOf}
 use Rattle.judy_sl.specs.Children.{Child, Free, Tail, Level}
 use Rattle.judy_sl.specs.declared.arena.Arena.{Arena}
@@ -23,6 +23,7 @@ use Rattle.judy_sl.specs.Ways.{seat_of, piece_at, levels_passed}
 use Rattle.judy_sl.specs.Counted.{keys_behind, LevelTells, Same, OneLess, AreCounted, IsAmong, AreCountedBut}
 use Rattle.judy_sl.specs.Grown.{IsChange}
 use Rattle.judy_sl.specs.Shrunk.{child_without, place_without, IsCutWhere, IsLeft, IsShrunk}
+use Rattle.judy_sl.specs.Listed.{StaysLed}
 use Rattle.judy_sl.proofs.lemmas.pieces.Ways.{step-parts}
 use Rattle.judy_sl.proofs.lemmas.seats.Seats.{cond-same}
 use Rattle.judy_sl.proofs.lemmas.seats.Led.{KeepsEntries, keeps-same, keeps-then}
@@ -34,11 +35,13 @@ use Rattle.judy_sl.proofs.lemmas.counts.KeptLevels.{IsReached, all-reached, reac
 use Rattle.judy_sl.proofs.lemmas.counts.KeysBehind.{keys_after, keys-reached, keys-stay, keys-come}
 use Rattle.judy_sl.proofs.lemmas.counts.PassedLevels.{IsPassed, among-front, among-way, way-first}
 use Rattle.judy_sl.proofs.lemmas.counts.Stepping.{among-cases}
+use Rattle.judy_sl.proofs.lemmas.counts.LedLevels.{stays_kept}
+use Rattle.judy_sl.specs.Strings.{IsString}
 
 -- ---- the numbers
 
 module _ (before after : Arena) (is : IsArena before) (is_after : IsArena after) (led : AllLed (world_of after)) (places : List ℕ) (counted : AreCountedBut before places)
-    (key : List ℕ) (is_key : IsStringKey key) (value : ℕ) (change : IsChange (world_of after) (world_of before) (pieces key) (Some value))
+    (key : List ℕ) (is_key : IsString key) (value : ℕ) (change : IsChange (world_of after) (world_of before) (pieces key) (Some value))
     (none : lookup (world_of after) 0 (pieces key) ≡ None) (keeps : (seat : ℕ) → KeepsEntries (world_of after seat) (world_of before seat)) where
   -- A level that was there with the same number.
   module _ (at told : ℕ) (words was : ArrayOf word_order) (level_is : child_at after at ≡ Level told words) (was_is : child_at before at ≡ Level told was) where
@@ -209,7 +212,7 @@ walk-split world seat (piece ∷ front) more end way =
     let on = walk-split world (suc step.found) front more end step.goes in
     (on.0, ap (λ node. step_node node piece (λ found. walk world (suc found) front)) step.is ∙ ap (λ found. step_entry found (λ to. walk world (suc to) front)) step.entry ∙ on.1, on.2)
 
-module _ (before mid after : Arena) (is : IsArena before) (key : List ℕ) (is_key : IsStringKey key) (cut : Cut) (cut_is : IsCutWhere (Unit {0}) (world_of before) key cut)
+module _ (before mid after : Arena) (is : IsArena before) (key : List ℕ) (is_key : IsString key) (cut : Cut) (cut_is : IsCutWhere (Unit {0}) (world_of before) key cut)
     (mid_is : mid ≡ place_without before cut.place) (left : IsLeft mid after) where
   abbrev above : List ℕ
   above = cut_is.leads.front
@@ -264,6 +267,10 @@ module _ (before mid after : Arena) (is : IsArena before) (key : List ℕ) (is_k
 
   keeps-all : (seat : ℕ) → KeepsEntries (world_of after seat) (world_of before seat)
   keeps-all seat = keeps-then (world_of after seat) (world_of mid seat) (world_of before seat) (left-keeps mid after left seat) (keeps-out seat)
+
+  -- Each level that is left stood there, reached by the same pieces.
+  pub lost-stays : StaysLed after before
+  lost-stays = stays_kept after before keeps-all
 
   -- It is one of those that the way had passed there.
   pub left-among : (at : ℕ) (map : FinMap word_order ℕ) (front rest : List ℕ) → world_of after (suc at) ≡ level map → AreInner front → walk (world_of after) 0 front ≡ Some (suc at) →

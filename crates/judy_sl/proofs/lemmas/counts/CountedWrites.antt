@@ -6,10 +6,10 @@ use Rattle.std.specs.FinMap.{FinMap, get, insert, contains_key, contains_key-key
 use Rattle.std.proofs.lemmas.Bool.{cases_eq}
 use Rattle.std.proofs.lemmas.Map.Keys.{IsDistinct-from_sorted}
 use Rattle.std.proofs.lemmas.Map.Made.{length-from_same_keys}
-use Rattle.judy_model.specs.Keys.{word_order, byte_order, IsStringKey}
-use Rattle.judy_model.specs.Tables.{table, string_keys}
+use Rattle.judy_model.specs.Keys.{word_order, byte_order}
+use Rattle.judy_model.specs.Tables.{table}
 use Rattle.judy_model.proofs.lemmas.maps.KeysLemmas.{keys_ascending, length-keys}
-use Rattle.judy_model.proofs.lemmas.maps.TableLemmas.{byte_order_total, string_keys-all, get-table, table_some}
+use Rattle.judy_model.proofs.lemmas.maps.TableLemmas.{byte_order_total, get-table, table_some}
 use Rattle.judy_sl.specs.Children.{Child, Free, Tail, Level}
 use Rattle.judy_sl.specs.declared.arena.Arena.{Arena}
 use Rattle.judy_sl.specs.declared.arena.Place.{Place}
@@ -27,6 +27,8 @@ use Rattle.judy_sl.proofs.lemmas.seats.Seats.{cond-same, cond-other}
 use Rattle.judy_sl.proofs.lemmas.seats.Linked.{node_with, can-with, child_at-same, child_at-other, world-with_place, get-insert_here, get-insert_off}
 use Rattle.judy_sl.proofs.lemmas.inserts.Written.{place-there}
 use Rattle.judy_sl.proofs.lemmas.seats.Maps.{child-none}
+use Rattle.judy_sl.proofs.lemmas.pieces.Strings.{all_strings-all}
+use Rattle.judy_sl.specs.Strings.{IsString, all_strings}
 
 -- Maps of the same keys are as long.
 pub len_alike : (one other : FinMap byte_order ℕ) → ((key : List ℕ) → contains_key one key ≡ contains_key other key) → len one ≡ len other
@@ -37,20 +39,20 @@ len_alike one other alike =
     ∙ length-keys other
 
 -- So are the tables of functions that answer for the same keys.
-pub table_alike : (one other : List ℕ → Option ℕ) → ((key : List ℕ) → IsStringKey key → is_some (one key) ≡ is_some (other key)) → len (table string_keys one) ≡ len (table string_keys other)
-table_alike one other alike = len_alike (table string_keys one) (table string_keys other) (λ key. by key (get (table string_keys one) key) (get (table string_keys other) key) refl refl)
+pub table_alike : (one other : List ℕ → Option ℕ) → ((key : List ℕ) → IsString key → is_some (one key) ≡ is_some (other key)) → len (table all_strings one) ≡ len (table all_strings other)
+table_alike one other alike = len_alike (table all_strings one) (table all_strings other) (λ key. by key (get (table all_strings one) key) (get (table all_strings other) key) refl refl)
   where
-    by : (key : List ℕ) (left right : Option ℕ) → get (table string_keys one) key ≡ left → get (table string_keys other) key ≡ right →
-        is_some (get (table string_keys one) key) ≡ is_some (get (table string_keys other) key)
+    by : (key : List ℕ) (left right : Option ℕ) → get (table all_strings one) key ≡ left → get (table all_strings other) key ≡ right →
+        is_some (get (table all_strings one) key) ≡ is_some (get (table all_strings other) key)
     by key None None is else = ap (λ (found : Option ℕ). is_some found) (is ∙ sym else)
     by key (Some value) right is else =
-        let there = table_some string_keys-all one key value is in
-        ap (λ (found : Option ℕ). is_some found) (get-table string_keys-all one key there.0) ∙ alike key there.0 ∙
-        ap (λ (found : Option ℕ). is_some found) (sym (get-table string_keys-all other key there.0))
+        let there = table_some all_strings-all one key value is in
+        ap (λ (found : Option ℕ). is_some found) (get-table all_strings-all one key there.0) ∙ alike key there.0 ∙
+        ap (λ (found : Option ℕ). is_some found) (sym (get-table all_strings-all other key there.0))
     by key None (Some value) is else =
-        let there = table_some string_keys-all other key value else in
-        ap (λ (found : Option ℕ). is_some found) (get-table string_keys-all one key there.0) ∙ alike key there.0 ∙
-        ap (λ (found : Option ℕ). is_some found) (sym (get-table string_keys-all other key there.0))
+        let there = table_some all_strings-all other key value else in
+        ap (λ (found : Option ℕ). is_some found) (get-table all_strings-all one key there.0) ∙ alike key there.0 ∙
+        ap (λ (found : Option ℕ). is_some found) (sym (get-table all_strings-all other key there.0))
 
 -- ---- seats that hold the same keys
 

@@ -1,5 +1,4 @@
--- How many keys stand behind the entries of the first level below a word: these entries, and what the list of first pieces holds
--- below it.
+-- How many keys stand behind the entries of a level below a word: these entries, and what its list holds below it.
 use Rattle.std.proofs.Common.{◌≡◌, ◌≢◌, ℕ, suc, ◌+◌, ◌-◌, ◌<◌, ◌≤◌, ◌==◌, Bool, true, false, cond, nat_lt, ◌&&◌, T, is_lt, List, [], ◌∷◌, ◌++◌, length, filter, Option, Some}
 use Rattle.std.proofs.Common.{is_some, unwrap_or, refl, sym, ap, ◌∙◌, subst, arith, ⊎_elim, true≢false}
 use Rattle.std.specs.Ordering.{is_eq, eq_by_cmp}
@@ -15,28 +14,23 @@ use Rattle.judy_model.specs.Keys.{word_order, byte_order}
 use Rattle.judy_model.specs.Counts.{rank}
 use Rattle.judy_model.proofs.lemmas.orders.Orders.{same_from_tie}
 use Rattle.judy_model.proofs.lemmas.maps.Pairs.{rest_sorted}
-use Rattle.judy_model.proofs.lemmas.maps.Ascending.{Among, Among-filter}
 use Rattle.judy_model.proofs.lemmas.queries.Places.{length-filter-le}
-use Rattle.judy_model.proofs.lemmas.maps.KeysLemmas.{among_keys, length-keys}
-use Rattle.judy_model.proofs.lemmas.maps.TableLemmas.{byte_order_total, byte_order_same}
+use Rattle.judy_model.proofs.lemmas.maps.KeysLemmas.{length-keys}
 use Rattle.judy_sums.specs.Pairs.{Pairs, part_below, sum_below, number_in}
 use Rattle.judy_sums.specs.Chunks.{AllFrom, Ascends}
-use Rattle.judy_sums.specs.Levels.{keys_below, extras, AreWeighed, part_of, part_len}
+use Rattle.judy_sums.specs.Levels.{keys_below, extras, part_of, part_len}
 use Rattle.judy_sums.proofs.PairLemmas.{head_from, from_first, find_none}
 use Rattle.judy_sums.proofs.LevelCounts.{entries_below_is, keys_below_is}
-use Rattle.judy_sums.proofs.Parts.{AreParts, each_found}
-use Rattle.judy_sl.specs.declared.arena.Arena.{Arena}
-use Rattle.judy_sl.specs.Pieces.{piece_of, pieces, IsInner}
-use Rattle.judy_sl.specs.World.{World, lookup}
-use Rattle.judy_sl.specs.Arenas.{world_of, map_of, IsArena}
-use Rattle.judy_sl.specs.Behind.{entry_keys}
+use Rattle.judy_sums.proofs.Parts.{AreParts}
+use Rattle.judy_sl.specs.Pieces.{piece_of, IsInner}
+use Rattle.judy_sl.specs.World.{World, level}
+use Rattle.judy_sl.specs.WorldInvariants.{IsWorld}
+use Rattle.judy_sl.specs.Behind.{map_behind, entry_keys}
 use Rattle.judy_sl.specs.Counted.{keys_behind}
 use Rattle.judy_sl.specs.Firsts.{beginning, AreFirsts}
-use Rattle.judy_sl.proofs.lemmas.pieces.OnWay.{pieces-head}
-use Rattle.judy_sl.proofs.lemmas.seats.Maps.{get-map}
-use Rattle.judy_sl.proofs.lemmas.scans.ScanEnds.{begins}
 use Rattle.judy_sl.proofs.lemmas.seats.Behind.{Begun, begun_apart, all_parts, entries_behind}
 use Rattle.judy_sl.proofs.lemmas.counts.KeysTold.{inner_count}
+use Rattle.judy_sl.proofs.lemmas.counts.LoneKeys.{each_leads, level_weighed}
 use Rattle.judy_sl.proofs.lemmas.counts.LevelRanks.{keys_that}
 
 -- ---- two lists with the same numbers have the same sums
@@ -125,9 +119,6 @@ module _ (limit : ℕ) where
 
 -- ---- the list that has a pair for each entry
 
-abbrev pub each_leads : ℕ × ℕ → Bool
-each_leads entry = true
-
 module _ {K : Type 0} (part : ℕ × ℕ → List K) where
   extras_number : (level : Pairs) (word : ℕ) → number_in (extras each_leads (part_len part) level) word ≡ length (part_of part word (find word_order word level)) - 1
   extras_number [] word = refl
@@ -193,79 +184,49 @@ module _ (piece : ℕ) where
         omega arith)
         (cases_eq piece entry.0)
 
-some_there : (all : List (List ℕ)) (key : List ℕ) → Among all key → 1 ≤ length all
-some_there [] key here = absurd here
-some_there (other ∷ rest) key here = omega arith
+-- ---- a level and its list
 
--- ---- the first level
-
-module _ (arena : Arena) (is : IsArena arena) where
+module _ {world : World} {behind : ℕ → List ℕ} (is : IsWorld world behind) (seat : ℕ) (words : FinMap word_order ℕ) (here : world seat ≡ level words) where
   -- The keys that begin with a piece are those behind its entry.
-  pub beginning_part : (piece : ℕ) → beginning (map_of arena) piece ≡ length (part_of (entry_keys (world_of arena)) piece (get arena.root.map piece))
+  pub beginning_part : (piece : ℕ) → beginning (map_behind world seat) piece ≡ length (part_of (entry_keys world) piece (get words piece))
   unfolding beginning
   beginning_part piece =
-      keys_that (λ key. piece_of key == piece) (entries (map_of arena))
-      ∙ ap (λ pairs. length (filter (begin_so piece) pairs)) (entries_behind is.is_world 0 arena.root.map refl)
-      ∙ own_keys piece (world_of arena) (entries arena.root.map) (entries_sorted arena.root.map) (all_parts is.is_world 0 arena.root.map refl)
-      ∙ ap (λ (found : Option ℕ). length (part_of (entry_keys (world_of arena)) piece found)) (sym (get-entries arena.root.map piece))
-
-  begins_some : (piece at : ℕ) → get arena.root.map piece ≡ Some at → 1 ≤ beginning (map_of arena) piece
-  unfolding beginning
-  begins_some piece at there =
-      let one = begins is.is_world 0 arena.root.map piece refl (ap (λ (found : Option ℕ). is_some found) there) in
-      let key = one.spelled.key in
-      let spells : pieces key ≡ piece ∷ one.rest = one.spelled.spells ∙ ap (λ front. front ++ piece ∷ one.rest) is.is_world.first in
-      let held = get-map arena key one.spelled.is_key ∙ ap (lookup (world_of arena) 0) spells ∙ one.found in
-      let head = pieces-head key in
-      let first : piece_of key ≡ piece = (let both : piece_of key ∷ head.0 ≡ piece ∷ one.rest = sym head.1 ∙ spells in cc) in
-      some_there (filter (λ other. piece_of other == piece) (keys (map_of arena))) key
-      (Among-filter (λ other. piece_of other == piece) (keys (map_of arena)) key (among_keys byte_order_total byte_order_same (map_of arena) key
-      (ap (λ (found : Option ℕ). is_some found) held)) (eq-eqb (piece_of key) piece first))
-
-  -- Behind each entry stands a key.
-  pub entry_some : (piece at : ℕ) → get arena.root.map piece ≡ Some at → 1 ≤ length (entry_keys (world_of arena) (piece, at))
-  entry_some piece at there =
-      let some = begins_some piece at there in
-      let part = beginning_part piece ∙ ap (λ (found : Option ℕ). length (part_of (entry_keys (world_of arena)) piece found)) there in
-      omega arith
+      keys_that (λ key. piece_of key == piece) (entries (map_behind world seat))
+      ∙ ap (λ pairs. length (filter (begin_so piece) pairs)) (entries_behind is seat words here)
+      ∙ own_keys piece world (entries words) (entries_sorted words) (all_parts is seat words here)
+      ∙ ap (λ (found : Option ℕ). length (part_of (entry_keys world) piece found)) (sym (get-entries words piece))
 
   -- No more keys than there are begin with a piece.
-  pub begins_most : (piece : ℕ) → beginning (map_of arena) piece ≤ len (map_of arena)
+  pub begins_most : (piece : ℕ) → beginning (map_behind world seat) piece ≤ len (map_behind world seat)
   unfolding beginning
   begins_most piece =
-      let some = length-filter-le (λ key. piece_of key == piece) (keys (map_of arena)) in
-      let all = length-keys (map_of arena) in
+      let some = length-filter-le (λ key. piece_of key == piece) (keys (map_behind world seat)) in
+      let all = length-keys (map_behind world seat) in
       omega arith
 
-  -- So no more stand behind a child of the first level.
-  pub behind_most : (piece at : ℕ) → IsInner piece → get arena.root.map piece ≡ Some at → keys_behind (world_of arena) (suc at) ≤ len (map_of arena)
+  -- So no more stand behind a child of the level.
+  pub behind_most : (piece at : ℕ) → IsInner piece → get words piece ≡ Some at → keys_behind world (suc at) ≤ len (map_behind world seat)
   behind_most piece at inner there =
       let most = begins_most piece in
-      let part = beginning_part piece ∙ ap (λ (found : Option ℕ). length (part_of (entry_keys (world_of arena)) piece found)) there in
-      let behind = inner_count (world_of arena) (piece, at) inner in
+      let part = beginning_part piece ∙ ap (λ (found : Option ℕ). length (part_of (entry_keys world) piece found)) there in
+      let behind = inner_count world (piece, at) inner in
       omega arith
 
-  weighed : AreWeighed each_leads (part_len (entry_keys (world_of arena))) (entries arena.root.map)
-  weighed =
-      each_found word_order nat_cmp_total nat_cmp-IsAntisymmetric (λ entry. (1 ≤ length (entry_keys (world_of arena) entry)) ×
-      (each_leads entry ≡ false → length (entry_keys (world_of arena) entry) ≡ 1)) (entries arena.root.map) (entries_sorted arena.root.map)
-      (λ piece at found. (entry_some piece at (get-entries arena.root.map piece ∙ found), λ never. absurd (true≢false never)))
-
-  module _ (firsts : FinMap word_order ℕ) (are : AreFirsts (map_of arena) firsts) where
-    same_numbers : SameNumbers (extras each_leads (part_len (entry_keys (world_of arena))) (entries arena.root.map)) (entries firsts)
+  module _ (list : FinMap word_order ℕ) (are : AreFirsts (map_behind world seat) list) where
+    same_numbers : SameNumbers (extras each_leads (part_len (entry_keys world)) (entries words)) (entries list)
     same_numbers word =
-        extras_number (entry_keys (world_of arena)) (entries arena.root.map) word
-        ∙ ap (λ (found : Option ℕ). length (part_of (entry_keys (world_of arena)) word found) - 1) (sym (get-entries arena.root.map word))
+        extras_number (entry_keys world) (entries words) word
+        ∙ ap (λ (found : Option ℕ). length (part_of (entry_keys world) word found) - 1) (sym (get-entries words word))
         ∙ ap (λ n. n - 1) (sym (beginning_part word))
         ∙ sym (are.numbers word)
-        ∙ ap (λ (found : Option ℕ). unwrap_or found 0) (get-entries firsts word)
+        ∙ ap (λ (found : Option ℕ). unwrap_or found 0) (get-entries list word)
 
     -- Below a word stand as many keys as entries, and what the list holds below it.
-    pub first_keys_below : (word : ℕ) → keys_below (part_len (entry_keys (world_of arena))) (entries arena.root.map) word ≡ rank arena.root.map word + sum_below (entries firsts) word
-    first_keys_below word =
-        let part = entry_keys (world_of arena) in
-        let all = keys_below_is each_leads (part_len part) (entries arena.root.map) word weighed in
-        let entry = entries_below_is arena.root.map word in
-        let sums = same_sums word (extras each_leads (part_len part) (entries arena.root.map)) (subst T (sym (extras_sorted part (entries arena.root.map))) (entries_sorted arena.root.map))
-        (entries firsts) (entries_sorted firsts) same_numbers in
+    pub list_keys_below : (word : ℕ) → keys_below (part_len (entry_keys world)) (entries words) word ≡ rank words word + sum_below (entries list) word
+    list_keys_below word =
+        let part = entry_keys world in
+        let all = keys_below_is each_leads (part_len part) (entries words) word (level_weighed is seat words here) in
+        let entry = entries_below_is words word in
+        let sums = same_sums word (extras each_leads (part_len part) (entries words)) (subst T (sym (extras_sorted part (entries words))) (entries_sorted words))
+        (entries list) (entries_sorted list) same_numbers in
         omega arith

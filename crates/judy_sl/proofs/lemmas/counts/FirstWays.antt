@@ -2,11 +2,11 @@
 use Rattle.std.proofs.Common.{◌≡◌, ℕ, suc, ◌≤◌, true, false, IsTrue, IfOk, OnErr, IsSome, List, [], ◌∷◌, ◌++◌, Option, None, Some, is_some, Result, Ok, Err, refl, sym, ap, ◌∙◌, subst, true≢false}
 use Rattle.std.proofs.lemmas.Option.{none-some}
 use Rattle.std.specs.FinMap.{FinMap, empty, get, contains_key, insert, remove}
-use Rattle.judy_model.specs.Keys.{word_order, byte_order, IsStringKey}
+use Rattle.judy_model.specs.Keys.{word_order, byte_order}
 use Rattle.judy_model.specs.Arrays.{empty_array}
-use Rattle.judy_model.specs.Tables.{table, string_keys}
+use Rattle.judy_model.specs.Tables.{table}
 use Rattle.judy_model.proofs.lemmas.maps.SortedMaps.{remove_absent}
-use Rattle.judy_model.proofs.lemmas.maps.TableLemmas.{byte_order_total, byte_order_same, string_keys-all, table_some}
+use Rattle.judy_model.proofs.lemmas.maps.TableLemmas.{byte_order_total, byte_order_same, table_some}
 use Rattle.judy_sums.specs.Pairs.{number_at, raised, lowered}
 use Rattle.judy_sl.specs.declared.arena.Arena.{Arena}
 use Rattle.judy_sl.specs.declared.arena.Place.{Place}
@@ -31,6 +31,8 @@ use Rattle.judy_sl.proofs.lemmas.seats.Maps.{get-map, map_written, map_removed, 
 use Rattle.judy_sl.proofs.lemmas.seats.Keeping.{map-written, get-there}
 use Rattle.judy_sl.proofs.lemmas.counts.Beginnings.{taken_out, put_back, beginning_some, beginning_none, firsts_first, firsts_more, firsts_last, firsts_less, firsts_written}
 use Rattle.judy_sl.proofs.lemmas.counts.Beginnings.{number_some, number_there, no_firsts}
+use Rattle.judy_sl.proofs.lemmas.pieces.Strings.{all_strings-all}
+use Rattle.judy_sl.specs.Strings.{all_strings, IsString}
 
 held_value : (all : FinMap byte_order ℕ) (key : List ℕ) → IsTrue (contains_key all key) → (value : ℕ) × (get all key ≡ Some value)
 held_value all key held = by (get all key) refl held
@@ -60,7 +62,7 @@ module _ (arena : Arena) (piece : ℕ) where
   pub unrooted : get arena.root.map piece ≡ None → beginning (map_of arena) piece ≡ 0
   unrooted none = beginning_none (map_of arena) piece (λ key held same.
       let value = held_value (map_of arena) key held in
-      let there = table_some string_keys-all (λ k. lookup (world_of arena) 0 (pieces k)) key value.0 value.1 in
+      let there = table_some all_strings-all (λ k. lookup (world_of arena) 0 (pieces k)) key value.0 value.1 in
       none-some value.0 (sym (none_found key none same) ∙ there.1))
 
 -- ---- how a way begins
@@ -116,20 +118,20 @@ module _ (arena : Arena) (is : IsArena arena) (key : List ℕ) where
 
 -- An arena that is the same has the same map.
 pub map_same : (arena same : Arena) → IsSame arena same → map_of same ≡ map_of arena
-map_same arena same is = ap (λ (w : World). table string_keys (λ k. lookup w 0 (pieces k))) (world-same arena same is)
+map_same arena same is = ap (λ (w : World). table all_strings (λ k. lookup w 0 (pieces k))) (world-same arena same is)
 
 pub firsts_same : (arena same : Arena) → IsSame arena same → (firsts : FinMap word_order ℕ) → AreFirsts (map_of arena) firsts → AreFirsts (map_of same) firsts
 firsts_same arena same is firsts are = subst (λ (all : FinMap byte_order ℕ). AreFirsts all firsts) (sym (map_same arena same is)) are
 
 -- A value is written.
-pub firsts_slot : (limit count : ℕ) (arena : Arena) → IsStrings limit count arena → (key : List ℕ) → IsStringKey key → (place : Place) → IsFound (world_of arena) key place
+pub firsts_slot : (limit count : ℕ) (arena : Arena) → IsStrings limit count arena → (key : List ℕ) → IsString key → (place : Place) → IsFound (world_of arena) key place
     → (firsts : FinMap word_order ℕ) → AreFirsts (map_of arena) firsts → (value : ℕ) → AreFirsts (map_of (place_with arena place value)) firsts
 firsts_slot limit count arena is key is_key place found firsts are value =
     subst (λ (all : FinMap byte_order ℕ). AreFirsts all firsts) (sym (map-written limit count arena is key is_key place found value))
     (firsts_written (map_of arena) key found.value value firsts (get-there limit count arena is key is_key place found) are)
 
 -- A key comes in.
-module _ (arena after : Arena) (key : List ℕ) (is_key : IsStringKey key) (none : get (map_of arena) key ≡ None) (firsts : FinMap word_order ℕ) (are : AreFirsts (map_of arena) firsts) where
+module _ (arena after : Arena) (key : List ℕ) (is_key : IsString key) (none : get (map_of arena) key ≡ None) (firsts : FinMap word_order ℕ) (are : AreFirsts (map_of arena) firsts) where
   added_map : (place : Place) → IsAdded arena after key place → map_of after ≡ insert (map_of arena) key 0
   added_map place added = map_written arena after key is_key 0 added.change
 
@@ -147,7 +149,7 @@ module _ (arena after : Arena) (key : List ℕ) (is_key : IsStringKey key) (none
   tried_first nothing (Err error) added refused = firsts_same arena after refused firsts are
 
 -- One goes.
-module _ (arena after : Arena) (key : List ℕ) (is_key : IsStringKey key) (shrunk : IsShrunk arena after key) (firsts : FinMap word_order ℕ) (are : AreFirsts (map_of arena) firsts) where
+module _ (arena after : Arena) (key : List ℕ) (is_key : IsString key) (shrunk : IsShrunk arena after key) (firsts : FinMap word_order ℕ) (are : AreFirsts (map_of arena) firsts) where
   map_is : map_of after ≡ remove (map_of arena) key
   map_is = map_removed arena after key is_key shrunk.change
 

@@ -15,13 +15,14 @@ use Rattle.judy_sl.specs.Arenas.{world_of, node_of, child_at, IsArena}
 use Rattle.judy_sl.specs.Ways.{left_of, levels_passed}
 use Rattle.judy_sl.specs.Counted.{keys_behind, AreCountedBut}
 use Rattle.judy_sl.specs.Grown.{IsChange, IsGraft}
+use Rattle.judy_sl.specs.Listed.{StaysLed}
 use Rattle.judy_sl.proofs.lemmas.pieces.Ways.{step-parts, walk-append}
 use Rattle.judy_sl.proofs.lemmas.inserts.Filled.{level-there}
 use Rattle.judy_sl.proofs.lemmas.inserts.Written.{behind-leads}
 use Rattle.judy_sl.proofs.lemmas.seats.Keeping.{clash-none}
 use Rattle.judy_sl.proofs.lemmas.counts.KeptLevels.{IsReached, all-reached, reached-behind}
 use Rattle.judy_sl.proofs.lemmas.counts.KeysBehind.{keys_after, keys-reached, keys-come, keys-tail, rest-key}
-use Rattle.judy_sl.proofs.lemmas.counts.CountedAdded.{StaysLed, LevelCame, level-told, counted-but}
+use Rattle.judy_sl.proofs.lemmas.counts.CountedAdded.{LevelCame, level-told, counted-but}
 use Rattle.judy_sl.proofs.lemmas.counts.GraftedLevels.{IsBetween, LevelMade}
 
 -- A level that was there is one still, and stands behind the same pieces.
@@ -40,8 +41,8 @@ module _ (before after : Arena) (key : List ℕ) (from : Place) (at left : ℕ) 
   abbrev new : List ℕ
   new = pieces (left_of key left)
 
-  stays : StaysLed before after
-  stays k told words e =
+  pub grafted-stays : StaysLed before after
+  grafted-stays k told words e =
       let there = stands k told words e in
       let reached = all-reached (world_of after) is.behind is.is_world led k (λ none. level-there (child_at after k) there.0 none) in (
         there.0,
@@ -115,4 +116,4 @@ module _ (before after : Arena) (key : List ℕ) (from : Place) (at left : ℕ) 
 
   -- Each level that the new key's way has passed tells one key less than stand behind it.
   pub grafted-counted : AreCountedBut after (levels_passed (world_of before) key)
-  grafted-counted = counted-but before after was is graft.led graft.counted key graft.is_key 0 change absent stays (λ k. came-made k (child_at after k) refl (made k))
+  grafted-counted = counted-but before after was is graft.led graft.counted key graft.is_key 0 change absent grafted-stays (λ k. came-made k (child_at after k) refl (made k))

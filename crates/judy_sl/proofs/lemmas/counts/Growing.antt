@@ -3,7 +3,7 @@ use Rattle.std.proofs.Common.{◌≡◌, ℕ, suc, List, None, inl, inr, refl, s
 use Rattle.std.proofs.lemmas.Bool.{cases_eq}
 use Rattle.std.proofs.lemmas.Option.{none-some}
 use Rattle.std.specs.FinMap.{FinMap, get}
-use Rattle.judy_model.specs.Keys.{word_order, IsStringKey}
+use Rattle.judy_model.specs.Keys.{word_order}
 use Rattle.judy_sl.specs.Children.{Child, Free, Tail, Level}
 use Rattle.judy_sl.specs.declared.arena.Arena.{Arena}
 use Rattle.judy_sl.specs.declared.arena.Place.{Place}
@@ -16,20 +16,22 @@ use Rattle.judy_sl.specs.Places.{place_with}
 use Rattle.judy_sl.specs.Ways.{seat_of, piece_at, levels_passed, IsGap}
 use Rattle.judy_sl.specs.Counted.{keys_behind, LevelTells, Same, AreCounted, AreCountedBut}
 use Rattle.judy_sl.specs.Grown.{IsPut, IsAdded, IsSame}
+use Rattle.judy_sl.specs.Listed.{StaysLed}
 use Rattle.judy_sl.proofs.lemmas.seats.Led.{KeepsEntries, keeps-same, keeps-then, keeps-none, keeps-insert, keeps-set}
 use Rattle.judy_sl.proofs.lemmas.seats.Linked.{node_with, can-with, child_at-same, child_at-other, world-with_place}
 use Rattle.judy_sl.proofs.lemmas.inserts.Filled.{world-same, level-child, level-place}
 use Rattle.judy_sl.proofs.lemmas.inserts.Tailed.{world-put, level-put}
 use Rattle.judy_sl.proofs.lemmas.seats.Keeping.{gap-none}
 use Rattle.judy_sl.proofs.lemmas.counts.KeptLevels.{walk-keeps}
-use Rattle.judy_sl.proofs.lemmas.counts.CountedAdded.{LevelWas, StaysLed, came-was, counted-but}
+use Rattle.judy_sl.proofs.lemmas.counts.CountedAdded.{LevelWas, came-was, counted-but}
+use Rattle.judy_sl.specs.Strings.{IsString}
 
 -- Each level stays one, with its number and its entries that lead on, and none is new.
 pub record GrowsOn (before after : Arena) : Type 0 where
   pub keeps : (seat : ℕ) → KeepsEntries (world_of before seat) (world_of after seat)
   pub was : (at : ℕ) → LevelWas before at (child_at after at)
 
-stays-grown : (before after : Arena) → GrowsOn before after → StaysLed before after
+pub stays-grown : (before after : Arena) → GrowsOn before after → StaysLed before after
 stays-grown before after grows at told was e =
     let kept = grows.keeps (suc at) was.map (ap node_of e) in
     (level-child (child_at after at) kept.0 kept.1, λ front inner way. walk-keeps (world_of before) (world_of after) grows.keeps 0 front (suc at) inner way)
@@ -124,7 +126,7 @@ module _ (before : Arena) (key : List ℕ) (place : Place) (left : ℕ) (gap : I
       grows-then before placed after (grows-put before placed rest at put) second
 
 -- Each level that its way has passed tells one key less than stand behind it.
-pub gap-counted : (before : Arena) (is : IsArena before) (led : AllLed (world_of before)) (counted : AreCounted before) (key : List ℕ) (is_key : IsStringKey key)
+pub gap-counted : (before : Arena) (is : IsArena before) (led : AllLed (world_of before)) (counted : AreCounted before) (key : List ℕ) (is_key : IsString key)
     (place : Place) (left : ℕ) (gap : IsGap (world_of before) key place left) (after : Arena) (made : Place) (added : IsAdded before after key made) (grows : GrowsOn before after) →
     AreCountedBut after (levels_passed (world_of before) key)
 gap-counted before is led counted key is_key place left gap after made added grows =

@@ -7,9 +7,9 @@ use Rattle.std.proofs.lemmas.Bool.{eq-eqb, ne_eqb}
 use Rattle.std.proofs.lemmas.Option.{none-some}
 use Rattle.slab.specs.Slab as slab
 use Rattle.judy_model.specs.Arrays.{ArrayOf}
-use Rattle.judy_model.specs.Keys.{word_order, byte_order, IsStringKey}
+use Rattle.judy_model.specs.Keys.{word_order, byte_order}
 use Rattle.judy_model.proofs.lemmas.orders.Orders.{same_from_tie}
-use Rattle.judy_model.proofs.lemmas.maps.TableLemmas.{byte_order_total, byte_order_same, string_keys-all, get-table, table_some}
+use Rattle.judy_model.proofs.lemmas.maps.TableLemmas.{byte_order_total, byte_order_same, get-table, table_some}
 use Rattle.judy_sl.specs.declared.arena.Arena.{Arena}
 use Rattle.judy_sl.specs.Children.{Child, Free, Tail, Level, is_level, level_child, tail_child, keys_told, IsLevelChild}
 use Rattle.judy_tails.specs.Tails.{tail_at}
@@ -22,14 +22,16 @@ use Rattle.judy_sl.proofs.lemmas.pieces.PieceLemmas.{text_of_key, key_of_text, p
 use Rattle.judy_sl.proofs.lemmas.pieces.OnWay.{pieces-head}
 use Rattle.judy_sl.proofs.lemmas.scans.ScanLevels.{tail_only, at_tail}
 use Rattle.judy_sl.proofs.lemmas.scans.ScanEnds.{text_behind}
+use Rattle.judy_sl.proofs.lemmas.pieces.Strings.{all_strings-all}
+use Rattle.judy_sl.specs.Strings.{IsString}
 
 -- What the map behind a seat holds is found there.
-pub held_behind : (world : World) (seat : ℕ) (rest : List ℕ) (value : ℕ) → get (map_behind world seat) rest ≡ Some value → IsStringKey rest × (lookup world seat (pieces rest) ≡ Some value)
-held_behind world seat rest value held = table_some string_keys-all (λ key. lookup world seat (pieces key)) rest value held
+pub held_behind : (world : World) (seat : ℕ) (rest : List ℕ) (value : ℕ) → get (map_behind world seat) rest ≡ Some value → IsString rest × (lookup world seat (pieces rest) ≡ Some value)
+held_behind world seat rest value held = table_some all_strings-all (λ key. lookup world seat (pieces key)) rest value held
 
 -- ---- a free place
 
-none_at : (world : World) (seat : ℕ) → world seat ≡ gone → (ps : List ℕ) → lookup world seat ps ≡ None
+pub none_at : (world : World) (seat : ℕ) → world seat ≡ gone → (ps : List ℕ) → lookup world seat ps ≡ None
 none_at world seat is [] = refl
 none_at world seat is (piece ∷ rest) = ap (λ node. at_node node piece rest (λ found. lookup world (suc found) rest)) is
 
@@ -45,20 +47,20 @@ gone_empty world seat is = same_map byte_order_total byte_order_same (map_behind
 
 module _ (arena : Arena) (is : IsArena arena) (at : ℕ) (held : List ℕ) (value : ℕ) (here : world_of arena (suc at) ≡ tail (pieces held) value) (text : IsText held) where
   -- Its text is a key.
-  pub tail_key : IsStringKey held
+  pub tail_key : IsString held
   tail_key =
       let key = is.is_world.tails (suc at) (pieces held) value here in
       let head = pieces-head held in
       let whole : pieces key.key ≡ is.behind (suc at) ++ _ ∷ head.0 = key.spells ∙ ap (λ ps. is.behind (suc at) ++ ps) head.1 in
       let one = text_behind (is.behind (suc at)) _ head.0 key.key (text_of_key key.key key.is_key) key.is_key.is_bytes_key.within_limit whole in
       let same : one.bytes ≡ held = pieces_same one.bytes held one.text text (one.spells ∙ sym head.1) in
-      subst IsStringKey same (key_of_text one.bytes one.text one.within)
+      subst IsString same (key_of_text one.bytes one.text one.within)
 
   tail_get : (key : List ℕ) → get (map_behind (world_of arena) (suc at)) key ≡ cond (eq_by_cmp byte_order key held) (Some value) None
   tail_get key = elim (eq_by_cmp byte_order key held) as (λ b. eq_by_cmp byte_order key held ≡ b → get (map_behind (world_of arena) (suc at)) key ≡ cond b (Some value) None) [
     | true ↦ λ tied.
         ap (get (map_behind (world_of arena) (suc at))) (same_from_tie byte_order_same key held tied)
-        ∙ get-table string_keys-all (λ rest. lookup (world_of arena) (suc at) (pieces rest)) held tail_key
+        ∙ get-table all_strings-all (λ rest. lookup (world_of arena) (suc at) (pieces rest)) held tail_key
         ∙ at_tail (world_of arena) (suc at) (pieces held) value here (pieces_are held text)
     | false ↦ λ apart. by (get (map_behind (world_of arena) (suc at)) key) refl apart
   ] refl
@@ -81,7 +83,7 @@ module _ (arena : Arena) (is : IsArena arena) (at : ℕ) (held : List ℕ) (valu
 
 module _ (arena : Arena) (is : IsArena arena) (at : ℕ) where
   -- Behind a tail stands one key.
-  tail_told : (rest : List ℕ × ℕ) → child_at arena at ≡ Tail rest → keys_behind (world_of arena) (suc at) ≡ 1
+  pub tail_told : (rest : List ℕ × ℕ) → child_at arena at ≡ Tail rest → keys_behind (world_of arena) (suc at) ≡ 1
   tail_told rest here = len-entries (map_behind (world_of arena) (suc at)) ∙ ap length (tail_entries arena is at rest.0 rest.1 (ap node_of here) (subst HasText here (is.texts at)))
 
   -- What stands at a place that isn't one for levels is a tail, so one key stands behind it.

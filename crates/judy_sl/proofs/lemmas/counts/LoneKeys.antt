@@ -1,5 +1,5 @@
 -- A level behind which as many keys stand as it has entries: one behind each.
-use Rattle.std.proofs.Common.{◌≡◌, ℕ, ◌+◌, ◌<◌, ◌≤◌, cond, false, true, nat_lt, List, [], ◌∷◌, length, slice_get, Option, Some, is_some, sym, ap, ◌∙◌, subst, arith, true≢false}
+use Rattle.std.proofs.Common.{◌≡◌, ℕ, ◌+◌, ◌<◌, ◌≤◌, cond, Bool, false, true, nat_lt, List, [], ◌∷◌, length, slice_get, Option, Some, is_some, sym, ap, ◌∙◌, subst, arith, true≢false}
 use Rattle.std.specs.List.{flat_map}
 use Rattle.std.specs.Cmp.{nat_cmp_total}
 use Rattle.std.specs.FinMap.{FinMap, nat_cmp-IsAntisymmetric, entries, entries_sorted, get, get-entries, find, len, len-entries}
@@ -21,8 +21,11 @@ use Rattle.judy_sl.specs.Nth.{IsSpotOf}
 use Rattle.judy_sl.proofs.lemmas.pieces.PieceLemmas.{text_of_key, key_of_text}
 use Rattle.judy_sl.proofs.lemmas.scans.ScanEnds.{text_behind, text_begins, begins}
 use Rattle.judy_sl.proofs.lemmas.seats.Behind.{led_on, entries_behind}
-use Rattle.judy_sl.proofs.lemmas.counts.FirstSums.{each_leads}
 use Rattle.judy_sl.proofs.lemmas.places.Nths.{place_at}
+
+-- The list that has a pair for each entry.
+abbrev pub each_leads : ℕ × ℕ → Bool
+each_leads entry = true
 
 -- A sum below a word is at most the whole one.
 below_most : (pairs : Pairs) (word : ℕ) → sum_below pairs word ≤ sum_of pairs
@@ -53,7 +56,7 @@ module _ {world : World} {behind : ℕ → List ℕ} (is : IsWorld world behind)
       ∙ ap (lookup world seat) text.spells
       ∙ begun.found)
 
-  level_weighed : AreWeighed each_leads (part_len (entry_keys world)) (entries words)
+  pub level_weighed : AreWeighed each_leads (part_len (entry_keys world)) (entries words)
   level_weighed =
       each_found word_order nat_cmp_total nat_cmp-IsAntisymmetric (λ entry. (1 ≤ length (entry_keys world entry)) × (each_leads entry ≡ false → length (entry_keys world entry) ≡ 1))
       (entries words) (entries_sorted words)
@@ -62,6 +65,14 @@ module _ {world : World} {behind : ℕ → List ℕ} (is : IsWorld world behind)
   -- The keys behind the level are those behind its entries.
   pub level_keys : keys_behind world seat ≡ length (flat_map (entry_keys world) (entries words))
   level_keys = len-entries (map_behind world seat) ∙ ap length (entries_behind is seat words here)
+
+  -- They are no fewer than its entries.
+  pub level_long : len words ≤ keys_behind world seat
+  level_long =
+      let all = keys_are each_leads (part_len (entry_keys world)) (entries words) level_weighed in
+      let sum = level_keys ∙ length-flat_map (entry_keys world) (entries words) in
+      let long = len-entries words in
+      omega arith
 
   module _ (alone : keys_behind world seat ≡ len words) where
     -- Below a word stand as many keys as entries.

@@ -4,7 +4,7 @@ use Rattle.std.proofs.lemmas.List.{append-nil, append_assoc, length-append}
 use Rattle.std.proofs.lemmas.Option.{none-some}
 use prog.Memory.{up}
 use Rattle.std.specs.FinMap.{FinMap, get}
-use Rattle.judy_model.specs.Keys.{word_order, IsStringKey}
+use Rattle.judy_model.specs.Keys.{word_order}
 use Rattle.judy_sl.specs.Pieces.{pieces, piece_of, ArePieces, AreInner}
 use Rattle.judy_sl.specs.World.{World, Node, gone, tail, level, walk, step_node, step_entry}
 use Rattle.judy_sl.specs.WorldInvariants.{IsWorld}
@@ -14,6 +14,7 @@ use Rattle.judy_sl.specs.Counted.{IsAmong, AreOnce}
 use Rattle.judy_sl.proofs.lemmas.pieces.PieceLemmas.{text_of_key, pieces_are, length-pieces}
 use Rattle.judy_sl.proofs.lemmas.pieces.Ways.{step-parts, walk-behind, pieces_short, pieces_long}
 use Rattle.judy_sl.proofs.lemmas.pieces.OnWay.{pieces-head}
+use Rattle.judy_sl.specs.Strings.{IsString}
 
 -- Nothing is left to be noted.
 noted-all : (noted left all : List ℕ) → left ≡ [] → noted ++ left ≡ all → noted ≡ all
@@ -34,7 +35,7 @@ pub passed-none : (world : World) (seat piece : ℕ) (rest : List ℕ) → entry
 passed-none world seat piece rest none = ap (λ found. passed_under found rest (λ at. passed_there (world (suc at)) at (passed_from world (suc at) rest))) none
 
 module _ (world : World) (seat piece next : ℕ) (rest : List ℕ) (at : ℕ) (entry : entry_under (world seat) piece ≡ Some at) where
-  passed-step : passed_from world seat (piece ∷ next ∷ rest) ≡ passed_there (world (suc at)) at (passed_from world (suc at) (next ∷ rest))
+  pub passed-step : passed_from world seat (piece ∷ next ∷ rest) ≡ passed_there (world (suc at)) at (passed_from world (suc at) (next ∷ rest))
   passed-step = ap (λ found. passed_under found (next ∷ rest) (λ to. passed_there (world (suc to)) to (passed_from world (suc to) (next ∷ rest)))) entry
 
   -- The entry leads to a level,
@@ -254,7 +255,7 @@ module _ (world : World) (behind : ℕ → List ℕ) (is : IsWorld world behind)
       by_entry None entry once_from = subst AreOnce (sym (passed-none world seat piece (next ∷ rest) entry)) tt
       by_entry (Some at) entry once_from = subst AreOnce (sym (passed-step world seat piece next rest at entry)) (there-once (world (suc at)) at (once_from at))
 
-  module _ (key : List ℕ) (is_key : IsStringKey key) where
+  module _ (key : List ℕ) (is_key : IsString key) where
     abbrev are : ArePieces (pieces key)
     are = pieces_are key (text_of_key key is_key)
 

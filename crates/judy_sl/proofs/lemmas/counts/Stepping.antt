@@ -2,7 +2,6 @@
 use Rattle.std.proofs.Common.{◌≡◌, ◌≢◌, ℕ, suc, ◌≤◌, Bool, true, false, List, [], ◌∷◌, take, Some, is_some, inl, inr, refl, sym, ap, subst, ◌∙◌, arith, ⊎_elim, ◌⊎◌}
 use Rattle.std.proofs.lemmas.Bool.{cases_eq}
 use Rattle.std.specs.FinMap.{len}
-use Rattle.judy_model.specs.Keys.{IsStringKey}
 use Rattle.judy_sl.specs.Children.{Child, Free, Tail, Level, IsLevelChild}
 use Rattle.judy_sl.specs.declared.arena.Arena.{Arena}
 use Rattle.judy_sl.specs.Pieces.{pieces, AreInner}
@@ -22,6 +21,7 @@ use Rattle.judy_sl.proofs.lemmas.counts.KeysFewer.{fewer-behind}
 use Rattle.judy_sl.proofs.lemmas.counts.KeptLevels.{all-reached}
 use Rattle.judy_sl.proofs.lemmas.counts.KeysBehind.{keys-reached, keys-some}
 use Rattle.judy_sl.proofs.lemmas.counts.PassedLevels.{IsPassed, among-front, once-front, once-passed, among-way}
+use Rattle.judy_sl.specs.Strings.{IsString}
 
 -- ---- a number is stepped
 
@@ -66,7 +66,7 @@ set-itself world at node same = λ i seat. by_seat seat i
       | inr apart ↦ cond-other world at node seat apart
     ]
 
-step-level : (comes : Bool) (child : Child) → IsLevelChild child → IsLevelChild (child_stepped comes child)
+pub step-level : (comes : Bool) (child : Child) → IsLevelChild child → IsLevelChild (child_stepped comes child)
 step-level comes Free is = is
 step-level comes (Tail rest) is = is
 step-level comes (Level keys words) is = is
@@ -196,7 +196,7 @@ module _ (before : Arena) (is : IsArena before) (led : AllLed (world_of before))
 
 -- ---- a key that is counted out
 
-module _ (before : Arena) (is : IsArena before) (counted : AreCounted before) (key : List ℕ) (is_key : IsStringKey key) (there : is_some (lookup (world_of before) 0 (pieces key)) ≡ true)
+module _ (before : Arena) (is : IsArena before) (counted : AreCounted before) (key : List ℕ) (is_key : IsString key) (there : is_some (lookup (world_of before) 0 (pieces key)) ≡ true)
     (count : ℕ) where
   abbrev places : List ℕ
   places = take count (levels_passed (world_of before) key)

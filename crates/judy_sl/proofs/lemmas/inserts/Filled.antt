@@ -2,7 +2,7 @@
 use Rattle.std.proofs.Common.{◌≡◌, ◌≢◌, ℕ, zero, suc, ◌<◌, ◌-◌, List, [], ◌∷◌, ◌++◌, length, Some, refl, sym, ap, subst, ◌∙◌, arith}
 use Rattle.std.proofs.lemmas.List.{length-drop}
 use Rattle.std.specs.FinMap.{FinMap, insert}
-use Rattle.judy_model.specs.Keys.{word_order, IsStringKey}
+use Rattle.judy_model.specs.Keys.{word_order}
 use Rattle.judy_model.specs.Arrays.{ArrayOf}
 use Rattle.judy_sl.specs.Children.{Child, Free, Tail, Level}
 use Rattle.judy_sl.specs.declared.arena.Arena.{Arena}
@@ -24,6 +24,7 @@ use Rattle.judy_sl.proofs.lemmas.seats.Entries.{changes_value}
 use Rattle.judy_sl.proofs.lemmas.inserts.Written.{behind-leads, apart-leads}
 use Rattle.judy_sl.proofs.lemmas.seats.Led.{KeepsEntries, keeps-insert, led-set}
 use Rattle.judy_sl.proofs.lemmas.seats.Linked.{node_with, world-with_place, place-with_arena, fits-insert, insert-some, get-insert_here, get-insert_off}
+use Rattle.judy_sl.specs.Strings.{IsString}
 
 -- ---- nothing has changed
 
@@ -73,7 +74,7 @@ level-stands arena (Below at piece) map e = level-child (child_at arena at) map 
 
 -- ---- the last piece
 
-module _ (arena : Arena) (is : IsArena arena) (key : List ℕ) (is_key : IsStringKey key) (place : Place) (left : ℕ) (gap : IsGap (world_of arena) key place left) (short : left < 8) where
+module _ (arena : Arena) (is : IsArena arena) (key : List ℕ) (is_key : IsString key) (place : Place) (left : ℕ) (gap : IsGap (world_of arena) key place left) (short : left < 8) where
   abbrev rest_of : List ℕ
   rest_of = left_of key left
 

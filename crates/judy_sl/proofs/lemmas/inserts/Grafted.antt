@@ -6,7 +6,6 @@ use Rattle.std.specs.Map.{keys_of}
 use Rattle.std.specs.FinMap.{FinMap, get, insert, empty, contains_key, get-empty}
 use Rattle.judy_model.specs.Keys.{word_order}
 use Rattle.judy_model.specs.Arrays.{ArrayOf, empty_array}
-use Rattle.judy_model.specs.declared.keys.TheConstants.{LONGEST_KEY}
 use Rattle.judy_word.specs.Writes.{with_value}
 use Rattle.judy_sl.specs.Children.{Tail, Level}
 use Rattle.judy_sl.specs.declared.arena.Arena.{Arena}
@@ -32,6 +31,7 @@ use Rattle.judy_sl.proofs.lemmas.inserts.Tailed.{world-put}
 use Rattle.judy_sl.proofs.lemmas.inserts.Grafts.{Grafts, grafts-start, put-grafts, put-same, put-here, behind_put, IsSide, side-stays, IsBranch, fork-branch, up-grafts, up-branch}
 use Rattle.judy_sl.proofs.lemmas.counts.Growing.{grows-then}
 use Rattle.judy_sl.proofs.lemmas.counts.GraftedLevels.{LevelMade, made-was, grows-hung}
+use Rattle.judy_model.specs.declared.keys.TheConstants.{LONGEST_STRING}
 
 -- ---- a twig that is hung up
 
@@ -104,7 +104,7 @@ hung before now after grafts words linked place rest value (Some twig) (Some at)
     hung-some before now after grafts words linked place rest value twig at is.0 is.1 has text spells
 
 -- A place behind which a key's pieces go on isn't too long.
-pub short-place : (place : List ℕ) (piece : ℕ) (rest : List ℕ) → SpellKey (place ++ piece ∷ rest) → 8 * length place ≤ LONGEST_KEY
+pub short-place : (place : List ℕ) (piece : ℕ) (rest : List ℕ) → SpellKey (place ++ piece ∷ rest) → 8 * length place ≤ LONGEST_STRING
 short-place place piece rest spells =
     let l = length-pieces spells.key in
     let e = ap (λ (ps : List ℕ). length ps) spells.spells in
@@ -312,12 +312,12 @@ sprout-twig before linked_to rest value (Some twig) is =
     ap (λ p. contains_key linked_to.map p) is.behind.1 ∙ contains-here linked_to.map (piece_of rest) 0
     (ap (λ (l : ArrayOf word_order). get l.map (piece_of rest)) is.level ∙ get-insert_here before.map (piece_of rest) 0)
 
-twig-text : (rest : List ℕ) (value : ℕ) (twig : Option Twig) → IsTwig rest value twig → IsText rest → length rest ≤ LONGEST_KEY → IsTwigText twig
+twig-text : (rest : List ℕ) (value : ℕ) (twig : Option Twig) → IsTwig rest value twig → IsText rest → length rest ≤ LONGEST_STRING → IsTwigText twig
 twig-text rest value None is text short = tt
 twig-text rest value (Some twig) is text short =
-    subst (λ (bytes : List ℕ). IsText bytes × (length bytes ≤ LONGEST_KEY)) (sym is.2) (text-drop 8 rest text, (let l = length-drop 8 rest in omega (arith, l, short)))
+    subst (λ (bytes : List ℕ). IsText bytes × (length bytes ≤ LONGEST_STRING)) (sym is.2) (text-drop 8 rest text, (let l = length-drop 8 rest in omega (arith, l, short)))
 
-pub sound-built : (bytes : List ℕ) (value : ℕ) (key : List ℕ) (branch : Branch) → IsBuilt bytes value key branch → length bytes ≤ LONGEST_KEY → length key ≤ LONGEST_KEY → IsSound branch
+pub sound-built : (bytes : List ℕ) (value : ℕ) (key : List ℕ) (branch : Branch) → IsBuilt bytes value key branch → length bytes ≤ LONGEST_STRING → length key ≤ LONGEST_STRING → IsSound branch
 sound-built bytes value key branch built bytes_short key_short = record {
   singles = built.singles;
   old = subst (λ (l : ArrayOf word_order). HasTwig l branch.old) (sym built.new.level) (twig-with built.middle (piece_of built.rest) (entry_of branch.new 0) branch.old

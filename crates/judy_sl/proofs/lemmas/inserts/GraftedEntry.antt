@@ -32,7 +32,7 @@ use Rattle.judy_sl.proofs.lemmas.counts.Growing.{was-place}
 use Rattle.judy_sl.proofs.lemmas.inserts.Grafts.{Grafts, put-look, put-here, behind_put, IsBranch, up-fits, up-grafts}
 use Rattle.judy_sl.proofs.lemmas.counts.GraftedLevels.{LevelMade, made-then}
 use Rattle.judy_sl.proofs.lemmas.inserts.Grafted.{IsLedUp, IsGrafting, put-led, new-led}
-use Rattle.judy_sl.proofs.lemmas.counts.GraftedCounts.{StandsBehind, grafted-counted}
+use Rattle.judy_sl.proofs.lemmas.counts.GraftedCounts.{StandsBehind, grafted-stays, grafted-counted}
 use Rattle.judy_sl.proofs.lemmas.inserts.Replaced.{IsBeside, led_away, replaced, replaced-world, replaced-led, replaced-change}
 
 pub gone-where : (node : Node) → (node ≢ gone → ⊥) → node ≡ gone
@@ -273,5 +273,6 @@ module _ (before now top after : Arena) (key : List ℕ) (from : Place) (at left
     is_arena = after-arena;
     led = after-led;
     counted = grafted-counted before after key from at left branch graft is.grafts.was after-arena after-led after-change after-stands after-made;
+    stays = grafted-stays before after key from at left branch graft is.grafts.was after-arena after-led after-change after-stands after-made;
     change = after-change;
   }

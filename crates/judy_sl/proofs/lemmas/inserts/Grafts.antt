@@ -6,7 +6,6 @@ use Rattle.std.proofs.lemmas.List.{length-append}
 use Rattle.std.specs.FinMap.{FinMap, get, empty, get-empty}
 use Rattle.judy_model.specs.Keys.{word_order}
 use Rattle.judy_model.specs.Arrays.{ArrayOf}
-use Rattle.judy_model.specs.declared.keys.TheConstants.{LONGEST_KEY}
 use Rattle.judy_sl.specs.Children.{Child, Level}
 use Rattle.judy_sl.specs.declared.arena.Arena.{Arena}
 use Rattle.judy_sl.specs.Pieces.{IsInner, IsFinal, SpellKey, ArePieces}
@@ -18,6 +17,7 @@ use Rattle.judy_sl.proofs.lemmas.pieces.Ways.{look_in, tail-same, tail-other}
 use Rattle.judy_sl.proofs.lemmas.seats.Frames.{frame-below}
 use Rattle.judy_sl.proofs.lemmas.seats.Seats.{set_behind, cond-same, cond-other, NodeFits, IsUsed, keeps, put}
 use Rattle.judy_sl.proofs.lemmas.inserts.Tailed.{world-put}
+use Rattle.judy_model.specs.declared.keys.TheConstants.{LONGEST_STRING}
 
 -- An arena, and another in which everything of the first still stands.
 pub record Grafts (before now : Arena) : Type 0 where
@@ -134,7 +134,7 @@ entry-some map piece entry there e = none-some entry (sym (get-empty word_order 
 -- A fork: two entries, one to each.
 module _ (world : World) (behind : ℕ → List ℕ) (place : List ℕ) (map : FinMap word_order ℕ) (one two : ℕ) (held new : List ℕ) (value one_at two_at : ℕ)
     (apart : one ≢ two) (one_is : IsSide world behind place (one ∷ held) value one_at) (two_is : IsSide world behind place (two ∷ new) 0 two_at)
-    (one_get : get map one ≡ Some one_at) (two_get : get map two ≡ Some two_at) (others_get : (p : ℕ) → p ≢ one → p ≢ two → get map p ≡ None) (short : 8 * length place ≤ LONGEST_KEY) where
+    (one_get : get map one ≡ Some one_at) (two_get : get map two ≡ Some two_at) (others_get : (p : ℕ) → p ≢ one → p ≢ two → get map p ≡ None) (short : 8 * length place ≤ LONGEST_STRING) where
   pub fork-branch : IsBranch world behind place map (one ∷ held) (two ∷ new) value
   fork-branch = record {
     fits = record {

@@ -1,10 +1,11 @@
 -- What an insert makes of an array of strings.
-use Rattle.std.proofs.Common.{◌≡◌, ◌≢◌, ℕ, ◌+◌, List, None, Some, IsTrue, IsFalse, Bool, true, false, not, ◌&&◌, ◌==◌, refl, sym, ap, subst, ◌∙◌, arith, eq-eqb}
+use Rattle.std.proofs.Common.{◌≡◌, ◌≢◌, ℕ, ◌+◌, ◌≤◌, List, length, None, Some, IsTrue, IsFalse, Bool, true, false, not, ◌&&◌, ◌==◌, refl, sym, ap, subst, ◌∙◌, arith, eq-eqb}
 use Rattle.std.proofs.lemmas.Bool.{ne_eqb, false≢true}
 use Rattle.std.specs.FinMap.{FinMap, get, len}
-use Rattle.judy_model.specs.Keys.{byte_order, IsStringKey}
+use Rattle.judy_model.specs.Keys.{byte_order}
+use Rattle.judy_model.specs.declared.keys.TheConstants.{LONGEST_KEY}
 use Rattle.judy_model.specs.Arrays.{ins, is_full}
-use Rattle.judy_model.specs.Tables.{table, string_keys}
+use Rattle.judy_model.specs.Tables.{table}
 use Rattle.judy_model.proofs.lemmas.maps.Inserts.{get-insert_itself, ins_present, ins_absent, is_full_present, is_full_absent}
 use Rattle.judy_model.proofs.lemmas.maps.TableLemmas.{byte_order_total}
 use Rattle.judy_sl.specs.declared.arena.Arena.{Arena}
@@ -14,15 +15,17 @@ use Rattle.judy_sl.specs.declared.arena.Way.TheVariants.{At, Gap, Clash}
 use Rattle.judy_sl.specs.Pieces.{pieces}
 use Rattle.judy_sl.specs.World.{World, lookup}
 use Rattle.judy_sl.specs.WorldInvariants.{AllLed}
-use Rattle.judy_sl.specs.Arenas.{world_of, map_of, array_of, IsStrings}
+use Rattle.judy_sl.specs.Arenas.{world_of, map_of, array_of, AreShort, IsStrings}
 use Rattle.judy_sl.specs.Places.{place_with, place_value}
 use Rattle.judy_sl.specs.Ways.{IsWay, IsNew, IsFound}
 use Rattle.judy_sl.specs.Grown.{IsChange, IsAdded, IsSame}
 use Rattle.judy_sl.specs.Lends.{with_value}
+use Rattle.judy_sl.proofs.lemmas.pieces.Strings.{short-insert}
 use Rattle.judy_sl.proofs.lemmas.seats.Maps.{get-map, map_written, len-added}
 use Rattle.judy_sl.proofs.lemmas.inserts.Filled.{world-same, arena-same}
 use Rattle.judy_sl.proofs.lemmas.inserts.Written.{written-change, value-there}
 use Rattle.judy_sl.proofs.lemmas.seats.Keeping.{gap-none, clash-none, get-there, value-place}
+use Rattle.judy_sl.specs.Strings.{IsString, all_strings}
 
 -- ---- the key isn't there
 
@@ -41,7 +44,7 @@ pub tried-room : (adds : Bool) (count limit : ℕ) → IsTrue (adds && not (coun
 tried-room false count limit tried full = false≢true tried
 tried-room true count limit tried full = false≢true (sym (ap not (eq-eqb count limit full)) ∙ tried)
 
-module _ (limit count : ℕ) (arena : Arena) (is : IsStrings limit count arena) (key : List ℕ) (is_key : IsStringKey key) where
+module _ (limit count : ℕ) (arena : Arena) (is : IsStrings limit count arena) (key : List ℕ) (is_key : IsString key) where
   -- Where the key is, the array isn't full for it, and the value stays.
   module _ (place : Place) (found : IsFound (world_of arena) key place) where
     pub there-not_full : IsFalse (is_full (array_of limit arena) key)
@@ -65,7 +68,7 @@ module _ (limit count : ℕ) (arena : Arena) (is : IsStrings limit count arena) 
     absent-ins = ap (λ (m : FinMap byte_order ℕ). get m key) (ins_absent (map_of arena) key none) ∙ get-insert_itself byte_order_total (map_of arena) key 0
 
     -- The key is added.
-    module _ (after : Arena) (place : Place) (added : IsAdded arena after key place) (room : count ≢ limit) where
+    module _ (after : Arena) (place : Place) (added : IsAdded arena after key place) (room : count ≢ limit) (fits : length key ≤ LONGEST_KEY) where
       pub strings-added : IsStrings limit (count + 1) after
       strings-added = record {
         is_arena = added.is_arena;
@@ -74,6 +77,7 @@ module _ (limit count : ℕ) (arena : Arena) (is : IsStrings limit count arena) 
         within_limit = (let w = is.within_limit in omega arith);
         holds_some = is.holds_some;
         limit_fits = is.limit_fits;
+        short = subst AreShort (sym (map_written arena after key is_key 0 added.change)) (short-insert (map_of arena) key 0 is.short fits);
       }
 
       pub array-added : (value : ℕ) → array_of limit (place_with after place value) ≡ with_value (array_of limit arena) key value
@@ -95,7 +99,7 @@ module _ (limit count : ℕ) (arena : Arena) (is : IsStrings limit count arena) 
   -- Nothing has changed.
   module _ (same : Arena) (is_same : IsSame arena same) where
     map-same : map_of same ≡ map_of arena
-    map-same = ap (λ (w : World). table string_keys (λ k. lookup w 0 (pieces k))) (world-same arena same is_same)
+    map-same = ap (λ (w : World). table all_strings (λ k. lookup w 0 (pieces k))) (world-same arena same is_same)
 
     pub strings-same : IsStrings limit count same
     strings-same = record {
@@ -105,6 +109,7 @@ module _ (limit count : ℕ) (arena : Arena) (is : IsStrings limit count arena) 
       within_limit = is.within_limit;
       holds_some = is.holds_some;
       limit_fits = is.limit_fits;
+      short = subst AreShort (sym map-same) is.short;
     }
 
     pub array-same : array_of limit same ≡ array_of limit arena

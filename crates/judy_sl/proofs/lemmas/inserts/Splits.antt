@@ -3,8 +3,7 @@ use Rattle.std.proofs.Common.{◌≡◌, ℕ, suc, ◌-◌, ◌≤◌, List, ◌
 use Rattle.std.proofs.lemmas.Option.{none-some}
 use Rattle.std.proofs.lemmas.List.{take_rest, length-drop}
 use Rattle.std.specs.FinMap.{FinMap, get}
-use Rattle.judy_model.specs.Keys.{word_order, IsStringKey}
-use Rattle.judy_model.specs.declared.keys.TheConstants.{LONGEST_KEY}
+use Rattle.judy_model.specs.Keys.{word_order}
 use Rattle.judy_sl.specs.Children.{Child, Free, Tail, Level, value_at, IsTaken}
 use Rattle.judy_sl.specs.declared.arena.Arena.{Arena}
 use Rattle.judy_sl.specs.declared.arena.Place.{Place}
@@ -28,6 +27,8 @@ use Rattle.judy_sl.proofs.lemmas.seats.Keeping.{gap-none, clash-none}
 use Rattle.judy_sl.proofs.lemmas.counts.KeysBehind.{rest-key}
 use Rattle.judy_sl.proofs.lemmas.inserts.Hangs.{StandsStill, stands-same, stands-both, stands-taken, stands-value}
 use Rattle.judy_sl.proofs.lemmas.inserts.Grafted.{sound-built}
+use Rattle.judy_model.specs.declared.keys.TheConstants.{LONGEST_STRING}
+use Rattle.judy_sl.specs.Strings.{IsString}
 
 -- ---- the tail to which the way comes
 
@@ -70,22 +71,22 @@ module _ (arena : Arena) (key : List ℕ) (from : Place) (at left : ℕ) (clash 
 
   module _ (is : IsArena arena) where
     -- and its bytes are the rest of a key, so they aren't too many.
-    tail-short : (rest : List ℕ × ℕ) → child_at arena at ≡ Tail rest → length rest.0 ≤ LONGEST_KEY
+    tail-short : (rest : List ℕ × ℕ) → child_at arena at ≡ Tail rest → length rest.0 ≤ LONGEST_STRING
     tail-short rest e =
         let spells = is.is_world.tails (suc at) (pieces rest.0) rest.1 (ap node_of e) in
         let more : SpellKey (pieces rest.0) = rest-key clash.leads.front (pieces rest.0) spells.key clash.leads.inner spells.is_key
         (spells.spells ∙ ap (λ f. f ++ pieces rest.0) (behind-leads (world_of arena) is.behind is.is_world key (suc at) (pieces (left_of key left)) clash.leads)) in
         let same : more.key ≡ rest.0 = pieces_same more.key rest.0 (text_of_key more.key more.is_key) (subst HasText e (is.texts at)) more.spells in
-        subst (λ (bytes : List ℕ). length bytes ≤ LONGEST_KEY) same more.is_key.is_bytes_key.within_limit
+        subst (λ (bytes : List ℕ). length bytes ≤ LONGEST_STRING) same more.is_key.is_bytes_key.within_limit
 
-    pub clash-tail : (rest : List ℕ × ℕ) × (child_at arena at ≡ Tail rest) × (length rest.0 ≤ LONGEST_KEY)
+    pub clash-tail : (rest : List ℕ × ℕ) × (child_at arena at ≡ Tail rest) × (length rest.0 ≤ LONGEST_STRING)
     clash-tail =
         let there = tail-child (child_at arena at) clash.is_tail in
         (there.0, there.1, tail-short there.0 there.1)
 
 -- ---- the branch that takes its place
 
-module _ (arena : Arena) (is : IsArena arena) (led : AllLed (world_of arena)) (counted : AreCounted arena) (key : List ℕ) (is_key : IsStringKey key) (from : Place)
+module _ (arena : Arena) (is : IsArena arena) (led : AllLed (world_of arena)) (counted : AreCounted arena) (key : List ℕ) (is_key : IsString key) (from : Place)
     (at left : ℕ) (clash : IsClash (world_of arena) key from at left) (items bytes : List ℕ) (value : ℕ) (read : child_at arena at ≡ Tail ((items, value)))
     (same_bytes : bytes ≡ items) (made : Branch) (built : IsBuilt bytes value (take (length key - (length key - left)) (drop (length key - left) key)) made) where
   there-read : child_at arena at ≡ Tail ((bytes, value))

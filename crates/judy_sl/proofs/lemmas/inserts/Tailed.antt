@@ -4,7 +4,7 @@ use Rattle.std.proofs.lemmas.Bool.{cases_eq}
 use Rattle.std.proofs.lemmas.Option.{none-some, same_Some}
 use Rattle.std.proofs.lemmas.List.{append_assoc, length-drop}
 use Rattle.std.specs.FinMap.{FinMap, get, insert}
-use Rattle.judy_model.specs.Keys.{word_order, IsStringKey}
+use Rattle.judy_model.specs.Keys.{word_order}
 use Rattle.judy_model.specs.Arrays.{ArrayOf}
 use Rattle.judy_sl.specs.Children.{Child, Tail}
 use Rattle.judy_sl.specs.declared.arena.Arena.{Arena}
@@ -27,6 +27,7 @@ use Rattle.judy_sl.proofs.lemmas.inserts.Written.{behind-leads}
 use Rattle.judy_sl.proofs.lemmas.seats.Led.{led-put}
 use Rattle.judy_sl.proofs.lemmas.seats.Linked.{node_with, texts-place, world-with_place, insert-some, get-insert_here, get-insert_off}
 use Rattle.judy_sl.proofs.lemmas.inserts.Filled.{level-place}
+use Rattle.judy_sl.specs.Strings.{IsString}
 
 -- A child that was put is at its seat.
 pub world-put : (before after : Arena) (child : Child) (at : ℕ) → IsPut before after child at → world_of after ≡ set_node (world_of before) (suc at) (node_of child)
@@ -52,7 +53,7 @@ module _ (before after : Arena) (child : Child) (at : ℕ) (put_is : IsPut befor
 
 -- An entry that leads to a new tail, over the seats alone.
 module _ (world : World) (behind : ℕ → List ℕ) (is : IsWorld world behind) (root : FinMap word_order ℕ) (root_is : world 0 ≡ level root) (key : List ℕ)
-    (is_key : IsStringKey key) (seat : ℕ) (piece : ℕ) (held : List ℕ) (some : held ≢ []) (inner : IsInner piece) (leads : LeadsTo world key seat (piece ∷ held))
+    (is_key : IsString key) (seat : ℕ) (piece : ℕ) (held : List ℕ) (some : held ≢ []) (inner : IsInner piece) (leads : LeadsTo world key seat (piece ∷ held))
     (map : FinMap word_order ℕ) (is_level : world seat ≡ level map) (absent : get map piece ≡ None) (at : ℕ) (free : world (suc at) ≡ gone) where
   abbrev new : Node
   new = tail held 0
@@ -165,7 +166,7 @@ module _ (world : World) (behind : ℕ → List ℕ) (is : IsWorld world behind)
   }
 
 -- The same over arenas: the tail is put in, and then the entry.
-module _ (arena : Arena) (is : IsArena arena) (key : List ℕ) (is_key : IsStringKey key) (place : Place) (left : ℕ) (gap : IsGap (world_of arena) key place left)
+module _ (arena : Arena) (is : IsArena arena) (key : List ℕ) (is_key : IsString key) (place : Place) (left : ℕ) (gap : IsGap (world_of arena) key place left)
     (long : 8 ≤ left) (placed : Arena) (at : ℕ) (rest : List ℕ × ℕ) (put_is : IsPut arena placed (Tail rest) at) (bytes : rest.0 ≡ drop 8 (left_of key left)) (zero_is : rest.1 ≡ 0) where
   abbrev rest_of : List ℕ
   rest_of = left_of key left
@@ -233,7 +234,7 @@ module _ (arena : Arena) (is : IsArena arena) (key : List ℕ) (is_key : IsStrin
       }
 
 -- The whole of it, as the steps of the code come.
-pub filled-tail : (before placed after : Arena) (key : List ℕ) (place : Place) (left at : ℕ) (rest : List ℕ × ℕ) → IsArena before → IsStringKey key → IsGap (world_of before) key place left →
+pub filled-tail : (before placed after : Arena) (key : List ℕ) (place : Place) (left at : ℕ) (rest : List ℕ × ℕ) → IsArena before → IsString key → IsGap (world_of before) key place left →
     8 ≤ left → IsPut before placed (Tail rest) at → after ≡ place_with placed place at → rest.0 ≡ drop 8 (left_of key left) → rest.1 ≡ 0 → IsAdded before after key (Below at 0)
 filled-tail before placed after key place left at rest is is_key gap long put_is after_is bytes value =
     subst (λ a. IsAdded before a key (Below at 0)) (sym after_is)

@@ -2,7 +2,7 @@
 use Rattle.std.proofs.Common.{◌≡◌, ℕ, ◌-◌, ◌<◌, ◌≤◌, List, length, drop, Option, None, Result, Ok, Err, refl, sym, ap, subst, ◌∙◌, arith}
 use Rattle.std.specs.FinMap.{get, insert}
 use Rattle.std.specs.Result.{IsErrAnd}
-use Rattle.judy_model.specs.Keys.{word_order, IsStringKey}
+use Rattle.judy_model.specs.Keys.{word_order}
 use Rattle.judy_model.specs.Arrays.{ArrayOf, with_map}
 use Rattle.judy_sl.specs.declared.arena.Arena.{Arena}
 use Rattle.judy_sl.specs.declared.arena.Place.TheVariants.{Root, Below}
@@ -19,13 +19,14 @@ use Rattle.judy_sl.proofs.lemmas.seats.Keeping.{gap-none}
 use Rattle.judy_sl.proofs.lemmas.seats.Maps.{get-map}
 use Rattle.judy_sl.proofs.lemmas.inserts.Filled.{fills-last}
 use Rattle.judy_sl.proofs.lemmas.inserts.Tailed.{filled-tail}
+use Rattle.judy_sl.specs.Strings.{IsString}
 
 -- Where memory is refused it shows what it would have shown.
 pub shown-refused : {E : Type 0} (Fails : E → Type 0) {Holds : Type 0} (result : Result (Option Place) E) → IsErrAnd result Fails → Holds → IfShown result Holds
 shown-refused Fails (Ok found) fails holds = absurd fails
 shown-refused Fails (Err error) fails holds = holds
 
-module _ (arena : Arena) (is : IsArena arena) (key : List ℕ) (is_key : IsStringKey key) (piece : ℕ) (piece_is : piece ≡ piece_of key) (none : get arena.root.map piece ≡ None) where
+module _ (arena : Arena) (is : IsArena arena) (key : List ℕ) (is_key : IsString key) (piece : ℕ) (piece_is : piece ≡ piece_of key) (none : get arena.root.map piece ≡ None) where
   -- Its way ends in the first level,
   pub first-gap : IsGap (world_of arena) key (Root piece) (length key)
   first-gap = on-gap (world_of arena) key arena.root.map key None piece (Root piece) (on-start (world_of arena) key arena.root.map refl) refl piece_is none (text_of_key key is_key)

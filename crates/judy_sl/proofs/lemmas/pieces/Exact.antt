@@ -5,7 +5,6 @@ use Rattle.std.proofs.lemmas.List.{length-drop, drop_all}
 use Rattle.std.proofs.lemmas.Option.{none-some, slice_get-get_or, slice_get_past}
 use Rattle.std.specs.Prelude.{slice_get}
 use Rattle.std.proofs.lemmas.List.Elements.{All-head, All-tail}
-use Rattle.judy_model.specs.Keys.{IsStringKey}
 use Rattle.judy_records.specs.Texts.{spelled}
 use Rattle.judy_records.proofs.OrderLemmas.{spelled-some, below_high}
 use Rattle.judy_sl.specs.Pieces.{piece_of, pieces, IsText, SpellKey, EndsWell}
@@ -13,6 +12,7 @@ use Rattle.judy_records.proofs.Spelling.{spelled-below}
 use Rattle.judy_sl.proofs.lemmas.pieces.Ways.{pieces_short, pieces_long}
 use Rattle.judy_sl.proofs.lemmas.pieces.OnWay.{pieces-some}
 use Rattle.judy_sl.proofs.lemmas.pieces.PieceLemmas.{text_of_key, text-drop, spelled-lt}
+use Rattle.judy_sl.specs.Strings.{IsString}
 
 -- ---- the last byte
 
@@ -135,6 +135,6 @@ same_pieces (suc less) one two within text small ends same =
     same_step one two text small ends (λ long later. same_pieces less (drop 8 one) (drop 8 two) (omega arith) (text-drop 8 one text) (bytes-drop 8 two small) (ends-drop 8 two ends) later) same
 
 -- The pieces of a key are those of the key alone.
-pub exact : (bytes : List ℕ) → AreBytes bytes → EndsWell bytes → SpellKey (pieces bytes) → IsStringKey bytes
+pub exact : (bytes : List ℕ) → AreBytes bytes → EndsWell bytes → SpellKey (pieces bytes) → IsString bytes
 exact bytes small ends spelled =
-    subst IsStringKey (same_pieces (length spelled.key) spelled.key bytes (omega arith) (text_of_key spelled.key spelled.is_key) small (ends-well bytes ends) spelled.spells) spelled.is_key
+    subst IsString (same_pieces (length spelled.key) spelled.key bytes (omega arith) (text_of_key spelled.key spelled.is_key) small (ends-well bytes ends) spelled.spells) spelled.is_key

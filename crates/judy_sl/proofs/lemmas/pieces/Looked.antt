@@ -3,7 +3,7 @@ use Rattle.std.proofs.Common.{◌≡◌, ℕ, suc, ◌+◌, ◌-◌, ◌<◌, �
 use Rattle.std.proofs.lemmas.List.{length-drop, get_or-drop}
 use Rattle.std.proofs.lemmas.Option.{slice_get_within, slice_get-get_or, get_or_from_slice_get}
 use Rattle.std.specs.FinMap.{FinMap, get}
-use Rattle.judy_model.specs.Keys.{IsStringKey, word_order}
+use Rattle.judy_model.specs.Keys.{word_order}
 use Rattle.judy_sl.specs.declared.arena.Arena.{Arena}
 use Rattle.judy_sl.specs.Pieces.{pieces, piece_of, IsText, IsFinal, IsInner, EndsWell}
 use Rattle.judy_sl.specs.World.{World, tail}
@@ -13,6 +13,7 @@ use Rattle.judy_sl.proofs.lemmas.pieces.PieceLemmas.{piece-IsInner}
 use Rattle.judy_sl.proofs.lemmas.pieces.Exact.{AreBytes, exact}
 use Rattle.judy_sl.proofs.lemmas.pieces.OnWay.{spelled-tail, spelled-last, found-last}
 use Rattle.judy_sl.proofs.lemmas.seats.Maps.{get-map, get-map_none}
+use Rattle.judy_sl.specs.Strings.{IsString}
 
 -- Bytes end as those that they are the end of.
 ends-drop : (n : ℕ) (bytes : List ℕ) → EndsWell bytes → EndsWell (drop n bytes)
@@ -37,11 +38,11 @@ module _ (arena : Arena) (is : IsArena arena) (key : List ℕ) (small : AreBytes
     (on : IsOnWay (world_of arena) key seat map rest) where
   -- What a tail's key is found for is that key,
   pub key-tail : 8 ≤ length rest → IsInner (piece_of rest) → (at : ℕ) → get map (piece_of rest) ≡ Some at → (held : List ℕ) (value : ℕ) →
-      world_of arena (suc at) ≡ tail (pieces held) value → held ≡ drop 8 rest → IsStringKey key
+      world_of arena (suc at) ≡ tail (pieces held) value → held ≡ drop 8 rest → IsString key
   key-tail long whole at entry held value tailed e = exact key small ends (spelled-tail (world_of arena) is.behind is.is_world key seat map rest on long whole at entry held value tailed e)
 
   -- and so is what has an entry under its last piece.
-  pub key-last : length rest < 8 → (value : ℕ) → get map (piece_of rest) ≡ Some value → IsStringKey key
+  pub key-last : length rest < 8 → (value : ℕ) → get map (piece_of rest) ≡ Some value → IsString key
   key-last short value entry = exact key small ends (spelled-last (world_of arena) is.behind is.is_world key seat map rest on short value entry)
 
   -- The last piece decides.

@@ -11,19 +11,20 @@ use Rattle.std.proofs.lemmas.Nat.{mul-add-lt}
 use Rattle.std.proofs.lemmas.Bool.{cases_lt}
 use Rattle.std.proofs.lemmas.List.{get_or_default, length-drop, get_or_past, drop_all}
 use Rattle.std.proofs.lemmas.List.Elements.{All-head, All-tail, All-get_or}
-use Rattle.judy_model.specs.Keys.{IsStringKey, word_order, byte_order}
-use Rattle.judy_model.specs.declared.keys.TheConstants.{LONGEST_KEY}
+use Rattle.judy_model.specs.Keys.{word_order, byte_order}
 use Rattle.judy_model.proofs.lemmas.orders.ByteLemmas.{unit_pos}
 use Rattle.judy_records.specs.Texts.{spelled, first_word}
 use Rattle.judy_records.proofs.Spelling.{spelled-more}
 use Rattle.judy_records.proofs.OrderLemmas.{text-bytes, told-texts, order-first}
 use Rattle.judy_sl.proofs.lemmas.pieces.Ways.{pieces_short, pieces_long}
 use Rattle.judy_sl.specs.Pieces.{piece_of, pieces_in, pieces, IsFinal, IsInner, ArePieces, IsText}
+use Rattle.judy_model.specs.declared.keys.TheConstants.{LONGEST_STRING}
+use Rattle.judy_sl.specs.Strings.{IsString}
 
 -- ---- texts
 
 -- The bytes of a key are a text.
-pub text_of_key : (key : List ℕ) → IsStringKey key → IsText key
+pub text_of_key : (key : List ℕ) → IsString key → IsText key
 text_of_key key is = λ k d within. (is.is_bytes_key.is_byte_string k d within, is.without_zero k d within)
 
 -- Bytes of which none is zero are one.
@@ -31,7 +32,7 @@ pub text_from_bytes : (bytes : List ℕ) → ((k : ℕ) → Fits w8 (get_or byte
 text_from_bytes bytes small some = λ k d within. (let here : get_or bytes k d ≡ get_or bytes k 0 = get_or_default bytes k d 0 within in let fits = small k in omega arith, some k d within)
 
 -- And a text of at most 1,024 bytes is a key.
-pub key_of_text : (key : List ℕ) → IsText key → length key ≤ LONGEST_KEY → IsStringKey key
+pub key_of_text : (key : List ℕ) → IsText key → length key ≤ LONGEST_STRING → IsString key
 key_of_text key text within = record { is_bytes_key = record { is_byte_string = λ k d inside. (text k d inside).0; within_limit = within }; without_zero = λ k d inside. (text k d inside).1 }
 
 -- What is left of a text after its first bytes is one.

@@ -1,4 +1,4 @@
--- What the entry that is chosen among the first level's tells of the key at a place.
+-- What the entry that is chosen among a level's tells of the key at a place.
 use Rattle.std.proofs.Common.{◌≡◌, ℕ, zero, suc, ◌+◌, ◌-◌, ◌<◌, ◌≤◌, cond, nat_lt, ⊎_elim, List, [], ◌∷◌, ◌++◌, length, take, slice_get, Option, Some, unwrap_or, refl, sym, ap, ◌∙◌, subst, arith}
 use Rattle.std.specs.List.{flat_map, sum_by}
 use Rattle.std.specs.Option.{option_map}
@@ -22,18 +22,17 @@ use Rattle.judy_sums.specs.Levels.{keys_below, part_of, part_len}
 use Rattle.judy_sums.proofs.PairLemmas.{head_from, from_less}
 use Rattle.judy_sums.proofs.Parts.{nth_parts}
 use Rattle.judy_model.proofs.lemmas.maps.Pairs.{rest_sorted}
-use Rattle.judy_sl.specs.declared.arena.Arena.{Arena}
 use Rattle.judy_sl.specs.declared.nth.Mark.{Mark}
 use Rattle.judy_sl.specs.Pieces.{piece_bytes, IsFinal, IsInner}
-use Rattle.judy_sl.specs.World.{World}
-use Rattle.judy_sl.specs.Arenas.{world_of, map_of, IsArena}
+use Rattle.judy_sl.specs.World.{World, level}
+use Rattle.judy_sl.specs.WorldInvariants.{IsWorld}
 use Rattle.judy_sl.specs.Behind.{map_behind, entry_keys}
 use Rattle.judy_sl.specs.Counted.{keys_behind}
 use Rattle.judy_sl.specs.Firsts.{AreFirsts}
-use Rattle.judy_sl.specs.Nth.{before_entry, KeysFit, IsChosen, IsNthBehind}
+use Rattle.judy_sl.specs.Nth.{before_entry, KeysFit, IsChosen, IsSpotOf, IsNthBehind}
 use Rattle.judy_sl.proofs.lemmas.seats.Behind.{entries_behind, inner_key}
 use Rattle.judy_sl.proofs.lemmas.counts.KeysTold.{final_keys, inner_keys, inner_count}
-use Rattle.judy_sl.proofs.lemmas.counts.FirstSums.{first_keys_below}
+use Rattle.judy_sl.proofs.lemmas.counts.FirstSums.{list_keys_below}
 use Rattle.judy_sl.proofs.lemmas.places.Nths.{place_at}
 use Rattle.judy_sl.proofs.lemmas.places.NthReads.{all_of}
 use Rattle.judy_sl.proofs.lemmas.places.NthWays.{all_at}
@@ -92,15 +91,10 @@ pub piece_short : (piece : ℕ) → length (piece_bytes piece) ≤ 8
 unfolding piece_bytes
 piece_short piece = let most = length-filter-le (λ byte. nat_lt 0 byte) (low_bytes 8 piece) in let eight = length-low_bytes 8 piece in omega arith
 
--- ---- the entries of the first level
+-- ---- the entries of a level
 
-module _ (arena : Arena) (is : IsArena arena) (firsts : FinMap word_order ℕ) (are : AreFirsts (map_of arena) firsts) where
-  abbrev W : World
-  W = world_of arena
-
-  abbrev words : FinMap word_order ℕ
-  words = arena.root.map
-
+module _ {W : World} {behind : ℕ → List ℕ} (is : IsWorld W behind) (seat : ℕ) (words : FinMap word_order ℕ) (here : W seat ≡ level words)
+    (firsts : FinMap word_order ℕ) (are : AreFirsts (map_behind W seat) firsts) where
   -- How many keys stand behind an entry, and behind the first so many.
   abbrev size : ℕ × ℕ → ℕ
   size entry = part_len (entry_keys W) entry
@@ -108,11 +102,11 @@ module _ (arena : Arena) (is : IsArena arena) (firsts : FinMap word_order ℕ) (
   abbrev front : ℕ → ℕ
   front place = sum_by size (take place (entries words))
 
-  all_keys : entries (map_of arena) ≡ flat_map (entry_keys W) (entries words)
-  all_keys = entries_behind is.is_world 0 words refl
+  all_keys : entries (map_behind W seat) ≡ flat_map (entry_keys W) (entries words)
+  all_keys = entries_behind is seat words here
 
-  how_many : len (map_of arena) ≡ sum_by size (entries words)
-  how_many = len-entries (map_of arena) ∙ ap length all_keys ∙ length-flat_map (entry_keys W) (entries words)
+  how_many : len (map_behind W seat) ≡ sum_by size (entries words)
+  how_many = len-entries (map_behind W seat) ∙ ap length all_keys ∙ length-flat_map (entry_keys W) (entries words)
 
   entry_at : (place : ℕ) → place < len words → (entry : ℕ × ℕ) × (slice_get (entries words) place ≡ Some entry)
   entry_at place within = ⊎_elim
@@ -131,23 +125,23 @@ module _ (arena : Arena) (is : IsArena arena) (firsts : FinMap word_order ℕ) (
       let same : unwrap_or (nth words place) 0 ≡ found.0.0 = ap (λ (one : Option ℕ). unwrap_or one 0) (nth-slice_get nat_cmp_total words place ∙ word) in
       let sums = ap (sum_below (entries firsts)) same in
       let first = rank_at nat_cmp_total words place found.0.0 word in
-      let below = first_keys_below arena is firsts are found.0.0 in
+      let below = list_keys_below is seat words here firsts are found.0.0 in
       let up_to = below_place size (entries words) (entries_sorted words) place found.0 found.1 in
       omega arith
 
   pub before_first : 1 ≤ len words → before_entry words firsts 0 ≡ 0
   before_first some = before_is 0 (omega arith)
 
-  pub before_fits : len (map_of arena) ≤ 4294967295 → (place : ℕ) → place < len words → before_entry words firsts place ≤ 4294967295
+  pub before_fits : len (map_behind W seat) ≤ 4294967295 → (place : ℕ) → place < len words → before_entry words firsts place ≤ 4294967295
   before_fits few place within =
       let is_front = before_is place within in
       let most = sum_by-take-le size (entries words) place in
       let all = how_many in
       omega arith
 
-  pub first_some : (place : ℕ) → place < len (map_of arena) → 1 ≤ len words
+  pub first_some : (place : ℕ) → place < len (map_behind W seat) → 1 ≤ len words
   first_some place within =
-      let all = len-entries (map_of arena) in
+      let all = len-entries (map_behind W seat) in
       let parts = ap length all_keys in
       let long = len-entries words in
       let some = some_part (entry_keys W) (entries words) (omega arith) in
@@ -155,7 +149,7 @@ module _ (arena : Arena) (is : IsArena arena) (firsts : FinMap word_order ℕ) (
 
   -- ---- the one that is chosen
 
-  module _ (place : ℕ) (inside : place < len (map_of arena)) (mark : Mark) (chosen : IsChosen words firsts place mark) (piece value : ℕ)
+  module _ (place : ℕ) (inside : place < len (map_behind W seat)) (mark : Mark) (chosen : IsChosen words firsts place mark) (piece value : ℕ)
       (at : by_count words (mark.place + 1) ≡ Some piece) (held : get words piece ≡ Some value) where
     own_at : slice_get (entries words) mark.place ≡ Some (piece, value)
     own_at =
@@ -189,7 +183,7 @@ module _ (arena : Arena) (is : IsArena arena) (firsts : FinMap word_order ℕ) (
     own_left = let within = own_within in let low = chosen.low in omega arith
 
     -- so many places behind those before it.
-    own_part : slice_get (entries (map_of arena)) place ≡ slice_get (entry_keys W (piece, value)) (place - mark.before)
+    own_part : slice_get (entries (map_behind W seat)) place ≡ slice_get (entry_keys W (piece, value)) (place - mark.before)
     own_part =
         let found : find word_order piece (entries words) ≡ Some value = sym (get-entries words piece) ∙ held in
         let part : part_of (entry_keys W) piece (find word_order piece (entries words)) ≡ entry_keys W (piece, value) = ap (part_of (entry_keys W) piece) found in
@@ -202,7 +196,7 @@ module _ (arena : Arena) (is : IsArena arena) (firsts : FinMap word_order ℕ) (
         ∙ ap (λ pairs. slice_get pairs (place - mark.before)) part
 
     -- Where its piece is final, that is the key.
-    pub own_final : IsFinal piece → slice_get (entries (map_of arena)) place ≡ Some (piece_bytes piece, value)
+    pub own_final : IsFinal piece → slice_get (entries (map_behind W seat)) place ≡ Some (piece_bytes piece, value)
     own_final final =
         let one : List (List ℕ × ℕ) = (piece_bytes piece, value) ∷ [] in
         let only : entry_keys W (piece, value) ≡ one = final_keys W (piece, value) final in
@@ -217,14 +211,14 @@ module _ (arena : Arena) (is : IsArena arena) (firsts : FinMap word_order ℕ) (
 
     pub own_fits : IsInner piece → (bytes : List ℕ) → bytes ≡ piece_bytes piece → KeysFit W (suc value) bytes
     own_fits inner bytes same rest kept found =
-        let begun = inner_key is.is_world 0 words refl piece value held inner rest kept found in
+        let begun = inner_key is seat words here piece value held inner rest kept found in
         let within = begun.0.is_bytes_key.within_limit in
         let long = length-append (piece_bytes piece) rest in
         let its = ap length same in
         omega arith
 
     pub own_inner : IsInner piece → (bytes after : List ℕ) (result : Option ℕ) → bytes ≡ piece_bytes piece → (there : IsNthBehind W (suc value) (place - mark.before) bytes after result) →
-        slice_get (entries (map_of arena)) place ≡ Some (after, there.value)
+        slice_get (entries (map_behind W seat)) place ≡ Some (after, there.value)
     own_inner inner bytes after result same there =
         let led : List ℕ × ℕ → List ℕ × ℕ = λ pair. (piece_bytes piece ++ pair.0, pair.1) in
         own_part
@@ -232,3 +226,11 @@ module _ (arena : Arena) (is : IsArena arena) (firsts : FinMap word_order ℕ) (
         ∙ slice_get-map led (entries (map_behind W (suc value))) (place - mark.before)
         ∙ ap (option_map led) there.stands
         ∙ ap (λ key. Some (key, there.value)) (sym (there.bytes ∙ ap (λ one. one ++ there.rest) same))
+
+    -- So it is the entry behind which the key stands.
+    pub chosen_spot : IsSpotOf W words place (record { piece = piece; value = value; place = place - mark.before })
+    chosen_spot = record {
+      held = held;
+      within = own_left;
+      same = ap (λ pairs. slice_get pairs place) (sym all_keys) ∙ own_part;
+    }

@@ -7,7 +7,6 @@ use Rattle.std.proofs.lemmas.Bool.{cases_eq}
 use Rattle.std.proofs.lemmas.List.{append_assoc, length-append}
 use Rattle.std.proofs.lemmas.Option.{slice_get_cases, slice_get_within, slice_get-map, same_Some, none-some}
 use Rattle.judy_model.specs.Keys.{word_order, byte_order}
-use Rattle.judy_model.specs.declared.keys.TheConstants.{LONGEST_KEY}
 use Rattle.judy_model.proofs.lemmas.maps.TableLemmas.{byte_order_total, byte_order_same}
 use Rattle.judy_sums.proofs.Parts.{each_found}
 use Rattle.judy_sl.specs.declared.arena.Arena.{Arena}
@@ -20,6 +19,7 @@ use Rattle.judy_sl.specs.Counted.{keys_behind}
 use Rattle.judy_sl.specs.Nth.{KeysFit, IsSpotOf, IsNthBehind}
 use Rattle.judy_sl.proofs.lemmas.seats.Behind.{entries_behind}
 use Rattle.judy_sl.proofs.lemmas.counts.KeysTold.{gone_empty, tail_entries, led_pairs, final_keys, inner_keys}
+use Rattle.judy_model.specs.declared.keys.TheConstants.{LONGEST_STRING}
 
 -- What holds of each holds of the one at a place.
 pub all_at : {X : Type 0} (P : X → Type 0) (all : List X) (place : ℕ) (one : X) → AllByRecursion P all → slice_get all place ≡ Some one → P one
@@ -57,14 +57,6 @@ led_at front pairs place key value at = by (slice_get pairs place) refl
         ap (option_map (λ (pair : List ℕ × ℕ). (front ++ pair.0, pair.1))) is) ∙ at) in
         record { rest = pair.0; is = ap (λ (p : List ℕ × ℕ). p.0) (sym same); at = is ∙ ap (λ v. Some (pair.0, v)) (ap (λ (p : List ℕ × ℕ). p.1) same) }
 
--- A key that was put behind bytes for which each has room is short.
-pub nth_fits : (world : World) (seat place : ℕ) (before after : List ℕ) (found : Option ℕ) → KeysFit world seat before → IsNthBehind world seat place before after found → length after ≤ LONGEST_KEY
-nth_fits world seat place before after found fits is =
-    let room = fits is.rest is.value (held_at (map_behind world seat) place is.rest is.value is.stands) in
-    let long = length-append before is.rest in
-    let same = ap length is.bytes in
-    omega (arith, room, long, same)
-
 -- ---- the way
 
 -- The key at a place behind the first child is the one at a place behind the child to which the way has come; the buffer has its bytes up to there.
@@ -72,7 +64,7 @@ pub record OnNth (world : World) (child place : ℕ) (before : List ℕ) (at lef
   pub rest : List ℕ
   pub value : ℕ
   pub stands : slice_get (entries (map_behind world (suc child))) place ≡ Some (rest, value)
-  pub room : length (before ++ rest) ≤ LONGEST_KEY
+  pub room : length (before ++ rest) ≤ LONGEST_STRING
   pub later : List ℕ
   pub here : slice_get (entries (map_behind world (suc at))) left ≡ Some (later, value)
   pub bytes_are : bytes ++ later ≡ before ++ rest
@@ -115,7 +107,7 @@ module _ (arena : Arena) (is_arena : IsArena arena) (child place : ℕ) (before 
         only (suc place) e = cc
 
     -- The buffer has room for it.
-    pub nth_tail_room : length bytes + length held ≤ LONGEST_KEY
+    pub nth_tail_room : length bytes + length held ≤ LONGEST_STRING
     nth_tail_room =
         let same = ap length (nth_last.0) in
         let long = length-append bytes on.later in
@@ -161,7 +153,7 @@ module _ (arena : Arena) (is_arena : IsArena arena) (child place : ℕ) (before 
           (ap (λ pairs. slice_get pairs spot.place) (sym (inner_keys W (spot.piece, spot.value) inner)) ∙ nth_entry)
 
       -- The buffer has room for the piece.
-      pub nth_room : length bytes + length (piece_bytes spot.piece) ≤ LONGEST_KEY
+      pub nth_room : length bytes + length (piece_bytes spot.piece) ≤ LONGEST_STRING
       nth_room = ⊎_elim
           (λ final.
           let same = ap length ((nth_ends final).0) in

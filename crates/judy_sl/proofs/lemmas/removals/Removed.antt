@@ -1,33 +1,45 @@
 -- What a delete makes of an array of strings.
-use Rattle.std.proofs.Common.{◌≡◌, ℕ, zero, suc, ◌-◌, ◌≤◌, Bool, true, false, cond, List, is_some, Option, refl, sym, ap, ◌∙◌, arith}
-use Rattle.std.specs.FinMap.{FinMap, contains_key, remove, len, len-remove, empty_of_len, get-empty}
+use Rattle.std.proofs.Common.{◌≡◌, ℕ, zero, suc, ◌-◌, ◌≤◌, Bool, true, false, cond, List, is_some, Option, None, Some, refl, sym, ap, subst, ◌∙◌, arith}
+use Rattle.std.specs.FinMap.{FinMap, get, contains_key, remove, len, len-remove, empty_of_len, get-empty}
 use Rattle.judy_model.specs.Keys.{byte_order, IsStringKey}
 use Rattle.judy_model.specs.Arrays.{with_map, del}
 use Rattle.judy_model.proofs.lemmas.maps.SortedMaps.{remove_absent}
-use Rattle.judy_model.proofs.lemmas.maps.TableLemmas.{byte_order_total, byte_order_same}
+use Rattle.judy_model.proofs.lemmas.maps.TableLemmas.{byte_order_total, byte_order_same, table_some}
 use Rattle.judy_sl.specs.declared.arena.Arena.{Arena}
 use Rattle.judy_sl.specs.Pieces.{pieces}
 use Rattle.judy_sl.specs.World.{lookup}
-use Rattle.judy_sl.specs.Arenas.{world_of, map_of, array_of, IsStrings}
+use Rattle.judy_sl.specs.Arenas.{world_of, map_of, array_of, AreShort, IsStrings}
 use Rattle.judy_sl.specs.Shrunk.{IsShrunk}
-use Rattle.judy_sl.proofs.lemmas.seats.Maps.{get-map, get-map_bad, map_removed}
+use Rattle.judy_sl.proofs.lemmas.pieces.Strings.{short-remove, all_strings-all, key_of_string}
+use Rattle.judy_sl.proofs.lemmas.seats.Maps.{get-map, map_removed}
+use Rattle.judy_sl.specs.Strings.{IsString}
 
 module _ (limit : ℕ) (arena : Arena) (key : List ℕ) where
   -- Bytes that are no key are absent.
-  module _ (bad : IsStringKey key → ⊥) where
+  module _ (short : AreShort (map_of arena)) (bad : IsStringKey key → ⊥) where
+    bad-none : get (map_of arena) key ≡ None
+    bad-none = by (get (map_of arena) key) refl
+      where
+        by : (found : Option ℕ) → get (map_of arena) key ≡ found → get (map_of arena) key ≡ None
+        by None is = is
+        by (Some value) is = absurd (bad (key_of_string key (table_some all_strings-all (λ k. lookup (world_of arena) 0 (pieces k)) key value is).0 (short key value is)))
+
     pub bad-absent : contains_key (map_of arena) key ≡ false
-    bad-absent = ap (λ (o : Option ℕ). is_some o) (get-map_bad arena key bad)
+    bad-absent = ap (λ (o : Option ℕ). is_some o) bad-none
 
     pub bad-deleted : array_of limit arena ≡ with_map (array_of limit arena) (del (map_of arena) key)
-    bad-deleted = ap (λ (m : FinMap byte_order ℕ). record { limit = limit; map = m }) (sym (remove_absent byte_order_total byte_order_same (map_of arena) key (get-map_bad arena key bad)))
+    bad-deleted = ap (λ (m : FinMap byte_order ℕ). record { limit = limit; map = m }) (sym (remove_absent byte_order_total byte_order_same (map_of arena) key bad-none))
 
-  module _ (is_key : IsStringKey key) where
+  module _ (is_key : IsString key) where
     pub key-there : contains_key (map_of arena) key ≡ is_some (lookup (world_of arena) 0 (pieces key))
     key-there = ap (λ (o : Option ℕ). is_some o) (get-map arena key is_key)
 
     module _ (after : Arena) (shrunk : IsShrunk arena after key) where
       map-is : map_of after ≡ remove (map_of arena) key
       map-is = map_removed arena after key is_key shrunk.change
+
+      short-left : AreShort (map_of arena) → AreShort (map_of after)
+      short-left short = subst AreShort (sym map-is) (short-remove (map_of arena) key short)
 
       pub key-deleted : array_of limit after ≡ with_map (array_of limit arena) (del (map_of arena) key)
       key-deleted = ap (λ (m : FinMap byte_order ℕ). record { limit = limit; map = m }) map-is
@@ -58,6 +70,7 @@ module _ (limit : ℕ) (arena : Arena) (key : List ℕ) where
           within_limit = (let w = is.within_limit in omega (arith, w));
           holds_some = is.holds_some;
           limit_fits = is.limit_fits;
+          short = short-left is.short;
         }
 
         pub strings-kept : found ≡ false → IsStrings limit count after
@@ -68,4 +81,5 @@ module _ (limit : ℕ) (arena : Arena) (key : List ℕ) where
           within_limit = is.within_limit;
           holds_some = is.holds_some;
           limit_fits = is.limit_fits;
+          short = short-left is.short;
         }

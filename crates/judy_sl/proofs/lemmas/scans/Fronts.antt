@@ -8,10 +8,12 @@ use Rattle.judy_model.specs.declared.keys.TheConstants.{LONGEST_KEY}
 use Rattle.judy_tails.specs.declared.writer.KeyRoom.{KeyRoom}
 use Rattle.judy_tails.specs.Rooms.{bytes_in, IsWhole}
 use Rattle.judy_sl.specs.declared.scans.Look.{Look}
-use Rattle.judy_sl.specs.World.{World}
+use Rattle.judy_sl.specs.declared.arena.Arena.{Arena}
+use Rattle.judy_sl.specs.Arenas.{world_of, map_of, AreWithin, AreShort}
 use Rattle.judy_tails.specs.Writers.{WasGiven}
 use Rattle.judy_sl.specs.declared.runs.Run.{Run}
 use Rattle.judy_sl.specs.Scans.{upward, IsFront, IsNeighbour}
+use Rattle.judy_sl.proofs.lemmas.pieces.Strings.{within-found}
 use Rattle.judy_sl.specs.Runs.{Levels, IsAbove, IsClimbed, Stands}
 
 -- The buffer ends with the key in front, and what was behind its place is there still.
@@ -52,11 +54,11 @@ front-begun key buffer len depth is inside within =
       sym (ap (take depth) is ∙ take-take depth len buffer (omega (arith, all, within))),
     )
 
--- A key that a scan leaves is no longer than a buffer that has room for any, and for the one from which it looked.
-pub neighbour-fits : (look : Look) (world : World) (key after : List ℕ) (found : Option ℕ) (room : ℕ) → LONGEST_KEY ≤ room → length key ≤ room → IsNeighbour look world key after found →
-    length after ≤ room
-neighbour-fits look world key after None room most fits none = let same = ap length none.1 in omega (arith, same, fits)
-neighbour-fits look world key after (Some value) room most fits some = let within = some.1.is_bytes_key.within_limit in omega (arith, within, most)
+-- A key that a scan leaves is no longer than a buffer that has room for each, and for the one from which it looked.
+pub neighbour-fits : (look : Look) (arena : Arena) (room : ℕ) → AreWithin room (map_of arena) → (key after : List ℕ) (found : Option ℕ) → length key ≤ room →
+    IsNeighbour look (world_of arena) key after found → length after ≤ room
+neighbour-fits look arena room within key after None fits none = let same = ap length none.1 in omega (arith, same, fits)
+neighbour-fits look arena room within key after (Some value) fits some = within-found arena room within after value some.1 some.2
 
 -- The first elements are no more than that.
 few : (count : ℕ) (all : List ℕ) → length (take count all) ≤ count
@@ -74,14 +76,15 @@ pub room-begun : (key : List ℕ) (room : KeyRoom) (depth : ℕ) → room.len �
 room-begun key room depth long are within = (long ∙ sym (length-take-le depth key within), λ fits. are)
 
 -- And the key to which a walk goes on.
-pub room-climbed : (itself : Bool) (world : World) (before : KeyRoom) → IsWhole before → (above : Levels) (run : Run) (found : Option ℕ) (room : KeyRoom) →
-    WasGiven (λ (key : KeyRoom) bytes. (key.len ≡ length bytes) × (length bytes ≤ LONGEST_KEY → take key.len key.bytes ≡ bytes)) room (IsClimbed itself world (bytes_in before) above run found) →
-    IsWhole room × IsAbove itself world (bytes_in before) (bytes_in room) found × Stands world (bytes_in room) above run
-room-climbed itself world before whole above run found room got =
-    let fits = neighbour-fits (upward itself) world (bytes_in before) got.bytes found LONGEST_KEY (omega arith) (room-short before whole) got.are.0 in
+pub room-climbed : (itself : Bool) (arena : Arena) → AreShort (map_of arena) → (before : KeyRoom) → IsWhole before → (above : Levels) (run : Run) (found : Option ℕ) (room : KeyRoom) →
+    WasGiven (λ (key : KeyRoom) bytes. (key.len ≡ length bytes) × (length bytes ≤ LONGEST_KEY → take key.len key.bytes ≡ bytes)) room
+    (IsClimbed itself (world_of arena) (bytes_in before) above run found) →
+    IsWhole room × IsAbove itself (world_of arena) (bytes_in before) (bytes_in room) found × Stands (world_of arena) (bytes_in room) above run
+room-climbed itself arena short before whole above run found room got =
+    let fits = neighbour-fits (upward itself) arena LONGEST_KEY short (bytes_in before) got.bytes found (room-short before whole) got.are.0 in
     let long = got.given.0 in
     let are = sym (got.given.1 fits) in (
       omega (arith, long, fits),
-      subst (λ bytes. IsAbove itself world (bytes_in before) bytes found) are got.are.0,
-      subst (λ bytes. Stands world bytes above run) are got.are.1,
+      subst (λ bytes. IsAbove itself (world_of arena) (bytes_in before) bytes found) are got.are.0,
+      subst (λ bytes. Stands (world_of arena) bytes above run) are got.are.1,
     )

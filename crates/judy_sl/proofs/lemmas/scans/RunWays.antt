@@ -10,25 +10,25 @@ use Rattle.std.proofs.lemmas.Option.{same_Some}
 use Rattle.std.proofs.Math.Seq.{take-add}
 use Rattle.judy_model.specs.Arrays.{ArrayOf}
 use Rattle.judy_model.specs.Keys.{word_order}
-use Rattle.judy_model.specs.declared.keys.TheConstants.{LONGEST_KEY}
 use Rattle.judy_model.proofs.lemmas.maps.TableLemmas.{byte_order_total}
 use Rattle.judy_sl.specs.declared.scans.Look.{Look}
 use Rattle.judy_sl.specs.declared.scans.Turn.{Turn}
 use Rattle.judy_sl.specs.declared.runs.Run.{Run}
 use Rattle.judy_sl.specs.Pieces.{piece_of, pieces, piece_bytes, spelling, IsFinal, IsInner, AreInner, IsText, SpellKey}
-use Rattle.judy_sl.specs.World.{World, gone, tail, level, step_node, step_entry, walk}
+use Rattle.judy_sl.specs.World.{World, gone, tail, level, step_node, step_entry, lookup, walk}
 use Rattle.judy_sl.specs.WorldInvariants.{IsWorld}
 use Rattle.judy_sl.specs.Ways.{seat_in}
 use Rattle.judy_sl.specs.Scans.{upward, meets, IsNone, IsNear, IsTurnOf, IsNeighbour}
 use Rattle.judy_sl.specs.Runs.{AreBeyond, AreKept, Levels, Passes, LeadAlong, Stands, EntryLeads, LeadsToLevel}
 use Rattle.judy_sl.proofs.lemmas.pieces.PieceLemmas.{text_of_key, text-drop}
-use Rattle.judy_sl.proofs.lemmas.pieces.Ways.{pieces_short, pieces_long, step-parts, walk-behind, walk-more}
-use Rattle.judy_sl.proofs.lemmas.pieces.OnWay.{pieces-head}
+use Rattle.judy_sl.proofs.lemmas.pieces.Ways.{pieces_short, pieces_long, step-parts, lookup-walk}
+use Rattle.judy_sl.proofs.lemmas.pieces.OnWay.{pieces-head, short-IsFinal}
 use Rattle.judy_sl.proofs.lemmas.scans.ScanLevels.{NoneBehind, pieces_last, none_child, none_tail, moved_near, turned_near, turned_none}
-use Rattle.judy_sl.proofs.lemmas.scans.ScanWays.{AreInner-more}
-use Rattle.judy_sl.proofs.lemmas.scans.ScanEnds.{OnFollow, its_pieces, place_is, tail_key, follow_level}
+use Rattle.judy_sl.proofs.lemmas.scans.ScanEnds.{OnFollow, begins, its_pieces, place_is, tail_key, follow_level}
 use Rattle.judy_sl.proofs.lemmas.pieces.PieceBytes.{bytes-piece, spelling-pieces}
 use Rattle.judy_sl.proofs.lemmas.scans.LevelEntries.{first_of_all}
+use Rattle.judy_model.specs.declared.keys.TheConstants.{LONGEST_KEY}
+use Rattle.judy_sl.specs.Strings.{IsString}
 
 -- ---- the levels above one
 
@@ -101,13 +101,6 @@ module _ (world : World) where
   along_some seat [] (passed ∷ above) end along = along
   along_some seat (piece ∷ front) [] end along = along.1
   along_some seat (piece ∷ front) (passed ∷ above) end along = along_some (suc along.0) front above end along.2
-
--- What inner pieces lead to a level are few.
-pub front_short : {world : World} {behind : ℕ → List ℕ} (is_world : IsWorld world behind) (front : List ℕ) (seat : ℕ) (map : FinMap word_order ℕ) → AreInner front →
-    walk world 0 front ≡ Some seat → world seat ≡ level map → 8 * length front ≤ LONGEST_KEY
-front_short {world} {behind} is_world front seat map inner way is =
-    let place : behind seat ≡ front = walk-behind world behind is_world 0 front seat inner way ∙ ap (λ place. place ++ front) is_world.first in
-    subst (λ (place : List ℕ). 8 * length place ≤ LONGEST_KEY) place (is_world.levels seat map is).short
 
 -- ---- where pieces end in their key
 
@@ -372,16 +365,29 @@ kept_above front piece above held others beyond = λ before last levels top fron
     let levels_same : Some held ≡ Some top = (same_from_push above levels (Some held) (Some top) above_is).1 in
     subst (λ p. AreBeyond top.now.map p others) pieces_same (subst (λ (b : Bor (ArrayOf word_order)). AreBeyond b.now.map piece others) (same_Some held top levels_same) beyond)
 
+-- A key that goes on behind its first pieces by an inner one has eight bytes for each.
+inner-long : (front : List ℕ) (piece : ℕ) (rest : List ℕ) (key : SpellKey (front ++ piece ∷ rest)) → IsInner piece → 8 * (length front + 1) ≤ length key.key
+inner-long front piece rest key inner =
+    let cut = cut_at front piece rest key.key (text_of_key key.key key.is_key) key.spells in
+    let within = cut.within in
+    let left = length-drop (8 * length front) key.key in
+    ⊎_elim
+    (λ few. absurd (inner (subst IsFinal cut.begins (short-IsFinal (drop (8 * length front) key.key) few))))
+    (λ long. omega (arith, within, left, long))
+    (cases_lt (length (drop (8 * length front) key.key)) 8)
+
 module _ {itself : Bool} {world : World} {behind : ℕ → List ℕ} (is_world : IsWorld world behind) {key : List ℕ} {piece value : ℕ} {bytes : List ℕ} {above : Levels}
     {map : FinMap word_order ℕ} {both : List (ℕ × ℕ) × Option (List (ℕ × ℕ))} (c : Climbing itself world key piece value bytes above map both) where
-  -- There is room for one level more.
-  pub climb_room : (below : FinMap word_order ℕ) → IsInner piece → world (suc value) ≡ level below → length above < 128
-  climb_room below inner is_below =
-      let short = front_short is_world (c.on.front ++ piece ∷ []) (suc value) below (AreInner-more c.on.front piece c.on.inner inner)
-      (walk-more world 0 c.on.front c.on.seat map piece value c.on.way c.on.is_level c.entry) is_below in
-      let longer = length-append c.on.front (piece ∷ []) in
+  -- There is room for one level more where no key is longer than one may be.
+  pub climb_room : ((key : List ℕ) (value : ℕ) → IsString key → lookup world 0 (pieces key) ≡ Some value → length key ≤ LONGEST_KEY) → IsInner piece → length above < 128
+  climb_room short inner =
+      let begun = begins is_world c.on.seat map piece c.on.is_level c.on.held in
+      let spelled = subst (λ place. SpellKey (place ++ piece ∷ begun.rest)) (place_is is_world key map piece bytes c.on) begun.spelled in
+      let found = ap (lookup world 0) spelled.spells ∙ lookup-walk world 0 c.on.front c.on.seat piece begun.rest c.on.way ∙ begun.found in
+      let few = short spelled.key begun.value spelled.is_key found in
+      let long = inner-long c.on.front piece begun.rest spelled inner in
       let same = along_long world 0 c.on.front above c.on.seat c.along in
-      omega (arith, short, longer, same)
+      omega (arith, few, long, same)
 
   -- One level further down.
   pub climb_down : (held : Bor (ArrayOf word_order)) → held.now.map ≡ map → (below : FinMap word_order ℕ) → IsInner piece → world (suc value) ≡ level below →

@@ -1,12 +1,11 @@
 -- The way down from an entry to the first of the keys behind it.
-use Rattle.std.proofs.Common.{◌≡◌, ◌≢◌, ℕ, zero, suc, ◌+◌, ◌*◌, ◌%◌, ◌≤◌, IsTrue, IsFalse, inl, ⊎_elim, List, [], ◌∷◌, ◌++◌, length, take, drop, Option, Some, None, is_some, sym}
+use Rattle.std.proofs.Common.{◌≡◌, ◌≢◌, ℕ, zero, suc, ◌+◌, ◌*◌, ◌^◌, ◌%◌, ◌≤◌, IsTrue, IsFalse, inl, ⊎_elim, List, [], ◌∷◌, ◌++◌, length, take, drop, Option, Some, None, is_some, sym}
 use Rattle.std.proofs.Common.{refl, ap, ◌∙◌, subst, arith, true≢false}
 use Rattle.std.specs.FinMap.{FinMap, nat_cmp-IsAntisymmetric, keys, get, contains_key, empty, empty_of_len, same_map, get-empty}
 use Rattle.std.specs.Cmp.{nat_cmp_total}
 use Rattle.std.proofs.lemmas.Bool.{cases_eq, cases_lt}
 use Rattle.std.proofs.lemmas.List.{append_assoc, append-nil, length-append, length-drop}
-use Rattle.judy_model.specs.Keys.{IsWord, IsStringKey, word_order}
-use Rattle.judy_model.specs.declared.keys.TheConstants.{LONGEST_KEY}
+use Rattle.judy_model.specs.Keys.{IsWord, word_order}
 use Rattle.judy_model.proofs.lemmas.maps.Ascending.{Among}
 use Rattle.judy_model.proofs.lemmas.maps.KeysLemmas.{length-keys, contains_key-from_among}
 use Rattle.judy_sl.specs.declared.arena.Place.TheVariants.{Below}
@@ -23,6 +22,8 @@ use Rattle.judy_sl.proofs.lemmas.pieces.PieceBytes.{spelling-pieces, spelling-ap
 use Rattle.judy_sl.proofs.lemmas.scans.ScanLevels.{pieces_rest, at_tail, lookup_final, lookup_inner, end_final, end_tail, end_level}
 use Rattle.judy_sl.proofs.lemmas.scans.ScanWays.{AreInner-more}
 use Rattle.judy_sl.proofs.lemmas.pieces.OnWay.{pieces-head, pieces-some}
+use Rattle.judy_model.specs.declared.keys.TheConstants.{LONGEST_STRING}
+use Rattle.judy_sl.specs.Strings.{IsString}
 
 -- ---- each entry begins a key
 
@@ -35,10 +36,10 @@ pub record TextBehind (ps : List ℕ) : Type 0 where
   pub bytes : List ℕ
   pub text : IsText bytes
   pub spells : pieces bytes ≡ ps
-  pub within : length bytes ≤ LONGEST_KEY
+  pub within : length bytes ≤ LONGEST_STRING
 
 -- What stands behind the first pieces of a text are the pieces of one.
-pub text_behind : (front : List ℕ) (piece : ℕ) (rest bytes : List ℕ) → IsText bytes → length bytes ≤ LONGEST_KEY → pieces bytes ≡ front ++ piece ∷ rest → TextBehind (piece ∷ rest)
+pub text_behind : (front : List ℕ) (piece : ℕ) (rest bytes : List ℕ) → IsText bytes → length bytes ≤ LONGEST_STRING → pieces bytes ≡ front ++ piece ∷ rest → TextBehind (piece ∷ rest)
 text_behind [] piece rest bytes text within is = record { bytes = bytes; text = text; spells = is; within = within }
 text_behind (first ∷ front) piece rest bytes text within is = ⊎_elim
     (λ short. let both : piece_of bytes ∷ [] ≡ first ∷ front ++ piece ∷ rest = sym (pieces_short bytes short) ∙ is in let none : [] ≡ front ++ piece ∷ rest = cc in
@@ -116,7 +117,7 @@ module _ {world : World} {behind : ℕ → List ℕ} (is_world : IsWorld world b
       record { rest = first.0 ∷ begun.rest; spelled = key; value = begun.value; found = lookup_inner world seat map is_level piece at (first.0 ∷ begun.rest) entry are ∙ begun.found }
 
   begins_entry : (seat : ℕ) (map : FinMap word_order ℕ) (piece at : ℕ) → world seat ≡ level map → get map piece ≡ Some at
-      → ((below : FinMap word_order ℕ) (next found : ℕ) → length (behind (suc at)) ≡ length (behind seat) + 1 → 8 * length (behind (suc at)) ≤ LONGEST_KEY →
+      → ((below : FinMap word_order ℕ) (next found : ℕ) → length (behind (suc at)) ≡ length (behind seat) + 1 → 8 * length (behind (suc at)) ≤ LONGEST_STRING →
       world (suc at) ≡ level below → get below next ≡ Some found → Begins world (behind (suc at)) (suc at) next)
       → Begins world (behind seat) seat piece
   begins_entry seat map piece at is entry each = ⊎_elim
@@ -127,7 +128,7 @@ module _ {world : World} {behind : ℕ → List ℕ} (is_world : IsWorld world b
       (is_world.levels (suc at) below also).short also there) (world (suc at)) refl leads.1 leads.0)
       (cases_eq (piece % 256) 0)
 
-  begins_within : (fuel seat : ℕ) (map : FinMap word_order ℕ) (piece at : ℕ) → 128 ≤ length (behind seat) + fuel → world seat ≡ level map → get map piece ≡ Some at →
+  begins_within : (fuel seat : ℕ) (map : FinMap word_order ℕ) (piece at : ℕ) → 2 ^ 60 ≤ length (behind seat) + fuel → world seat ≡ level map → get map piece ≡ Some at →
       Begins world (behind seat) seat piece
   begins_within zero seat map piece at deep is entry = begins_entry seat map piece at is entry (λ below next found longer short also there. let never : ⊥ = omega arith in absurd never)
   begins_within (suc fuel) seat map piece at deep is entry =
@@ -135,7 +136,7 @@ module _ {world : World} {behind : ℕ → List ℕ} (is_world : IsWorld world b
 
   -- A key begins with a place and each entry there.
   pub begins : (seat : ℕ) (map : FinMap word_order ℕ) (piece : ℕ) → world seat ≡ level map → IsTrue (contains_key map piece) → Begins world (behind seat) seat piece
-  begins seat map piece is held = let value = value_held map piece held in begins_within 128 seat map piece value.0 (omega arith) is value.1
+  begins seat map piece is held = let value = value_held map piece held in begins_within (2 ^ 60) seat map piece value.0 (omega arith) is value.1
 
   -- The entries of a level are words.
   pub level_words : (seat : ℕ) (map : FinMap word_order ℕ) → world seat ≡ level map → (piece : ℕ) → IsTrue (contains_key map piece) → IsWord piece
@@ -194,7 +195,7 @@ module _ {look : Look} {world : World} {behind : ℕ → List ℕ} (is_world : I
       ∙ ap (λ front. front ++ (piece_bytes piece ++ spelling rest)) (sym on.spells) ∙ sym (append_assoc bytes (piece_bytes piece) (spelling rest))
 
   -- The buffer has room for the bytes of the piece.
-  pub follow_room : length bytes + length (piece_bytes piece) ≤ LONGEST_KEY
+  pub follow_room : length bytes + length (piece_bytes piece) ≤ LONGEST_STRING
   follow_room =
       let begun = begins is_world on.seat map piece on.is_level on.held in
       let spelled = subst (λ place. SpellKey (place ++ piece ∷ begun.rest)) place_is begun.spelled in
@@ -214,7 +215,7 @@ module _ {look : Look} {world : World} {behind : ℕ → List ℕ} (is_world : I
       let one : after ≡ spelled.key = is ∙ sym (key_spelled rest spelled) in
       let its = its_pieces rest after spelled is in (
         subst (IsNear look world 0 (pieces key)) (sym its) (on.near rest end),
-        subst IsStringKey (sym one) spelled.is_key,
+        subst IsString (sym one) spelled.is_key,
         ap (lookup world 0) its ∙ lookup-walk world 0 on.front on.seat piece rest on.way ∙ found,
       )
 
@@ -263,7 +264,7 @@ module _ {look : Look} {world : World} {behind : ℕ → List ℕ} (is_world : I
       tail_key = subst SpellKey (ap (λ place. place ++ pieces held) leads.0 ∙ append_assoc on.front (piece ∷ []) (pieces held)) (is_world.tails (suc at) (pieces held) value tailed)
 
       -- The buffer has room for it.
-      pub follow_tail_room : length (bytes ++ piece_bytes piece) + length held ≤ LONGEST_KEY
+      pub follow_tail_room : length (bytes ++ piece_bytes piece) + length held ≤ LONGEST_STRING
       follow_tail_room =
           let long = ap length (key_spelled (pieces held) tail_key) ∙ length-append (bytes ++ piece_bytes piece) (spelling (pieces held)) in
           let same = ap length (spelling-pieces held text) in

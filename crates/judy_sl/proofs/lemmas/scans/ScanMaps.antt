@@ -2,10 +2,10 @@
 use Rattle.std.proofs.Common.{◌≡◌, ℕ, Bool, true, false, not, IsTrue, IsFalse, List, Option, Some, None, is_some, unwrap_or, sym, refl, ap, ◌∙◌, true≢false, is_le}
 use Rattle.std.specs.FinMap.{FinMap, get, contains_key}
 use Rattle.std.proofs.lemmas.Option.{none-some}
-use Rattle.judy_model.specs.Keys.{IsStringKey, byte_order}
+use Rattle.judy_model.specs.Keys.{byte_order}
 use Rattle.judy_model.proofs.lemmas.orders.Orders.{le_from_not_lt, lt_from_not_le}
 use Rattle.judy_model.proofs.lemmas.queries.NearestLemmas.{first_found, first_missing, next_found, next_missing, last_found, last_missing, prev_found, prev_missing}
-use Rattle.judy_model.proofs.lemmas.maps.TableLemmas.{string_keys-all, get-table, table_some, byte_order_total, byte_order_same}
+use Rattle.judy_model.proofs.lemmas.maps.TableLemmas.{get-table, table_some, byte_order_total, byte_order_same}
 use Rattle.judy_sl.specs.declared.arena.Arena.{Arena}
 use Rattle.judy_sl.specs.declared.scans.Side.{Side}
 use Rattle.judy_sl.specs.declared.scans.Side.TheVariants.{Above, Below}
@@ -16,6 +16,8 @@ use Rattle.judy_sl.specs.Arenas.{world_of, map_of}
 use Rattle.judy_sl.specs.Scans.{along_bytes, is_beyond, neighbour_along, value_found, meets, IsNeighbour}
 use Rattle.judy_sl.proofs.lemmas.pieces.PieceLemmas.{text_of_key, pieces_are}
 use Rattle.judy_sl.proofs.lemmas.scans.ScanEntries.{bytes_along}
+use Rattle.judy_sl.proofs.lemmas.pieces.Strings.{all_strings-all}
+use Rattle.judy_sl.specs.Strings.{IsString}
 
 -- A key that is met, and before which none is, is the neighbour.
 found_along : (side : Side) (itself : Bool) (map : FinMap byte_order ℕ) (from key : List ℕ) → IsTrue (contains_key map key) → IsTrue (is_beyond itself (along_bytes side from key))
@@ -35,12 +37,12 @@ missing_along Below true map from none = last_missing byte_order_total byte_orde
 missing_along Below false map from none = prev_missing byte_order_total byte_order_same map from (λ other held. le_from_not_lt byte_order_total from other ∙ ap not (none other held))
 
 -- What the map holds is found under its pieces.
-pub held_found : (arena : Arena) (other : List ℕ) → IsTrue (contains_key (map_of arena) other) → (value : ℕ) × IsStringKey other × (lookup (world_of arena) 0 (pieces other) ≡ Some value)
+pub held_found : (arena : Arena) (other : List ℕ) → IsTrue (contains_key (map_of arena) other) → (value : ℕ) × IsString other × (lookup (world_of arena) 0 (pieces other) ≡ Some value)
 held_found arena other held = by (get (map_of arena) other) refl held
   where
-    by : (found : Option ℕ) → get (map_of arena) other ≡ found → IsTrue (is_some found) → (value : ℕ) × IsStringKey other × (lookup (world_of arena) 0 (pieces other) ≡ Some value)
+    by : (found : Option ℕ) → get (map_of arena) other ≡ found → IsTrue (is_some found) → (value : ℕ) × IsString other × (lookup (world_of arena) 0 (pieces other) ≡ Some value)
     by None is so = absurd (true≢false (sym so))
-    by (Some value) is so = let there = table_some string_keys-all (λ k. lookup (world_of arena) 0 (pieces k)) other value is in (value, there.0, there.1)
+    by (Some value) is so = let there = table_some all_strings-all (λ k. lookup (world_of arena) 0 (pieces k)) other value is in (value, there.0, there.1)
 
 module _ (look : Look) (arena : Arena) (key : List ℕ) (text : IsText key) where
   meets_bytes : (other : List ℕ) → IsText other → meets look (world_of arena) (pieces key) (pieces other) ≡ is_beyond look.itself (along_bytes look.side key other)
@@ -57,7 +59,7 @@ module _ (look : Look) (arena : Arena) (key : List ℕ) (text : IsText key) wher
       (none.1 ∙ ap (λ found. unwrap_or found key) (sym missing), ap (value_found (map_of arena)) (sym missing))
   scanned after (Some value) some =
       let mine = text_of_key after some.1 in
-      let has = get-table string_keys-all (λ k. lookup (world_of arena) 0 (pieces k)) after some.1 ∙ some.2 in
+      let has = get-table all_strings-all (λ k. lookup (world_of arena) 0 (pieces k)) after some.1 ∙ some.2 in
       let found = found_along look.side look.itself (map_of arena) key after (ap (λ (entry : Option ℕ). is_some entry) has) (sym (meets_bytes after mine) ∙ some.0.met) (λ other held met.
       let there = held_found arena other held in
       let also = text_of_key other there.1 in

@@ -10,8 +10,8 @@ use Rattle.std.proofs.lemmas.Bool.{cases_eq, cases_lt}
 use Rattle.std.proofs.lemmas.List.{append_assoc, length-drop, length-take-le, take_all, take-append-drop}
 use Rattle.std.proofs.lemmas.List.Elements.{All-append, All-take}
 use Rattle.std.proofs.lemmas.Option.{none-some}
-use Rattle.judy_model.specs.Keys.{word_order, byte_order, IsStringKey}
-use Rattle.judy_model.proofs.lemmas.maps.TableLemmas.{byte_order_total, byte_order_same, string_keys-all, get-table, table_some}
+use Rattle.judy_model.specs.Keys.{word_order, byte_order}
+use Rattle.judy_model.proofs.lemmas.maps.TableLemmas.{byte_order_total, byte_order_same, get-table, table_some}
 use Rattle.judy_model.proofs.lemmas.orders.WordOrder.{less_word}
 use Rattle.judy_sums.specs.Levels.{part_of}
 use Rattle.judy_sums.proofs.Parts.{AreParts, find_parts, sorted_parts, found_tells, others_miss, each_found}
@@ -27,6 +27,8 @@ use Rattle.judy_sl.proofs.lemmas.scans.ScanLevels.{lookup_final, lookup_inner, l
 use Rattle.judy_sl.proofs.lemmas.scans.ScanEnds.{TextBehind, text_behind, text_begins, begins, value_held}
 use Rattle.judy_sl.proofs.lemmas.seats.LevelLemmas.{piece-front, pieces-front}
 use Rattle.judy_sl.proofs.lemmas.counts.KeysTold.{led_pairs, final_keys, inner_keys}
+use Rattle.judy_sl.proofs.lemmas.pieces.Strings.{all_strings-all}
+use Rattle.judy_sl.specs.Strings.{IsString}
 
 -- ---- bytes behind the same front
 
@@ -51,7 +53,7 @@ sorted-led front (pair ∷ rest) = (λ t. below-led front pair.0 rest t && sorte
 
 -- A key, whose first piece is the word.
 abbrev pub Begun : ℕ → List ℕ → Type 0
-Begun piece key = IsStringKey key × (piece_of key ≡ piece)
+Begun piece key = IsString key × (piece_of key ≡ piece)
 
 pub begun_apart : (low high : ℕ) (one other : List ℕ) → low < high → Begun low one → Begun high other → byte_order one other ≡ Less
 begun_apart low high one other less begun also =
@@ -59,7 +61,7 @@ begun_apart low high one other less begun also =
     ∙ (λ t. ordering_then (word_order (begun.1 t) (also.1 t)) (byte_order (drop 8 one) (drop 8 other)))
     ∙ ap (λ r. ordering_then r (byte_order (drop 8 one) (drop 8 other))) (less_word low high less)
 
-key-drop : (key : List ℕ) → IsStringKey key → IsStringKey (drop 8 key)
+key-drop : (key : List ℕ) → IsString key → IsString (drop 8 key)
 key-drop key is = key_of_text (drop 8 key) (text-drop 8 key (text_of_key key is)) (let within = is.is_bytes_key.within_limit in let long = length-drop 8 key in omega arith)
 
 -- ---- one entry
@@ -107,7 +109,7 @@ module _ {world : World} {behind : ℕ → List ℕ} (is : IsWorld world behind)
         ⊎_elim
         (λ (short : length text.bytes < 8).
         let all : piece_bytes piece ≡ text.bytes = ap piece_bytes (sym it) ∙ bytes-piece text.bytes text.text ∙ take_all 8 text.bytes (omega arith) in
-        (subst IsStringKey (sym all) (key_of_text text.bytes text.text text.within), ap piece_of all ∙ it))
+        (subst IsString (sym all) (key_of_text text.bytes text.text text.within), ap piece_of all ∙ it))
         (λ long. absurd (piece-IsInner text.bytes text.text long (ap (λ p. p % 256) it ∙ final)))
         (cases_lt (length text.bytes) 8)
 
@@ -153,7 +155,7 @@ module _ {world : World} {behind : ℕ → List ℕ} (is : IsWorld world behind)
         Begun piece (piece_bytes piece ++ rest)
     inner_key piece at entry inner rest value held =
         let front = inner_front piece at entry inner in
-        let there = table_some string_keys-all (λ key. lookup world (suc at) (pieces key)) rest value held in
+        let there = table_some all_strings-all (λ key. lookup world (suc at) (pieces key)) rest value held in
         let are = pieces_are rest (text_of_key rest there.0) in
         let whole = (front.splits rest) in
         let head = pieces-head rest in
@@ -163,7 +165,7 @@ module _ {world : World} {behind : ℕ → List ℕ} (is : IsWorld world behind)
         let text = text_behind (behind seat) piece (pieces rest) key.key (text_of_key key.key key.is_key) key.is_key.is_bytes_key.within_limit key.spells in
         let own : IsText (piece_bytes piece ++ rest) = All-append (λ b. (b < 256) × (b ≢ 0)) (piece_bytes piece) rest front.text (text_of_key rest there.0) in
         let one : text.bytes ≡ piece_bytes piece ++ rest = pieces_same text.bytes (piece_bytes piece ++ rest) text.text own (text.spells ∙ sym whole) in
-        (subst IsStringKey one (key_of_text text.bytes text.text text.within), front.begins rest)
+        (subst IsString one (key_of_text text.bytes text.text text.within), front.begins rest)
 
     -- ---- the parts
 
@@ -203,14 +205,14 @@ module _ {world : World} {behind : ℕ → List ℕ} (is : IsWorld world behind)
     keys = flat_map (entry_keys world) (entries words)
 
     -- What a key finds in the part of its piece.
-    in_part : (key : List ℕ) → IsStringKey key → find byte_order key keys ≡ find byte_order key (part_of (entry_keys world) (piece_of key) (get words (piece_of key)))
+    in_part : (key : List ℕ) → IsString key → find byte_order key keys ≡ find byte_order key (part_of (entry_keys world) (piece_of key) (get words (piece_of key)))
     in_part key is_key =
         find_parts byte_order (entry_keys world) key (piece_of key) (entries words) (entries_sorted words)
         (others_miss byte_order (entry_keys world) Begun begun_apart byte_order_same key (piece_of key) (λ other tells. sym tells.1) (entries words) all_parts)
         ∙ ap (λ (found : Option ℕ). find byte_order key (part_of (entry_keys world) (piece_of key) found)) (sym (get-entries words (piece_of key)))
 
     -- That is what is found at the seat under its pieces.
-    pub led_on : (key : List ℕ) (is_key : IsStringKey key) (found : Option ℕ) → get words (piece_of key) ≡ found →
+    pub led_on : (key : List ℕ) (is_key : IsString key) (found : Option ℕ) → get words (piece_of key) ≡ found →
         find byte_order key (part_of (entry_keys world) (piece_of key) found) ≡ lookup world seat (pieces key)
     led_on key is_key None none = let head = pieces-head key in sym (ap (lookup world seat) head.1 ∙ lookup_absent world seat words here (piece_of key) head.0 none)
     led_on key is_key (Some at) there = ⊎_elim
@@ -230,20 +232,20 @@ module _ {world : World} {behind : ℕ → List ℕ} (is : IsWorld world behind)
         ∙ ap (λ k. find byte_order k (led_pairs (piece_bytes (piece_of key)) (entries child))) (sym front)
         ∙ find-led (piece_bytes (piece_of key)) (drop 8 key) (entries child)
         ∙ sym (get-entries child (drop 8 key))
-        ∙ get-table string_keys-all (λ k. lookup world (suc at) (pieces k)) (drop 8 key) rest
+        ∙ get-table all_strings-all (λ k. lookup world (suc at) (pieces k)) (drop 8 key) rest
         ∙ sym (ap (lookup world seat) (pieces_long key long) ∙ lookup_inner world seat words here (piece_of key) at (pieces (drop 8 key)) there
         (pieces_are (drop 8 key) (text_of_key (drop 8 key) rest))))
         (cases_lt (length key) 8)
 
-    same_at : (key : List ℕ) → IsStringKey key → find byte_order key keys ≡ get (map_behind world seat) key
-    same_at key is_key = in_part key is_key ∙ led_on key is_key (get words (piece_of key)) refl ∙ sym (get-table string_keys-all (λ k. lookup world seat (pieces k)) key is_key)
+    same_at : (key : List ℕ) → IsString key → find byte_order key keys ≡ get (map_behind world seat) key
+    same_at key is_key = in_part key is_key ∙ led_on key is_key (get words (piece_of key)) refl ∙ sym (get-table all_strings-all (λ k. lookup world seat (pieces k)) key is_key)
 
     same_else : (key : List ℕ) → find byte_order key keys ≡ get (map_behind world seat) key
     same_else key = by (find byte_order key keys) (get (map_behind world seat) key) refl refl
       where
         by : (one other : Option ℕ) → find byte_order key keys ≡ one → get (map_behind world seat) key ≡ other → find byte_order key keys ≡ get (map_behind world seat) key
         by (Some value) other found held = same_at key (found_tells byte_order (entry_keys world) Begun begun_apart byte_order_same key (entries words) all_parts value found).1.0
-        by None (Some value) found held = same_at key (table_some string_keys-all (λ k. lookup world seat (pieces k)) key value held).0
+        by None (Some value) found held = same_at key (table_some all_strings-all (λ k. lookup world seat (pieces k)) key value held).0
         by None None found held = found ∙ sym held
 
     keys_sorted : T (is_sorted byte_order keys)

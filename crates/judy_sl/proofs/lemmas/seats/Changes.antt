@@ -12,7 +12,7 @@ use Rattle.judy_sl.proofs.lemmas.pieces.Ways.{look_in, lookup-walk, step-parts}
 use Rattle.judy_sl.proofs.lemmas.seats.Frames.{frame}
 
 -- Pieces begin with others, or they don't.
-split-front : (front ps : List ℕ) → ((rest : List ℕ) × (ps ≡ front ++ rest)) ⊎ ((rest : List ℕ) → ps ≢ front ++ rest)
+pub split-front : (front ps : List ℕ) → ((rest : List ℕ) × (ps ≡ front ++ rest)) ⊎ ((rest : List ℕ) → ps ≢ front ++ rest)
 split-front [] ps = inl (ps, refl)
 split-front (first ∷ front) [] = inr (λ rest e. cc)
 split-front (first ∷ front) (piece ∷ ps) =

@@ -1,21 +1,23 @@
 -- An array of strings, and what its changes make of it.
-use Rattle.std.proofs.Common.{◌≡◌, ℕ, suc, ◌≤◌, List, [], ◌∷◌, ◌++◌, None, Some, sym, ap, ◌∙◌, arith}
+use Rattle.std.proofs.Common.{◌≡◌, ℕ, suc, ◌≤◌, List, [], ◌∷◌, ◌++◌, None, Some, sym, ap, subst, ◌∙◌, arith}
 use Rattle.std.specs.FinMap.{FinMap, get, insert, len, len-empty}
-use Rattle.judy_model.specs.Keys.{byte_order, IsStringKey}
+use Rattle.judy_model.specs.Keys.{byte_order}
 use Rattle.judy_model.specs.Arrays.{empty_array}
 use Rattle.judy_sl.specs.declared.arena.Arena.{Arena}
 use Rattle.judy_sl.specs.declared.arena.Place.{Place}
 use Rattle.judy_sl.specs.Pieces.{pieces, piece_of}
 use Rattle.judy_sl.specs.World.{World, lookup, at_entry}
-use Rattle.judy_sl.specs.Arenas.{world_of, map_of, array_of, IsStrings}
+use Rattle.judy_sl.specs.Arenas.{world_of, map_of, array_of, AreShort, IsStrings}
 use Rattle.judy_sl.specs.Places.{place_with, place_value}
 use Rattle.judy_sl.specs.Ways.{IsFound, IsGap, IsClash, seat_of, left_of}
 use Rattle.judy_sl.specs.Lends.{with_value}
 use Rattle.judy_tails.specs.Tails.{no_tails}
+use Rattle.judy_sl.proofs.lemmas.pieces.Strings.{short-none, short-insert}
 use Rattle.judy_sl.proofs.lemmas.pieces.Ways.{look_in, lookup-in, lookup-walk, lookup-level, tail-other}
 use Rattle.judy_sl.proofs.lemmas.pieces.OnWay.{pieces-head}
 use Rattle.judy_sl.proofs.lemmas.inserts.Written.{written-arena, written-led, written-change, found-there, value-there}
 use Rattle.judy_sl.proofs.lemmas.seats.Maps.{get-map, map_written, empty-arena, empty-led, empty-map, len-written}
+use Rattle.judy_sl.specs.Strings.{IsString}
 
 module _ (world : World) (key : List ℕ) where
   -- Nothing is found where a level has no entry,
@@ -48,9 +50,10 @@ strings-new limit arena no_levels nothing no_root some most = record {
   within_limit = omega arith;
   holds_some = some;
   limit_fits = most;
+  short = subst AreShort (sym (empty-map arena no_levels nothing no_root)) short-none;
 }
 
-module _ (limit count : ℕ) (arena : Arena) (is : IsStrings limit count arena) (key : List ℕ) (is_key : IsStringKey key) (place : Place) (found : IsFound (world_of arena) key place) where
+module _ (limit count : ℕ) (arena : Arena) (is : IsStrings limit count arena) (key : List ℕ) (is_key : IsString key) (place : Place) (found : IsFound (world_of arena) key place) where
   pub get-there : get (map_of arena) key ≡ Some found.value
   get-there = get-map arena key is_key ∙ found-there arena is.is_arena key place found
 
@@ -68,6 +71,7 @@ module _ (limit count : ℕ) (arena : Arena) (is : IsStrings limit count arena) 
     within_limit = is.within_limit;
     holds_some = is.holds_some;
     limit_fits = is.limit_fits;
+    short = subst AreShort (sym (map-written value)) (short-insert (map_of arena) key value is.short (is.short key found.value get-there));
   }
 
   pub array-written : (value : ℕ) → array_of limit (place_with arena place value) ≡ with_value (array_of limit arena) key value

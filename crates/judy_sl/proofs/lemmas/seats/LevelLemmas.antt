@@ -4,8 +4,8 @@ use Rattle.std.specs.FinMap.{FinMap, get, contains_key}
 use Rattle.std.proofs.lemmas.List.{append_assoc, append-nil, append_cancel_left, length-append, length-drop, drop-append-le}
 use Rattle.std.proofs.lemmas.List.Elements.{All-append}
 use Rattle.std.proofs.lemmas.Option.{none-some}
-use Rattle.judy_model.specs.Keys.{IsStringKey, word_order}
-use Rattle.judy_model.proofs.lemmas.maps.TableLemmas.{string_keys-all, get-table}
+use Rattle.judy_model.specs.Keys.{word_order}
+use Rattle.judy_model.proofs.lemmas.maps.TableLemmas.{get-table}
 use Rattle.judy_sl.specs.declared.arena.Arena.{Arena}
 use Rattle.judy_sl.specs.Children.{IsTaken}
 use Rattle.judy_records.specs.Texts.{spelled}
@@ -22,6 +22,8 @@ use Rattle.judy_sl.proofs.lemmas.scans.ScanLevels.{lookup_inner, lookup_absent, 
 use Rattle.judy_sl.proofs.lemmas.scans.ScanWays.{AreInner-more}
 use Rattle.judy_sl.proofs.lemmas.scans.ScanEnds.{begins, are_behind}
 use Rattle.judy_sl.proofs.lemmas.scans.ScanMaps.{held_found}
+use Rattle.judy_sl.proofs.lemmas.pieces.Strings.{all_strings-all}
+use Rattle.judy_sl.specs.Strings.{IsString}
 
 no_bytes : IsText []
 no_bytes = λ k d within. let never : ⊥ = omega arith in absurd never
@@ -54,7 +56,7 @@ pub record OnLevel (world : World) (at : List ℕ) (map : FinMap word_order ℕ)
   pub whole : length rest % 8 ≡ 0
   pub fits : length rest ≤ length at
 
-module _ (arena : Arena) (at : List ℕ) (is_key : IsStringKey at) where
+module _ (arena : Arena) (at : List ℕ) (is_key : IsString at) where
   pub level_start : (map : FinMap word_order ℕ) → world_of arena 0 ≡ level map → length at % 8 ≡ 0 → OnLevel (world_of arena) at map at
   level_start map is whole = record { front = []; seat = 0; way = refl; inner = tt; is_level = is; split = λ more. refl; text = text_of_key at is_key; whole = whole; fits = omega arith }
 
@@ -82,7 +84,7 @@ module _ (arena : Arena) (at : List ℕ) (is_key : IsStringKey at) where
       level_taken is_arena found entry = taken_of arena found ((is_arena.is_world.levels on.seat map on.is_level).leads (piece_of rest) found entry (piece-IsInner rest on.text long)).1
 
       -- Two keys that begin with the bytes are found behind the level.
-      found_here : (more : List ℕ) → IsTrue (contains_key (map_of arena) (at ++ more)) → (value : ℕ) × IsStringKey (at ++ more) ×
+      found_here : (more : List ℕ) → IsTrue (contains_key (map_of arena) (at ++ more)) → (value : ℕ) × IsString (at ++ more) ×
           (lookup (world_of arena) on.seat (piece_of rest ∷ pieces (drop 8 rest ++ more)) ≡ Some value)
       found_here more held =
           let there = held_found arena (at ++ more) held in
@@ -97,7 +99,7 @@ module _ (arena : Arena) (at : List ℕ) (is_key : IsStringKey at) where
           (λ two.
           let one = found_here two.0 two.3 in
           let other = found_here two.1 two.4 in
-          let are : (more : List ℕ) (key : IsStringKey (at ++ more)) → ArePieces (pieces (drop 8 rest ++ more)) =
+          let are : (more : List ℕ) (key : IsString (at ++ more)) → ArePieces (pieces (drop 8 rest ++ more)) =
           (λ more key. pieces_rest (piece_of rest) (pieces (drop 8 rest ++ more)) (piece-IsInner rest on.text long)
           (are_behind on.front (piece_of rest) (pieces (drop 8 rest ++ more)) (subst ArePieces (on.split more ∙ ap (λ ps. on.front ++ ps) (pieces-front rest more long))
           (pieces_are (at ++ more) (text_of_key (at ++ more) key))))) in
@@ -137,7 +139,7 @@ module _ (arena : Arena) (at : List ℕ) (is_key : IsStringKey at) where
           let its : pieces more ≡ piece ∷ begun.rest = append_cancel_left on.front (pieces more) (piece ∷ begun.rest) (sym (ends_here more) ∙ ap pieces (sym one) ∙ key.spells) in
           let head = pieces-head more in
           let both : piece ∷ begun.rest ≡ piece_of more ∷ head.0 = sym its ∙ head.1 in
-          let has = get-table string_keys-all (λ k. lookup (world_of arena) 0 (pieces k)) key.key key.is_key ∙ ap (lookup (world_of arena) 0) key.spells ∙
+          let has = get-table all_strings-all (λ k. lookup (world_of arena) 0 (pieces k)) key.key key.is_key ∙ ap (lookup (world_of arena) 0) key.spells ∙
           lookup-walk (world_of arena) 0 on.front on.seat piece begun.rest on.way ∙ begun.found in
           (more, subst (λ k. IsTrue (contains_key (map_of arena) k)) one (ap (λ (entry : Option ℕ). is_some entry) has), (let same : piece ≡ piece_of more = cc in same))
 
@@ -157,6 +159,6 @@ module _ (arena : Arena) (at : List ℕ) (is_key : IsStringKey at) where
             let key = subst (λ place. SpellKey (place ++ piece_of more ∷ [])) behind_is ((is_arena.is_world.levels on.seat map on.is_level).ends (piece_of more) value entry final) in
             let its : pieces (at ++ more) ≡ on.front ++ piece_of more ∷ [] = ends_here more ∙ ap (λ ps. on.front ++ ps) (pieces_short more short) in
             let one = pieces_same key.key (at ++ more) (text_of_key key.key key.is_key) (All-append (λ b. (b < 256) × (b ≢ 0)) at more (text_of_key at is_key) text) (key.spells ∙ sym its) in
-            get-table string_keys-all (λ k. lookup (world_of arena) 0 (pieces k)) (at ++ more) (subst IsStringKey one key.is_key) ∙ ap (lookup (world_of arena) 0) its ∙
+            get-table all_strings-all (λ k. lookup (world_of arena) 0 (pieces k)) (at ++ more) (subst IsString one key.is_key) ∙ ap (lookup (world_of arena) 0) its ∙
             lookup-walk (world_of arena) 0 on.front on.seat (piece_of more) [] on.way ∙ lookup_final (world_of arena) on.seat map on.is_level (piece_of more) value entry;
       }

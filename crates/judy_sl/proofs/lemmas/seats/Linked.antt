@@ -15,7 +15,10 @@ use Rattle.slab.specs.Slab as slab
 use Rattle.slab.proofs.SlabLemmas.{Updates-with_value}
 use Rattle.judy_sl.specs.LevelLists.{LevelParts}
 use Rattle.judy_sl.specs.Children.{Child, Free, Tail, Level, is_level, level_child, tail_child, child_with, IsTaken}
-use Rattle.judy_tails.specs.Tails.{TailLists, tail_at, with_tail}
+use Rattle.judy_tails.specs.Tails.{TailLists, is_long, tail_at, with_tail}
+use Rattle.judy_tails.specs.Short.{ShortLists}
+use Rattle.judy_tails.specs.Short as short
+use Rattle.judy_tails.specs.Long as long
 use Rattle.judy_sl.specs.declared.arena.Arena.{Arena}
 use Rattle.judy_sl.specs.declared.arena.Place.{Place}
 use Rattle.judy_sl.specs.declared.arena.Place.TheVariants.{Root, Below}
@@ -49,7 +52,7 @@ module _ (map : FinMap word_order ℕ) (key value : ℕ) where
 -- ---- one child, or the first level, is another
 
 -- Another tail where one stands.
-module _ (all : TailLists) (at : ℕ) (was rest : List ℕ × ℕ) (there : tail_at all at ≡ Some was) where
+module _ (all : ShortLists) (at : ℕ) (was rest : List ℕ × ℕ) (there : short.tail_at all at ≡ Some was) where
   abbrev column : List (Option (List ℕ × ℕ))
   column = get_or all.lists (at % 256) []
 
@@ -68,12 +71,12 @@ module _ (all : TailLists) (at : ℕ) (was rest : List ℕ × ℕ) (there : tail
   abbrev written : List (Option (List ℕ × ℕ))
   written = set column (at / 256) (Some rest)
 
-  pub with_tail-same : tail_at (with_tail all at rest) at ≡ Some rest
-  with_tail-same = ap (λ c. get_or c (at / 256) None) (get_or-set_same all.lists (at % 256) written [] in_lists) ∙ get_or-set_same column (at / 256) (Some rest) None in_column
+  short-same : short.tail_at (short.with_tail all at rest) at ≡ Some rest
+  short-same = ap (λ c. get_or c (at / 256) None) (get_or-set_same all.lists (at % 256) written [] in_lists) ∙ get_or-set_same column (at / 256) (Some rest) None in_column
 
   -- Two places with the same remainder and the same quotient are one.
-  pub with_tail-other : (k : ℕ) → k ≢ at → tail_at (with_tail all at rest) k ≡ tail_at all k
-  with_tail-other k apart = elim (cases_eq (k % 256) (at % 256)) [
+  short-other : (k : ℕ) → k ≢ at → short.tail_at (short.with_tail all at rest) k ≡ short.tail_at all k
+  short-other k apart = elim (cases_eq (k % 256) (at % 256)) [
     | inl e ↦
         ap (λ n. get_or (get_or (set all.lists (at % 256) written) n []) (k / 256) None) e
         ∙ ap (λ c. get_or c (k / 256) None) (get_or-set_same all.lists (at % 256) written [] in_lists)
@@ -81,6 +84,40 @@ module _ (all : TailLists) (at : ℕ) (was rest : List ℕ × ℕ) (there : tail
         ∙ sym (ap (λ n. get_or (get_or all.lists n []) (k / 256) None) e)
     | inr off ↦ ap (λ c. get_or c (k / 256) None) (get_or-set_other all.lists (at % 256) (k % 256) written [] off)
   ]
+
+module _ (all : TailLists) (at : ℕ) (was rest : List ℕ × ℕ) (there : tail_at all at ≡ Some was) where
+  in_long : is_long at ≡ true → at / 256 < length all.long.tails
+  in_long is = elim (cases_lt (at / 256) (length all.long.tails)) [
+    | inl inside ↦ inside
+    | inr past ↦ absurd (none-some was (sym (get_or_past all.long.tails (at / 256) None past) ∙ sym (ap (λ b. cond b (long.tail_at all.long (at / 256)) (short.tail_at all.short at)) is) ∙ there))
+  ]
+
+  pub with_tail-same : tail_at (with_tail all at rest) at ≡ Some rest
+  with_tail-same = elim (is_long at) as (λ b. is_long at ≡ b →
+      cond b (long.tail_at (cond b (record all { long = long.with_tail all.long (at / 256) rest }) (record all { short = short.with_tail all.short at rest })).long (at / 256))
+      (short.tail_at (cond b (record all { long = long.with_tail all.long (at / 256) rest }) (record all { short = short.with_tail all.short at rest })).short at) ≡ Some rest) [
+        | true ↦ λ is. get_or-set_same all.long.tails (at / 256) (Some rest) None (in_long is)
+        | false ↦ λ is. short-same all.short at was rest (sym (ap (λ b. cond b (long.tail_at all.long (at / 256)) (short.tail_at all.short at)) is) ∙ there)
+      ] refl
+
+  -- A long one stands in another place of their list.
+  long-apart : (k : ℕ) → k ≢ at → is_long k ≡ true → is_long at ≡ true → k / 256 ≢ at / 256
+  long-apart k apart one other same =
+      let first = eqb-true (k % 256) 254 one in
+      let second = eqb-true (at % 256) 254 other in
+      apart (omega (arith, first, second, same))
+
+  pub with_tail-other : (k : ℕ) → k ≢ at → tail_at (with_tail all at rest) k ≡ tail_at all k
+  with_tail-other k apart = elim (is_long at) as (λ b. is_long at ≡ b →
+      tail_at (cond b (record all { long = long.with_tail all.long (at / 256) rest }) (record all { short = short.with_tail all.short at rest })) k ≡ tail_at all k) [
+        | true ↦ λ is. elim (is_long k) as (λ b. is_long k ≡ b → cond b (long.tail_at (long.with_tail all.long (at / 256) rest) (k / 256)) (short.tail_at all.short k) ≡
+            cond b (long.tail_at all.long (k / 256)) (short.tail_at all.short k)) [
+              | true ↦ λ one. get_or-set_other all.long.tails (at / 256) (k / 256) (Some rest) None (long-apart k apart one is)
+              | false ↦ λ one. refl
+            ] refl
+        | false ↦ λ is. ap (λ found. cond (is_long k) (long.tail_at all.long (k / 256)) found)
+            (short-other all.short at was rest (sym (ap (λ b. cond b (long.tail_at all.long (at / 256)) (short.tail_at all.short at)) is) ∙ there) k apart)
+      ] refl
 
 -- Where a tail stands, the place is one for tails.
 pub tail_there : (levels : Bool) (parts : Option LevelParts) (rest : Option (List ℕ × ℕ)) (was : List ℕ × ℕ) → cond levels (level_child parts) (tail_child rest) ≡ Tail was →

@@ -2,11 +2,11 @@
 use Rattle.std.proofs.Common.{◌≡◌, ◌≢◌, ℕ, zero, suc, ◌+◌, ◌/◌, Bool, true, false, List, [], ◌++◌, get_or, cond, is_some, Option, None, Some, refl, sym, ap, subst, ◌∙◌, arith}
 use Rattle.std.proofs.lemmas.Option.{none-some}
 use Rattle.std.specs.FinMap.{FinMap, get, empty, insert, remove, len, get-empty, len-insert}
-use Rattle.judy_model.specs.Keys.{word_order, byte_order, IsStringKey}
+use Rattle.judy_model.specs.Keys.{word_order, byte_order}
 use Rattle.judy_model.specs.Arrays.{ArrayOf, empty_array}
-use Rattle.judy_model.proofs.lemmas.maps.TableLemmas.{byte_order_total, string_keys-all, get-table, get-table_bad, none_at, table_none, table_insert, table_remove}
+use Rattle.judy_model.proofs.lemmas.maps.TableLemmas.{byte_order_total, get-table, get-table_bad, none_at, table_none, table_insert, table_remove}
 use Rattle.judy_sl.specs.Children.{Free, is_level, level_child, tail_child}
-use Rattle.judy_tails.specs.Tails.{TailLists, tail_at, no_tails}
+use Rattle.judy_tails.specs.Tails.{TailLists, is_long, tail_at, no_tails}
 use Rattle.judy_sl.specs.LevelLists.{LevelParts}
 use Rattle.judy_sl.specs.declared.arena.Arena.{Arena}
 use Rattle.judy_sl.specs.Pieces.{pieces, piece_of, SpellKey}
@@ -16,34 +16,36 @@ use Rattle.judy_sl.specs.Arenas.{world_of, node_of, child_at, map_of, HasText, I
 use Rattle.judy_sl.proofs.lemmas.pieces.PieceLemmas.{text_of_key, pieces_are, pieces_same}
 use Rattle.judy_sl.proofs.lemmas.pieces.OnWay.{pieces-head}
 use Rattle.judy_sl.specs.Grown.{IsChange}
+use Rattle.judy_sl.proofs.lemmas.pieces.Strings.{all_strings-all}
+use Rattle.judy_sl.specs.Strings.{IsString}
 
 module _ (arena : Arena) (key : List ℕ) where
   -- The map has what is found under the pieces of a key.
-  pub get-map : IsStringKey key → get (map_of arena) key ≡ lookup (world_of arena) 0 (pieces key)
-  get-map is = get-table string_keys-all (λ k. lookup (world_of arena) 0 (pieces k)) key is
+  pub get-map : IsString key → get (map_of arena) key ≡ lookup (world_of arena) 0 (pieces key)
+  get-map is = get-table all_strings-all (λ k. lookup (world_of arena) 0 (pieces k)) key is
 
   -- Where a key wouldn't be found, there is nothing.
-  pub get-map_none : (IsStringKey key → lookup (world_of arena) 0 (pieces key) ≡ None) → get (map_of arena) key ≡ None
-  get-map_none none = none_at string_keys-all (λ k. lookup (world_of arena) 0 (pieces k)) key none
+  pub get-map_none : (IsString key → lookup (world_of arena) 0 (pieces key) ≡ None) → get (map_of arena) key ≡ None
+  get-map_none none = none_at all_strings-all (λ k. lookup (world_of arena) 0 (pieces k)) key none
 
   -- And nothing under what is no key.
-  pub get-map_bad : (IsStringKey key → ⊥) → get (map_of arena) key ≡ None
-  get-map_bad bad = get-table_bad string_keys-all (λ k. lookup (world_of arena) 0 (pieces k)) key bad
+  pub get-map_bad : (IsString key → ⊥) → get (map_of arena) key ≡ None
+  get-map_bad bad = get-table_bad all_strings-all (λ k. lookup (world_of arena) 0 (pieces k)) key bad
 
-module _ (arena other : Arena) (key : List ℕ) (is : IsStringKey key) where
-  else_where : (new : Option ℕ) → IsChange (world_of arena) (world_of other) (pieces key) new → (k : List ℕ) → IsStringKey k → k ≢ key →
+module _ (arena other : Arena) (key : List ℕ) (is : IsString key) where
+  else_where : (new : Option ℕ) → IsChange (world_of arena) (world_of other) (pieces key) new → (k : List ℕ) → IsString k → k ≢ key →
       lookup (world_of other) 0 (pieces k) ≡ lookup (world_of arena) 0 (pieces k)
   else_where new change k is_k ne = change.elsewhere (pieces k) (pieces_are k (text_of_key k is_k)) (λ e. ne (pieces_same k key (text_of_key k is_k) (text_of_key key is) e))
 
   -- Another value at one key is a write of it.
   pub map_written : (value : ℕ) → IsChange (world_of arena) (world_of other) (pieces key) (Some value) → map_of other ≡ insert (map_of arena) key value
   map_written value change =
-      table_insert string_keys-all (λ k. lookup (world_of arena) 0 (pieces k)) (λ k. lookup (world_of other) 0 (pieces k)) key value is change.at_key (else_where (Some value) change)
+      table_insert all_strings-all (λ k. lookup (world_of arena) 0 (pieces k)) (λ k. lookup (world_of other) 0 (pieces k)) key value is change.at_key (else_where (Some value) change)
 
   -- No value any more at one key is a delete of it.
   pub map_removed : IsChange (world_of arena) (world_of other) (pieces key) None → map_of other ≡ remove (map_of arena) key
   map_removed change =
-      table_remove string_keys-all (λ k. lookup (world_of arena) 0 (pieces k)) (λ k. lookup (world_of other) 0 (pieces k)) key (λ _. change.at_key) (else_where None change)
+      table_remove all_strings-all (λ k. lookup (world_of arena) 0 (pieces k)) (λ k. lookup (world_of other) 0 (pieces k)) key (λ _. change.at_key) (else_where None change)
 
 -- An arena without an entry.
 module _ (arena : Arena) (no_levels : arena.levels.slots ≡ []) (nothing : arena.tails ≡ no_tails) where
@@ -51,8 +53,13 @@ module _ (arena : Arena) (no_levels : arena.levels.slots ≡ []) (nothing : aren
   child-none at =
       ap (λ (slots : List (Option LevelParts)). cond (is_level at) (level_child (get_or slots (at / 256) None)) (tail_child (tail_at arena.tails at))) no_levels
       ∙ ap (λ (tails : TailLists). cond (is_level at) Free (tail_child (tail_at tails at))) nothing
+      ∙ ap (λ (found : Option (List ℕ × ℕ)). cond (is_level at) Free (tail_child found)) (none-at (is_long at))
       ∙ either (is_level at)
     where
+      none-at : (b : Bool) → ◌≡◌ {A = Option (List ℕ × ℕ)} (cond b None None) None
+      none-at true = refl
+      none-at false = refl
+
       either : (b : Bool) → cond b Free Free ≡ Free
       either true = refl
       either false = refl
@@ -92,7 +99,7 @@ module _ (arena : Arena) (no_levels : arena.levels.slots ≡ []) (nothing : aren
   empty-led at there = absurd (there (ap node_of (child-none arena no_levels nothing at)))
 
   pub empty-map : map_of arena ≡ empty
-  empty-map = table_none string_keys-all (λ k. lookup (world_of arena) 0 (pieces k)) (λ key is.
+  empty-map = table_none all_strings-all (λ k. lookup (world_of arena) 0 (pieces k)) (λ key is.
       let h = pieces-head key in
       ap (lookup (world_of arena) 0) h.1 ∙ ap (λ o. at_entry o h.0 (λ at. lookup (world_of arena) (suc at) h.0)) (root-none (piece_of key)))
 

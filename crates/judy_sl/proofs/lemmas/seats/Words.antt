@@ -6,7 +6,7 @@ use Rattle.std.specs.Ordering.{eq_by_cmp}
 use Rattle.judy_model.specs.Keys.{IsWord, IsStringKey, word_order, byte_order}
 use Rattle.judy_model.specs.Arrays.{ArrayOf, IsArrayOf, judysl, IsArray}
 use Rattle.judy_model.proofs.lemmas.runs.KeptLemmas.{holds-IsArrayOf, words_hold}
-use Rattle.judy_model.proofs.lemmas.maps.TableLemmas.{string_keys-all, byte_order_total, table_some}
+use Rattle.judy_model.proofs.lemmas.maps.TableLemmas.{byte_order_total, table_some}
 use Rattle.slab.specs.Slab as slab
 use Rattle.judy_tails.specs.Tails.{tail_at}
 use Rattle.judy_sl.specs.Children.{is_level, level_child, tail_child}
@@ -16,6 +16,7 @@ use Rattle.judy_sl.specs.Pieces.{pieces}
 use Rattle.judy_sl.specs.World.{World, Node, gone, tail, level, lookup, at_node, at_entry}
 use Rattle.judy_sl.specs.Words.{HasWords}
 use Rattle.judy_sl.specs.Arenas.{world_of, node_of, array_of, IsStrings}
+use Rattle.judy_sl.proofs.lemmas.pieces.Strings.{all_strings-all, key_of_string}
 
 module _ (P : ℕ → Type 0) where
   if-one : (b : Bool) (held value : ℕ) → P held → cond b (Some held) None ≡ Some value → P value
@@ -46,12 +47,13 @@ words-array limit count arena is words =
     (let most = is.limit_fits in omega arith)
     (subst (λ n. n ≤ limit) is.counted is.within_limit)
     (λ key value held.
-    let there = table_some string_keys-all (λ k. lookup (world_of arena) 0 (pieces k)) key value held in
-    (there.0, lookup-word (world_of arena) words 0 (pieces key) value there.1))
+    let there = table_some all_strings-all (λ k. lookup (world_of arena) 0 (pieces k)) key value held in
+    (key_of_string key there.0 (is.short key value held), lookup-word (world_of arena) words 0 (pieces key) value there.1))
 
 -- The keys are strings without a zero byte.
 pub strings-kept : (limit count : ℕ) (arena : Arena) → IsStrings limit count arena → (key : List ℕ) (value : ℕ) → get (array_of limit arena).map key ≡ Some value → IsStringKey key
-strings-kept limit count arena is key value held = (table_some string_keys-all (λ k. lookup (world_of arena) 0 (pieces k)) key value held).0
+strings-kept limit count arena is key value held =
+    key_of_string key (table_some all_strings-all (λ k. lookup (world_of arena) 0 (pieces k)) key value held).0 (is.short key value held)
 
 -- So each level,
 level-words : (found : Option LevelParts) → ((words : ArrayOf word_order) → words_in found ≡ Some words → IsArrayOf IsWord words) → HasWords (node_of (level_child found))

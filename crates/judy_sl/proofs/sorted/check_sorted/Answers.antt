@@ -3,6 +3,7 @@ use Rattle.std.proofs.lemmas.List.{length-map}
 use Rattle.judy_sl.specs.Sorted.{strings_in, GoesOn, StaysBelow, IsNoKey}
 use Rattle.judy_sl.proofs.lemmas.pieces.PieceLemmas.{text_of_key}
 use Rattle.judy_sl.proofs.lemmas.made.SortedRuns.{run-more, run-to, run-all, string-at}
+use Rattle.judy_sl.proofs.lemmas.pieces.Strings.{string_of_key}
 use Rattle.judy_sl.proofs.sorted.check_sorted.Goals as goal
 
 pub returns-then-not-is_key-clause-refused : goal.returns-then-not-is_key-clause-refused
@@ -29,7 +30,7 @@ returns-then-at-limit-clause-refused c = (
 pub pairs-preserved : goal.pairs-preserved
 pairs-preserved c = record {
   within = (let within = c.pairs.invariant.within in let other = c.if-at-limit.false in omega arith);
-  text = text_of_key _ (c.is_key.ensures.0 c.if-not-is_key.false);
+  text = text_of_key _ (string_of_key _ (c.is_key.ensures.0 c.if-not-is_key.false));
   run = run-more None (strings_in c.args.pairs.now) c.pairs.at _ _ c.pairs.invariant.run (string-at c.args.pairs.now c.pairs.at _ c.pairs-test.true)
       (c.is_key.ensures.0 c.if-not-is_key.false, sym c.comes_after.ensures ∙ c.if-not-comes_after.false);
 }
@@ -46,4 +47,4 @@ returns-clause-sorted c =
     }
 
 pub comes_after-requires-clause-key : goal.comes_after-requires-clause-key
-comes_after-requires-clause-key c = text_of_key _ (c.is_key.ensures.0 c.if-not-is_key.false)
+comes_after-requires-clause-key c = text_of_key _ (string_of_key _ (c.is_key.ensures.0 c.if-not-is_key.false))

@@ -1,5 +1,7 @@
-use Rattle.std.proofs.Common.{◌≡◌, ◌+◌, ℕ, true, false, refl, List, Option, IsSome, Result, Ok, Err, OnOk, subst, sym, ◌∙◌}
+use Rattle.std.proofs.Common.{◌≡◌, ◌+◌, ℕ, true, false, refl, ap, List, Option, IsSome, Result, Ok, Err, OnOk, subst, sym, ◌∙◌}
 use Rattle.std.specs.declared.alloc.AllocError.{AllocError}
+use Rattle.std.specs.FinMap.{find, put}
+use Rattle.judy_model.specs.Keys.{word_order}
 use Rattle.judy_sums.specs.Pairs.{Pairs}
 use Rattle.judy_sums.specs.Chunks.{StandsAt, IsSpot, joined}
 use Rattle.judy_sums.proofs.SpotLemmas.{put_there, spot_absent, first_one}
@@ -13,7 +15,8 @@ returns-then-stands-clause-raised c =
 pub bring_in-requires-clause-new : goal.bring_in-requires-clause-new
 bring_in-requires-clause-new c =
     let spot = subst (λ (all : List Pairs). IsSpot all c.args.word c.spot_of-spot.result.chunk c.spot_of-spot.result.at) c.deref.ensures.value c.spot_of-spot.ensures in
-    spot_absent c.args.chunks.now.items c.args.word c.spot_of-spot.result.chunk c.spot_of-spot.result.at c.requires.are spot
+    ap (λ (entry : ℕ × ℕ). find word_order entry.0 (joined c.args.chunks.now.items)) c.new-2.ensures
+    ∙ spot_absent c.args.chunks.now.items c.args.word c.spot_of-spot.result.chunk c.spot_of-spot.result.at c.requires.are spot
     (λ here. c.if-stands.ensures.apart refl (subst (λ (all : List Pairs). StandsAt all c.args.word c.spot_of-spot.result.chunk c.spot_of-spot.result.at) (sym c.deref-2.ensures.value) here))
 
 on_ok : {P Q : Type 0} (result : Result (Unit {0}) AllocError) → (P → Q) → OnOk result P → OnOk result Q
@@ -25,7 +28,8 @@ returns-clause-raised c =
     let spot = subst (λ (all : List Pairs). IsSpot all c.args.word c.spot_of-spot.result.chunk c.spot_of-spot.result.at) c.deref.ensures.value c.spot_of-spot.ensures in
     let absent = spot_absent c.args.chunks.now.items c.args.word c.spot_of-spot.result.chunk c.spot_of-spot.result.at c.requires.are spot
     (λ here. c.if-stands.ensures.apart refl (subst (λ (all : List Pairs). StandsAt all c.args.word c.spot_of-spot.result.chunk c.spot_of-spot.result.at) (sym c.deref-2.ensures.value) here)) in
-    on_ok c.bring_in.result (λ e. e ∙ first_one (joined c.args.chunks.now.items) c.args.word absent) c.bring_in.ensures.inserted
+    on_ok c.bring_in.result (λ e. e ∙ ap (λ (entry : ℕ × ℕ). put word_order entry.0 entry.1 (joined c.args.chunks.now.items)) c.new-2.ensures
+    ∙ first_one (joined c.args.chunks.now.items) c.args.word absent) c.bring_in.ensures.inserted
 
 pub returns-clause-there : goal.returns-clause-there
 returns-clause-there c = λ found.

@@ -1,8 +1,9 @@
-use Rattle.std.proofs.Common.{sym, subst}
+use Rattle.std.proofs.Common.{true, sym, subst}
 use Rattle.judy_sl.specs.Counted.{AreCountedBut}
 use Rattle.judy_sl.proofs.lemmas.counts.CountedKeys.{few-more, added-counted}
 use Rattle.judy_sl.proofs.lemmas.counts.Growing.{counted-same}
 use Rattle.judy_sl.proofs.lemmas.counts.Stepping.{can-come, come-counted}
+use Rattle.judy_sl.proofs.lemmas.counts.LedLevels.{stays_stepped}
 use Rattle.judy_sl.proofs.arena.Arena.add_counted.Goals as goal
 
 pub count_places-requires-clause-is_arena : goal.count_places-requires-clause-is_arena
@@ -30,3 +31,6 @@ returns-clause-counted c =
 -- Where the key is refused nothing has changed.
 pub returns-in_err-made-clause-counted : goal.returns-in_err-made-clause-counted
 returns-in_err-made-clause-counted c = counted-same c.args.self.now c.add.new.self c.in_err-made.ensures.refused c.requires.counted
+
+pub returns-clause-stays : goal.returns-clause-stays
+returns-clause-stays c = stays_stepped true c.args.self.now c.add.new.self c.count_places.new.self c.args.passed.now c.count_places.ensures c.in_ok-made.ensures.stays

@@ -6,6 +6,8 @@ use Rattle.judy_sl.proofs.lemmas.pieces.PieceBytes.{inner_bytes}
 use Rattle.judy_sl.proofs.lemmas.scans.ScanEnds.{follow_room, follow_last, follow_on, follow_tail_room, follow_tail, follow_some}
 use Rattle.judy_sl.proofs.lemmas.scans.LevelEntries.{none_of_all}
 use Rattle.judy_sl.proofs.lemmas.scans.RunWays.{Climbing, climb_start, climb_room, climb_down, climb_last, climb_tail}
+use Rattle.judy_sl.proofs.lemmas.pieces.Strings.{within-found}
+use Rattle.judy_model.specs.declared.keys.TheConstants.{LONGEST_KEY}
 use Rattle.judy_sl.proofs.arena.Arena.climb.Goals as goal
 
 -- What a level has of its own.
@@ -47,7 +49,7 @@ pub push-requires : goal.push-requires
 push-requires g c =
     let from = c.requires.begun.0 in
     let on = c.loop-piece.invariant from c.requires.begun.1 in
-    let room = climb_room c.requires.is_arena.is_world on.are c.in-Level.next.now.map c.loop-piece-test.true (ap node_of c.in-Level.ensures) in
+    let room = climb_room c.requires.is_arena.is_world on.are (within-found c.args.self.now LONGEST_KEY c.requires.short) c.loop-piece-test.true in
     omega (arith, room)
 
 pub push_piece-requires-2 : goal.push_piece-requires-2

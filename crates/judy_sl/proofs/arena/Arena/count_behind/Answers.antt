@@ -12,6 +12,7 @@ use Rattle.judy_sl.proofs.lemmas.seats.Linked.{taken_of}
 use Rattle.judy_sl.proofs.lemmas.counts.KeysTold.{level_stands, level_asked}
 use Rattle.judy_sl.proofs.lemmas.counts.LevelRanks.{one_if, one_told, rank_tail}
 use Rattle.judy_sl.proofs.lemmas.counts.CountWays.{level_ranked, both_long, none_shared, one_shared, child_shared}
+use Rattle.judy_sl.proofs.lemmas.counts.ListedLevels.{list_there}
 use Rattle.judy_sl.proofs.arena.Arena.count_behind.Goals as goal
 
 pub down-init : goal.down-init
@@ -89,3 +90,7 @@ returns-in-Tail c =
     let same = c.down.invariant.same in
     let left = c.saturating_sub.ensures in
     omega arith
+
+pub count_in-requires-clause-list : goal.count_in-requires-clause-list
+count_in-requires-clause-list c =
+    list_there c.args.self.now c.args.lists.now c.requires.listed c.down.at (keys_told (child_at c.args.self.now c.down.at)) c.in-Level.level.now c.in-Level.ensures _ c.list_of-list.ensures

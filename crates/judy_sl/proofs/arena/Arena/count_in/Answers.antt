@@ -24,8 +24,8 @@ returns-then-high-low c =
     let low = level_ranked world stands.seat words stands.is_level false c.args.from.now c.requires.from in
     omega arith
 
-pub keys_between-between-requires-clause-rising : goal.keys_between-between-requires-clause-rising
-keys_between-between-requires-clause-rising c = c.if-high-low.false
+pub keys_counted-between-requires-clause-rising : goal.keys_counted-between-requires-clause-rising
+keys_counted-between-requires-clause-rising c = c.if-high-low.false
 
 pub rank_own-up_to-requires-clause-leads : goal.rank_own-up_to-requires-clause-leads
 rank_own-up_to-requires-clause-leads c at entry long =
@@ -57,7 +57,7 @@ overflow_add-between c =
     let up_to = c.rank_own-up_to.ensures ∙ ap (λ (found : Option ℕ). ranked_own (world_of c.args.self.now) true found c.args.to.now) (c.get.ensures ∙ ap (get words) c.first_piece-high.ensures) in
     let high = level_ranked c.requires.is_arena.is_world stands.seat words stands.is_level true c.args.to.now c.requires.to in
     let all = ranked_most true (map_behind (world_of c.args.self.now) stands.seat) c.args.to.now in
-    omega (arith, ap lesser c.first_piece-low.ensures, ap lesser c.first_piece-high.ensures, c.keys_between-between.ensures, up_to, high, all, stands.told, c.ranges.keys.fits)
+    omega (arith, ap lesser c.first_piece-low.ensures, ap lesser c.first_piece-high.ensures, c.keys_counted-between.ensures, up_to, high, all, stands.told, c.ranges.keys.fits)
 
 pub returns : goal.returns
 returns c =
@@ -65,4 +65,4 @@ returns c =
     let lesser = keys_below (part_len (entry_keys (world_of c.args.self.now))) (entries words) in
     let up_to = c.rank_own-up_to.ensures ∙ ap (λ (found : Option ℕ). ranked_own (world_of c.args.self.now) true found c.args.to.now) (c.get.ensures ∙ ap (get words) c.first_piece-high.ensures) in
     let below = c.rank_own-below.ensures ∙ ap (λ (found : Option ℕ). ranked_own (world_of c.args.self.now) false found c.args.from.now) (c.get-2.ensures ∙ ap (get words) c.first_piece-low.ensures) in
-    omega (arith, ap lesser c.first_piece-low.ensures, ap lesser c.first_piece-high.ensures, c.keys_between-between.ensures, up_to, below, c.saturating_sub.ensures)
+    omega (arith, ap lesser c.first_piece-low.ensures, ap lesser c.first_piece-high.ensures, c.keys_counted-between.ensures, up_to, below, c.saturating_sub.ensures)

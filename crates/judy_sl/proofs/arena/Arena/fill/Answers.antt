@@ -3,7 +3,7 @@ use Rattle.std.proofs.lemmas.List.{drop-drop, take_rest}
 use Rattle.judy_sl.specs.Grown.{IsAdded}
 use Rattle.judy_sl.proofs.lemmas.inserts.Filled.{fills-last}
 use Rattle.judy_sl.proofs.lemmas.inserts.Tailed.{filled-tail}
-use Rattle.judy_sl.proofs.lemmas.counts.Growing.{grows-last, grows-tail, gap-counted}
+use Rattle.judy_sl.proofs.lemmas.counts.Growing.{grows-last, grows-tail, stays-grown, gap-counted}
 use Rattle.judy_sl.proofs.arena.Arena.fill.Goals as goal
 
 -- ---- the last piece
@@ -30,4 +30,15 @@ pub returns-in-Ok-clause-counted : goal.returns-in-Ok-clause-counted
 returns-in-Ok-clause-counted c =
     gap-counted c.args.self.now c.requires.is_arena c.requires.led c.requires.counted c.args.key.now c.requires.is_key c.args.place c.args.left c.requires.gap c.enter-2.new.self _
     (returns-in-Ok-clause-added c)
+    (grows-tail c.args.self.now c.args.key.now c.args.place c.args.left c.requires.gap c.put_tail.new.self c.enter-2.new.self c.in_ok-at.at _ c.in_ok-at.ensures.put c.in-Ok.ensures.entered)
+
+-- ---- the levels
+
+pub returns-then-left-lt8-clause-stays : goal.returns-then-left-lt8-clause-stays
+returns-then-left-lt8-clause-stays c =
+    stays-grown c.args.self.now _ (grows-last c.args.self.now c.args.key.now c.args.place c.args.left c.requires.gap _ c.in_ok-enter.ensures.entered)
+
+pub returns-in-Ok-clause-stays : goal.returns-in-Ok-clause-stays
+returns-in-Ok-clause-stays c =
+    stays-grown c.args.self.now c.enter-2.new.self
     (grows-tail c.args.self.now c.args.key.now c.args.place c.args.left c.requires.gap c.put_tail.new.self c.enter-2.new.self c.in_ok-at.at _ c.in_ok-at.ensures.put c.in-Ok.ensures.entered)

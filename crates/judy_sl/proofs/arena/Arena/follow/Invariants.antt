@@ -3,8 +3,8 @@ use Rattle.judy_tails.specs.Writers.{StaysBeyond, WasGiven}
 use Rattle.judy_sl.specs.Arenas.{world_of}
 use Rattle.judy_sl.specs.Scans.{IsBegun}
 use Rattle.judy_sl.proofs.lemmas.scans.ScanEnds.{Following}
+use Rattle.judy_model.specs.declared.keys.TheConstants.{LONGEST_STRING}
 use Rattle.judy_sl.proofs.arena.Arena.follow.Given as goal
-use Rattle.judy_model.specs.declared.keys.TheConstants.{LONGEST_KEY}
 
 abbrev pub invariant-loop-piece : goal.invariant-loop-piece
 invariant-loop-piece g l = record {
@@ -14,4 +14,4 @@ invariant-loop-piece g l = record {
 }
 
 abbrev pub decreases-loop-piece : goal.decreases-loop-piece
-decreases-loop-piece g l = LONGEST_KEY - g.K.KeyWriter.len l.key
+decreases-loop-piece g l = LONGEST_STRING - g.K.KeyWriter.len l.key

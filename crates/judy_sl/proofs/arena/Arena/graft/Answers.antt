@@ -44,6 +44,12 @@ loop-piece-preserved c =
           (c.loop-piece.invariant.grafting before key left made graft hung) items single.1 c.put_level-place.ensures.put c.link.ensures;
     }
 
+pub lead-requires : goal.lead-requires
+lead-requires c =
+    let top = c.put_level-place-2.new.self in
+    let stands = stands-put c.args.self.now c.loop-piece.self top _ c.put_level-place-2.result c.loop-piece.invariant.stands c.put_level-place-2.ensures.put in
+    stands-value c.args.self.now top c.args.from stands c.requires.entry
+
 pub vacate-requires : goal.vacate-requires
 vacate-requires c =
     let top = c.put_level-place-2.new.self in

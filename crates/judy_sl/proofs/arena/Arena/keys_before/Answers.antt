@@ -19,4 +19,4 @@ returns-then-is_some c =
     (sym (len-entries words) ∙ sym c.len.ensures.count ∙ c.if-len-eq1.true) (sym (get-entries words c.args.piece) ∙ sym c.requires.found ∙ held.1))
 
 pub returns : goal.returns
-returns c = from_none (world_of c.args.self.now) c.args.level.now.map c.keys_between.result c.args.piece c.keys_between.ensures
+returns c = from_none (world_of c.args.self.now) c.args.level.now.map c.keys_counted.result c.args.piece c.keys_counted.ensures

@@ -5,7 +5,7 @@ use Rattle.std.specs.FinMap.{get}
 use Rattle.judy_sl.specs.Pieces.{pieces}
 use Rattle.judy_sl.specs.Arenas.{world_of, node_of}
 use Rattle.judy_sl.proofs.lemmas.seats.Linked.{taken_of}
-use Rattle.judy_sl.proofs.lemmas.scans.RunWays.{front_short, way_start, way_step, way_child, way_moved, way_end, never_gone, never_tail}
+use Rattle.judy_sl.proofs.lemmas.scans.RunWays.{way_start, way_step, way_child, way_moved, way_end, never_gone, never_tail}
 use Rattle.judy_sl.proofs.arena.Arena.level_behind.Goals as goal
 
 pub loop-rest-init : goal.loop-rest-init
@@ -45,9 +45,8 @@ push-requires c =
     let leads = c.requires.leads.1 in
     let step = way_step (world_of c.args.self.now) leads.front leads.seat c.requires.leads.0 (length c.args.key.now - c.args.depth) c.loop-rest.level.now.map
     c.loop-rest.rest.now c.loop-rest.above.items (c.loop-rest.invariant c.requires.leads.0 leads) c.loop-rest-test.true in
-    let short = front_short c.requires.is_arena.is_world leads.front leads.seat c.requires.leads.0 leads.inner leads.way leads.is_level in
     let room = step.room in
-    omega (arith, short, room)
+    omega (arith, c.requires.short, leads.long, leads.within, room)
 
 pub loop-rest-preserved : goal.loop-rest-preserved
 loop-rest-preserved c = λ target leads.

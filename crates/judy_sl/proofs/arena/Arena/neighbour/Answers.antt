@@ -42,7 +42,7 @@ returns-in-Some c =
     let owner = ap (λ (all : List ℕ × ℕ × ℕ). all.2) (c.follow.ensures.beyond c.follow.new.key.len (omega arith)) ∙ c.new-end.ensures.same in
     let from = ap length seen in
     let short = c.as_slice.ensures.fits in
-    let fits = neighbour-fits look world key got.bytes (value_in c.follow.result) LONGEST_KEY (omega arith) (omega (arith, from, short)) got.are.0 in
+    let fits = neighbour-fits look c.args.self.now LONGEST_KEY c.requires.short key got.bytes (value_in c.follow.result) (omega (arith, from, short)) got.are.0 in
     record {
       key = ap (λ (b : _). b.items) (c.key-1.given.1 (sym owner)) ∙ got.given.1 fits ∙ found.0;
       value = ap value_in (sym c.in-Some.is) ∙ found.1;
@@ -63,7 +63,7 @@ returns-in-None c =
     let owner = ap (λ (all : List ℕ × ℕ × ℕ). all.2) (c.follow.ensures.beyond c.follow.new.key.len (omega arith)) ∙ c.new-end.ensures.same in
     let from = ap length seen in
     let short = c.as_slice.ensures.fits in
-    let fits = neighbour-fits look world key got.bytes (value_in c.follow.result) LONGEST_KEY (omega arith) (omega (arith, from, short)) got.are.0 in
+    let fits = neighbour-fits look c.args.self.now LONGEST_KEY c.requires.short key got.bytes (value_in c.follow.result) (omega (arith, from, short)) got.are.0 in
     record {
       key = ap (λ (b : _). b.items) (c.key-1.given.1 (sym owner)) ∙ got.given.1 fits ∙ found.0;
       value = ap value_in (sym c.in-None.is) ∙ found.1;

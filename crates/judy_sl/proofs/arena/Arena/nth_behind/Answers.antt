@@ -8,6 +8,7 @@ use Rattle.judy_sl.proofs.lemmas.pieces.PieceBytes.{inner_bytes}
 use Rattle.judy_sl.proofs.lemmas.counts.KeysTold.{level_stands, level_asked}
 use Rattle.judy_sl.proofs.lemmas.places.NthWays.{nth_start, nth_there, nth_within, nth_room, nth_final, nth_down, nth_tail_room, nth_tail}
 use Rattle.judy_tails.proofs.Writing.{stays-beyond}
+use Rattle.judy_sl.proofs.lemmas.counts.ListedLevels.{list_there}
 use Rattle.judy_sl.proofs.arena.Arena.nth_behind.Goals as goal
 
 pub down-init : goal.down-init
@@ -114,3 +115,7 @@ returns-in-Tail g c = record {
   beyond = stays-beyond g.K.KeyWriter.len g.K.KeyWriter.beyond c.args.key.now c.down.key c.push_to.new.key (length c.in-Tail.tail.0)
       c.push_to.ensures.len c.down.invariant.beyond c.push_to.ensures.beyond;
 }
+
+pub spot_at-spot-requires-clause-list : goal.spot_at-spot-requires-clause-list
+spot_at-spot-requires-clause-list g c =
+    list_there c.args.self.now c.args.lists.now c.requires.listed c.down.at (keys_told (child_at c.args.self.now c.down.at)) c.in-Level.level.now c.in-Level.ensures _ c.list_of-list.ensures

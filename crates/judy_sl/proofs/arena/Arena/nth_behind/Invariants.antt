@@ -3,8 +3,8 @@ use Rattle.judy_tails.specs.Writers.{StaysBeyond, WasGiven}
 use Rattle.judy_sl.specs.Arenas.{world_of}
 use Rattle.judy_sl.specs.Nth.{KeysFit}
 use Rattle.judy_sl.proofs.lemmas.places.NthWays.{OnNth}
+use Rattle.judy_model.specs.declared.keys.TheConstants.{LONGEST_STRING}
 use Rattle.judy_sl.proofs.arena.Arena.nth_behind.Given as goal
-use Rattle.judy_model.specs.declared.keys.TheConstants.{LONGEST_KEY}
 
 abbrev pub invariant-down : goal.invariant-down
 invariant-down g l = record {
@@ -14,4 +14,4 @@ invariant-down g l = record {
 }
 
 abbrev pub decreases-down : goal.decreases-down
-decreases-down g l = LONGEST_KEY - g.K.KeyWriter.len l.key
+decreases-down g l = LONGEST_STRING - g.K.KeyWriter.len l.key

@@ -12,6 +12,7 @@ use Rattle.judy_sl.proofs.lemmas.pieces.PieceLemmas.{text-drop, piece-IsInner}
 use Rattle.judy_sl.proofs.lemmas.seats.Linked.{taken_of}
 use Rattle.judy_sl.proofs.lemmas.counts.KeysTold.{level_stands, level_asked}
 use Rattle.judy_sl.proofs.lemmas.counts.LevelRanks.{one_if, one_told, ranked_most, rank_tail, level_most, rank_absent, rank_final, rank_inner}
+use Rattle.judy_sl.proofs.lemmas.counts.ListedLevels.{list_there}
 use Rattle.judy_sl.proofs.arena.Arena.rank_behind.Goals as goal
 
 pub loop-level-init : goal.loop-level-init
@@ -98,3 +99,8 @@ returns-in-Tail c =
     let one = c.from-in-Tail.ensures ∙ one_told c.comes.result ∙ ap (λ b. one_if b) (c.comes.ensures ∙ ap (is_beyond c.args.itself) c.order.ensures) in
     let whole = c.loop-level.invariant.whole in
     omega arith
+
+pub keys_before-lesser-requires-clause-list : goal.keys_before-lesser-requires-clause-list
+keys_before-lesser-requires-clause-list c =
+    list_there c.args.self.now c.args.lists.now c.requires.listed c.loop-level.at (keys_told (child_at c.args.self.now c.loop-level.at))
+    c.in-Level.level.now c.in-Level.ensures _ c.list_of-list.ensures

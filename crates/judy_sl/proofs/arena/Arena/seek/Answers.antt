@@ -85,6 +85,6 @@ returns c =
     (c.pass_own.ensures.above ∙ ap (λ (both : List (ℕ × ℕ) × Option (List (ℕ × ℕ))). both.1) c.restart_from.ensures)) in
     let depth : 8 * c.len.result ≡ 8 * length above = ap (λ n. 8 * n) c.len.ensures.value in
     let begun = room-begun key c.cut.new.self (8 * length above) (c.cut.ensures.len ∙ depth) (c.cut.ensures.bytes ∙ ap (λ n. take n key) depth) leads.at.within in
-    let after = room-climbed c.args.itself world c.args.key.now c.requires.whole c.climb.new.above.items c.climb.new.run c.climb.result c.climb.new.key
+    let after = room-climbed c.args.itself c.args.self.now c.requires.short c.args.key.now c.requires.whole c.climb.new.above.items c.climb.new.run c.climb.result c.climb.new.key
     (c.climb.ensures key (record { leads = leads; given = begun })) in
     record { whole = after.0; neighbour = after.1; leads = after.2 }

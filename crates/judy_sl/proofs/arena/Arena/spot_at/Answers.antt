@@ -1,9 +1,11 @@
-use Rattle.std.proofs.Common.{◌∙◌, sym, arith, ℕ, ◌<◌, subst, List, All}
+use Rattle.std.proofs.Common.{◌∙◌, ap, sym, arith, ℕ, ◌<◌, subst, List, All}
+use Rattle.std.specs.Option.{option_copied}
 use Rattle.judy_sl.specs.Arenas.{world_of}
 use Rattle.judy_sl.specs.Counted.{LeadsOn, keys_behind_all}
 use Rattle.judy_sl.specs.Nth.{IsSpotIn, IsSpotOf}
-use Rattle.judy_sl.proofs.lemmas.counts.LoneKeys.{level_keys, lone_spot}
+use Rattle.judy_sl.proofs.lemmas.counts.LoneKeys.{level_keys, level_long, lone_spot}
 use Rattle.judy_sl.proofs.lemmas.places.PageCounts.{entries_lead}
+use Rattle.judy_sl.proofs.lemmas.places.NthFirsts.{before_first, before_fits, first_some, chosen_spot}
 use Rattle.judy_sl.proofs.lemmas.places.NthReads.{spot_of, only_spot}
 use Rattle.judy_sl.proofs.arena.Arena.spot_at.Goals as goal
 
@@ -73,3 +75,48 @@ returns-then-place-keys c =
 
 pub returns-else-place-keys : goal.returns-else-place-keys
 returns-else-place-keys c = spot_of (world_of c.args.self.now) c.args.level.now.map c.args.place c.read_back.result c.read_back.ensures
+
+-- ---- by the level's list
+
+pub listed_spot-requires-clause-some : goal.listed_spot-requires-clause-some
+listed_spot-requires-clause-some c =
+    let world = c.requires.is_arena.is_world in
+    let stands = c.requires.told in
+    let words = c.args.level.now.map in
+    let listed = c.requires.list c.in-Some.list.now (ap option_copied c.in-Some.is) in
+    first_some world listed.0 words listed.1 c.in-Some.list.now listed.2 c.args.place (omega (arith, level_keys world listed.0 words listed.1, c.requires.within))
+
+pub listed_spot-requires-clause-few : goal.listed_spot-requires-clause-few
+listed_spot-requires-clause-few c =
+    let stands = c.requires.told in
+    omega (arith, level_long c.requires.is_arena.is_world stands.seat c.args.level.now.map stands.is_level, stands.told, c.ranges.keys.fits)
+
+pub listed_spot-requires-clause-first : goal.listed_spot-requires-clause-first
+listed_spot-requires-clause-first c =
+    let world = c.requires.is_arena.is_world in
+    let stands = c.requires.told in
+    let words = c.args.level.now.map in
+    let listed = c.requires.list c.in-Some.list.now (ap option_copied c.in-Some.is) in
+    before_first world listed.0 words listed.1 c.in-Some.list.now listed.2
+    (first_some world listed.0 words listed.1 c.in-Some.list.now listed.2 c.args.place (omega (arith, level_keys world listed.0 words listed.1, c.requires.within)))
+
+pub listed_spot-requires-clause-fits : goal.listed_spot-requires-clause-fits
+listed_spot-requires-clause-fits c =
+    let world = c.requires.is_arena.is_world in
+    let stands = c.requires.told in
+    let words = c.args.level.now.map in
+    let listed = c.requires.list c.in-Some.list.now (ap option_copied c.in-Some.is) in
+    before_fits world listed.0 words listed.1 c.in-Some.list.now listed.2
+    (omega (arith, level_keys world listed.0 words listed.1, level_keys world stands.seat words stands.is_level, stands.told, c.ranges.keys.fits))
+
+pub returns-in-Some : goal.returns-in-Some
+returns-in-Some c =
+    let world = c.requires.is_arena.is_world in
+    let stands = c.requires.told in
+    let words = c.args.level.now.map in
+    let listed = c.requires.list c.in-Some.list.now (ap option_copied c.in-Some.is) in
+    let spot = c.listed_spot.result in
+    let is = c.listed_spot.ensures in
+    subst (λ left. IsSpotOf (world_of c.args.self.now) words c.args.place (record { piece = spot.piece; value = spot.value; place = left })) (sym is.left)
+    (chosen_spot world listed.0 words listed.1 c.in-Some.list.now listed.2 c.args.place (omega (arith, level_keys world listed.0 words listed.1, c.requires.within)) is.mark is.chosen
+    spot.piece spot.value is.at is.held)

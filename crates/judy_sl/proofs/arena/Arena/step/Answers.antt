@@ -44,7 +44,7 @@ read_ahead-requires-clause-leads c =
     let leads = subst (λ bytes. EntryLeads false world bytes c.in_ok-entry.entry above c.next_entry.new.run) c.as_slice.ensures.bytes next in
     let depth : 8 * c.len.result ≡ 8 * length above = ap (λ n. 8 * n) c.len.ensures.value in
     let begun = room-begun key c.cut.new.self (8 * length above) (c.cut.ensures.len ∙ depth) (c.cut.ensures.bytes ∙ ap (λ n. take n key) depth) leads.at.within in
-    let after = room-climbed false world c.args.key.now c.requires.whole c.climb-value.new.above.items c.climb-value.new.run c.climb-value.result c.climb-value.new.key
+    let after = room-climbed false c.args.self.now c.requires.short c.args.key.now c.requires.whole c.climb-value.new.above.items c.climb-value.new.run c.climb-value.result c.climb-value.new.key
     (c.climb-value.ensures key (record { leads = leads; given = begun })) in
     let stands = after.2 in
     let words = c.climb-value.new.run.level.now.map in
@@ -60,7 +60,7 @@ returns c =
     let leads = subst (λ bytes. EntryLeads false world bytes c.in_ok-entry.entry above c.next_entry.new.run) c.as_slice.ensures.bytes next in
     let depth : 8 * c.len.result ≡ 8 * length above = ap (λ n. 8 * n) c.len.ensures.value in
     let begun = room-begun key c.cut.new.self (8 * length above) (c.cut.ensures.len ∙ depth) (c.cut.ensures.bytes ∙ ap (λ n. take n key) depth) leads.at.within in
-    let after = room-climbed false world c.args.key.now c.requires.whole c.climb-value.new.above.items c.climb-value.new.run c.climb-value.result c.climb-value.new.key
+    let after = room-climbed false c.args.self.now c.requires.short c.args.key.now c.requires.whole c.climb-value.new.above.items c.climb-value.new.run c.climb-value.result c.climb-value.new.key
     (c.climb-value.ensures key (record { leads = leads; given = begun })) in
     let bytes = bytes_in c.climb-value.new.key in
     let levels = c.climb-value.new.above.items in

@@ -9,26 +9,27 @@ use Rattle.judy_sl.proofs.lemmas.pieces.PieceLemmas.{text_of_key, text-drop}
 use Rattle.judy_sl.proofs.lemmas.counts.FirstWays.{unrooted}
 use Rattle.judy_sl.proofs.lemmas.inserts.Tried.{shown-refused, first-absent, first-added}
 use Rattle.judy_sl.proofs.lemmas.counts.Growing.{counted-same}
-use Rattle.judy_sl.proofs.lemmas.counts.TriedCounts.{put-present, tried-counted}
+use Rattle.judy_sl.proofs.lemmas.counts.TriedCounts.{put-present, tried-stays, tried-counted}
 use Rattle.judy_word.proofs.TrialLemmas.{put-absent, put-new, put-undone}
+use Rattle.judy_sl.proofs.lemmas.pieces.Strings.{string_of_key}
 use Rattle.judy_sl.proofs.arena.Arena.try_add.Goals as goal
 
 pub returns-in_err-added-clause-absent : goal.returns-in_err-added-clause-absent
 returns-in_err-added-clause-absent c =
-    let key = c.is_key.ensures.0 c.if-not-is_key.false in
+    let key = string_of_key c.args.key.now (c.is_key.ensures.0 c.if-not-is_key.false) in
     shown-refused _ c.from_residual.result c.from_residual.ensures.1 (first-absent c.args.self.now c.requires.is_arena c.args.key.now key c.first_piece-piece.result
     c.first_piece-piece.ensures c.in_err-added.ensures.absent)
 
 pub returns-in-Ok-clause-absent : goal.returns-in-Ok-clause-absent
 returns-in-Ok-clause-absent c =
-    let key = c.is_key.ensures.0 c.if-not-is_key.false in
+    let key = string_of_key c.args.key.now (c.is_key.ensures.0 c.if-not-is_key.false) in
     let added = sym c.if-not-added.false ∙ c.in_ok-added.ensures.answer in
     first-absent c.args.self.now c.requires.is_arena c.args.key.now key c.first_piece-piece.result c.first_piece-piece.ensures (put-absent c.args.self.now.root.map c.first_piece-piece.result added)
 
 -- Its tail is a text.
 pub put_tail_next-requires-clause-text : goal.put_tail_next-requires-clause-text
 put_tail_next-requires-clause-text c =
-    subst IsText (sym (take_rest c.args.key.now 8)) (text-drop 8 c.args.key.now (text_of_key c.args.key.now (c.is_key.ensures.0 c.if-not-is_key.false)))
+    subst IsText (sym (take_rest c.args.key.now 8)) (text-drop 8 c.args.key.now (text_of_key c.args.key.now (string_of_key c.args.key.now (c.is_key.ensures.0 c.if-not-is_key.false))))
 
 -- It goes to the place that was asked for, and the entry leads there.
 pub put_tail_next-requires-clause-next : goal.put_tail_next-requires-clause-next
@@ -43,7 +44,7 @@ words_is c =
 
 pub returns-in-Ok-clause-added : goal.returns-in-Ok-clause-added
 returns-in-Ok-clause-added c =
-    let key = c.is_key.ensures.0 c.if-not-is_key.false in
+    let key = string_of_key c.args.key.now (c.is_key.ensures.0 c.if-not-is_key.false) in
     let long = c.if-key-lt8.false in
     let added = sym c.if-not-added.false ∙ c.in_ok-added.ensures.answer in
     first-added c.args.self.now c.requires.is_arena c.args.key.now key c.first_piece-piece.result c.first_piece-piece.ensures (put-absent c.args.self.now.root.map c.first_piece-piece.result added)
@@ -57,7 +58,7 @@ returns-in-Ok-clause-first c =
 
 pub returns-in-Err-clause-absent : goal.returns-in-Err-clause-absent
 returns-in-Err-clause-absent c =
-    let key = c.is_key.ensures.0 c.if-not-is_key.false in
+    let key = string_of_key c.args.key.now (c.is_key.ensures.0 c.if-not-is_key.false) in
     let added = sym c.if-not-added.false ∙ c.in_ok-added.ensures.answer in
     first-absent c.args.self.now c.requires.is_arena c.args.key.now key c.first_piece-piece.result c.first_piece-piece.ensures (put-absent c.args.self.now.root.map c.first_piece-piece.result added)
 
@@ -77,7 +78,7 @@ returns-then-not-added-clause-counted c =
 
 pub returns-in-Ok-clause-counted : goal.returns-in-Ok-clause-counted
 returns-in-Ok-clause-counted c =
-    let key = c.is_key.ensures.0 c.if-not-is_key.false in
+    let key = string_of_key c.args.key.now (c.is_key.ensures.0 c.if-not-is_key.false) in
     let added = sym c.if-not-added.false ∙ c.in_ok-added.ensures.answer in
     tried-counted c.args.self.now c.requires.is_arena c.requires.led c.requires.counted c.args.key.now key c.first_piece-piece.result c.first_piece-piece.ensures
     (put-absent c.args.self.now.root.map c.first_piece-piece.result added)
@@ -85,3 +86,10 @@ returns-in-Ok-clause-counted c =
 
 pub returns-in-Err-clause-counted : goal.returns-in-Err-clause-counted
 returns-in-Err-clause-counted c = counted-same c.args.self.now _ (returns-in-Err-clause-refused c) c.requires.counted
+
+pub returns-in-Ok-clause-stays : goal.returns-in-Ok-clause-stays
+returns-in-Ok-clause-stays c = λ some.
+    let key = string_of_key c.args.key.now (c.is_key.ensures.0 c.if-not-is_key.false) in
+    let added = sym c.if-not-added.false ∙ c.in_ok-added.ensures.answer in
+    tried-stays c.args.self.now c.requires.is_arena c.requires.led c.requires.counted c.args.key.now key c.first_piece-piece.result c.first_piece-piece.ensures
+    (put-absent c.args.self.now.root.map c.first_piece-piece.result added) c.put_if_absent.new.self c.put_tail_next.new.self c.next_place-next.result _ (words_is c) c.in-Ok.ensures.put

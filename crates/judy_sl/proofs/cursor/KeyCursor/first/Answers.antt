@@ -13,6 +13,7 @@ invariant_of-self c =
       c.seek.ensures.whole,
       record {
         is_arena = c.self.invariant.1.is_arena;
+        short = c.self.invariant.1.short;
         is_text = text_after (upward true) (world_of c.self.inside.arena.now) key after c.seek.result c.self.invariant.1.is_text c.seek.ensures.neighbour;
         leads = c.seek.ensures.leads;
       },

@@ -13,6 +13,7 @@ invariant_of-self c =
       c.step.ensures.whole,
       record {
         is_arena = c.self.invariant.1.is_arena;
+        short = c.self.invariant.1.short;
         is_text = text_after (upward false) (world_of c.self.inside.arena.now) key after c.step.result c.self.invariant.1.is_text c.step.ensures.neighbour;
         leads = c.step.ensures.leads;
       },

@@ -6,6 +6,7 @@ use Rattle.judy_sl.proofs.lemmas.seats.Keeping.{strings-new}
 use Rattle.judy_sl.proofs.lemmas.seats.Maps.{empty-map}
 use Rattle.judy_sl.proofs.lemmas.counts.FirstWays.{firsts_new}
 use Rattle.judy_sl.proofs.lemmas.counts.CountedWrites.{counted_new}
+use Rattle.judy_sl.proofs.lemmas.counts.ListWrites.{no_lists}
 use Rattle.judy_sl.proofs.judysl.JudySl.free_array.Goals as goal
 
 pub invariant_of-self : goal.invariant_of-self
@@ -13,6 +14,7 @@ invariant_of-self c = (
   strings-new c.self.inside.limit c.new.result c.new.ensures.levels c.new.ensures.tails c.new.ensures.root c.self.invariant.0.holds_some c.self.invariant.0.limit_fits,
   counted_new c.new.result c.new.ensures.levels c.new.ensures.tails,
   firsts_new c.new.result c.new.ensures.levels c.new.ensures.tails c.new.ensures.root c.new-2.result c.new-2.ensures,
+  no_lists _ c.new-3.result c.new-3.ensures,
 )
 
 pub returns-clause-emptied : goal.returns-clause-emptied

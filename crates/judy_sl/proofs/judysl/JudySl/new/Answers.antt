@@ -5,6 +5,7 @@ use Rattle.judy_sl.proofs.lemmas.seats.Keeping.{strings-new}
 use Rattle.judy_sl.proofs.lemmas.seats.Maps.{empty-map}
 use Rattle.judy_sl.proofs.lemmas.counts.FirstWays.{firsts_new}
 use Rattle.judy_sl.proofs.lemmas.counts.CountedWrites.{counted_new}
+use Rattle.judy_sl.proofs.lemmas.counts.ListWrites.{no_lists}
 use Rattle.judy_sl.proofs.judysl.JudySl.new.Goals as goal
 
 pub invariant_of-result : goal.invariant_of-result
@@ -12,6 +13,7 @@ invariant_of-result c = (
   strings-new c.args.limit c.new.result c.new.ensures.levels c.new.ensures.tails c.new.ensures.root c.requires.some c.requires.most,
   counted_new c.new.result c.new.ensures.levels c.new.ensures.tails,
   firsts_new c.new.result c.new.ensures.levels c.new.ensures.tails c.new.ensures.root c.new-2.result c.new-2.ensures,
+  no_lists _ c.new-3.result c.new-3.ensures,
 )
 
 pub returns : goal.returns

@@ -11,6 +11,7 @@ use Rattle.judy_sl.proofs.lemmas.pieces.Exact.{ends-text}
 use Rattle.judy_sl.proofs.lemmas.counts.FirstWays.{firsts_slot}
 use Rattle.judy_sl.proofs.lemmas.counts.CountedWrites.{counted_written}
 use Rattle.judy_sl.proofs.lemmas.seats.Keeping.{gap-none, clash-none, strings-written, array-written, value-place}
+use Rattle.judy_sl.proofs.lemmas.counts.ListWrites.{listed_slot}
 use Rattle.judy_sl.proofs.judysl.JudySl.slot.Goals as goal
 
 pub returns-then-ends_in_zero : goal.returns-then-ends_in_zero
@@ -32,6 +33,7 @@ invariant_of-self-lent c _ =
         strings-written _ _ _ c.self.invariant.0 c.args.key.now key c.in-At.place found w,
         counted_written c.self.inside.arena c.self.invariant.0.is_arena c.args.key.now c.in-At.place found w c.self.invariant.1,
         firsts_slot _ _ _ c.self.invariant.0 c.args.key.now key c.in-At.place found c.self.inside.firsts c.self.invariant.2 w,
+        listed_slot _ _ _ c.self.invariant.0 c.args.key.now key c.in-At.place found w c.self.inside.lists c.self.invariant.3,
       ),
       c.self.invariant,
     )

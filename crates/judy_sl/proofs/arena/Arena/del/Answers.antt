@@ -6,26 +6,25 @@ use Rattle.judy_sl.specs.World.{World, lookup}
 use Rattle.judy_sl.specs.WorldInvariants.{AllLed}
 use Rattle.judy_sl.specs.Arenas.{world_of}
 use Rattle.judy_sl.specs.Ways.{levels_passed}
-use Rattle.judy_sl.specs.Shrunk.{IsCutWhere, IsShrunk}
-use Rattle.judy_sl.specs.Counted.{AreOnce, CanStepAt, AreStepped, AreCountedBut}
+use Rattle.judy_sl.specs.Shrunk.{place_without, IsLeft, IsCutWhere, IsShrunk}
+use Rattle.judy_sl.specs.Listed.{AreLeft}
+use Rattle.judy_sl.specs.Counted.{IsAmong, AreOnce, CanStepAt, AreStepped, AreCountedBut}
 use Rattle.judy_sl.proofs.lemmas.pieces.PieceLemmas.{text_of_key, pieces_are}
 use Rattle.judy_sl.proofs.lemmas.counts.PassedLevels.{list-fits}
 use Rattle.judy_sl.proofs.lemmas.removals.Shrinks.{cut-found, shrunk-last, shrunk-on, on-arena, on-is_orphan}
 use Rattle.judy_sl.proofs.lemmas.counts.Stepping.{go-once, can-go, go-counted}
 use Rattle.judy_sl.proofs.lemmas.counts.CountedKeys.{shrunk-counted}
-use Rattle.judy_sl.proofs.lemmas.counts.CountedLost.{counted-lost, left-same}
+use Rattle.judy_sl.proofs.lemmas.counts.CountedLost.{lost-stays, left-among, counted-lost, left-same}
+use Rattle.judy_sl.proofs.lemmas.counts.LedLevels.{stays_before}
 use Rattle.judy_sl.proofs.lemmas.removals.Beside.{beside-left}
-use Rattle.judy_sl.proofs.arena.Arena.del_noted.Given.{Over}
-use Rattle.judy_sl.proofs.arena.Arena.del_noted.Goals.{After-as_slice, After-count_places}
-use Rattle.judy_sl.proofs.arena.Arena.del_noted.Goals as goal
+use Rattle.judy_sl.proofs.arena.Arena.del.Given.{Over}
+use Rattle.judy_sl.proofs.arena.Arena.del.Goals.{After-as_slice, After-count_places}
+use Rattle.judy_sl.proofs.arena.Arena.del.Goals as goal
 
 -- ---- the list of places
 
-pub new-passed-requires : goal.new-passed-requires
-new-passed-requires g c = list-fits g.row.N c.requires.most
-
 pub find_cut-requires : goal.find_cut-requires
-find_cut-requires g c = (list-fits g.row.N c.requires.most, (c.requires.is_arena, (c.requires.is_key, (c.requires.few, c.new-passed.ensures))))
+find_cut-requires g c = (list-fits g.row.N c.requires.most, (c.requires.is_arena, (c.requires.is_key, (c.requires.few, c.requires.begins))))
 
 pub truncate-requires : goal.truncate-requires
 truncate-requires g c = list-fits g.row.N c.requires.most
@@ -132,3 +131,28 @@ returns-in_default-below-clause-beside g c =
     let to = (goal.at.returns-in_default-below-clause-beside g c).After-count_places in
     c.is_below-beside.ensures ∙ beside-left c.count_places.new.self c.take_out.new.self c.take_out.new.self c.count_places.ensures.is_arena c.args.key.now
     (left-same c.take_out.new.self) c.in-Some.cut (cut g to) c.take_out.ensures
+
+-- ---- the levels that are left
+
+left : (g : Over) (c : After-count_places g) (mid after : Arena) → mid ≡ place_without c.count_places.new.self c.in-Some.cut.place → IsLeft mid after →
+    AreLeft c.args.self.now after c.args.key.now (take c.in-Some.cut.depth (levels_passed (world_of c.args.self.now) c.args.key.now))
+left g c mid after mid_is is = record {
+  count = c.in-Some.cut.depth;
+  are = refl;
+  stays = stays_before false c.args.self.now c.count_places.new.self after c.as_slice.result.now c.count_places.ensures
+      (lost-stays c.count_places.new.self mid after c.count_places.ensures.is_arena c.args.key.now c.requires.is_key c.in-Some.cut (cut g c) mid_is is);
+  among = λ at map front rest is_level inner way parts. subst (λ (w : World). IsAmong (take c.in-Some.cut.depth (levels_passed w c.args.key.now)) at) c.count_places.ensures.world
+      (left-among c.count_places.new.self mid after c.count_places.ensures.is_arena c.args.key.now c.requires.is_key c.in-Some.cut (cut g c) mid_is is at map front rest is_level inner way parts);
+}
+
+pub returns-in-Some-below-clause-left : goal.returns-in-Some-below-clause-left
+returns-in-Some-below-clause-left g c = λ some.
+    let to = (goal.at.returns-in-Some-below-clause-left g c).After-count_places in
+    subst (AreLeft c.args.self.now c.clear.new.self c.args.key.now) (sym (c.truncate.ensures.items ∙ ap (take c.in-Some.cut.depth) (c.in-Some.ensures.passed refl)))
+    (left g to c.take_out.new.self c.clear.new.self c.take_out.ensures c.clear.ensures.cleared.left)
+
+pub returns-in_default-below-clause-left : goal.returns-in_default-below-clause-left
+returns-in_default-below-clause-left g c = λ some.
+    let to = (goal.at.returns-in_default-below-clause-left g c).After-count_places in
+    subst (AreLeft c.args.self.now c.take_out.new.self c.args.key.now) (sym (c.truncate.ensures.items ∙ ap (take c.in-Some.cut.depth) (c.in-Some.ensures.passed refl)))
+    (left g to c.take_out.new.self c.take_out.new.self c.take_out.ensures (left-same c.take_out.new.self))

@@ -1,0 +1,209 @@
+//! How many keys begin with each piece behind wide levels below the first, kept in a list for each as firsts.rt keeps
+//! it of the first level. A level gets its list once it has some entries, and loses it with most of its keys.
+
+ghost use Rattle.std.specs.Prelude.{◌≡◌, ◌+◌, ◌<◌, ◌≤◌, ◌^◌, ◌/◌, ℕ, suc, true, false, Some, None, OnOk, IfOk, IfSome, All, length};
+ghost use Rattle.std.specs.FinMap as map;
+ghost use Rattle.std.specs.FinMap.{FinMap};
+ghost use Rattle.judy_model.specs.Keys.{word_order};
+ghost use Rattle.judy_sums.specs.Pairs.{sum_of};
+ghost use Rattle.judy_sums.specs.Chunks.{Ascends};
+ghost use Rattle.judy_sums.specs.Listed.{list_at, AreOthers};
+ghost use Rattle.judy_sl.specs.Children.{Level as LevelChild, keys_told, IsLevelChild};
+ghost use Rattle.judy_sl.specs.World as world;
+ghost use Rattle.judy_sl.specs.Arenas.{world_of, child_at, IsArena};
+ghost use Rattle.judy_sl.specs.Behind.{map_behind};
+ghost use Rattle.judy_sl.specs.Counted.{LeadsOn, keys_behind, keys_behind_all, AreCounted};
+ghost use Rattle.judy_sl.specs.Firsts.{beginning, AreFirsts};
+ghost use Rattle.judy_sl.specs.Listed.{with_entry, IsPageList, IsListed, AreListed, IsOff, AreListedBut};
+
+use crate::arena::Arena;
+use crate::child::ChildRef;
+use crate::pieces::first_piece;
+use judy_sums::{LevelSums, Sums};
+use judy_word::WordMap;
+use std::alloc::AllocError;
+
+// A level behind which no more keys stand has no list.
+const FEW: u32 = 32;
+
+// A level gets a list where it has more entries than this,
+const NARROW: u64 = 64;
+
+// and no more than this, which are read for it.
+const READ: u64 = 128;
+
+// Brings the piece of an entry into a list, where more than one key stands behind it. The error is want of memory.
+fn list_entry(list: &mut Sums, piece: u64, keys: u64) -> Result<(), AllocError>
+    requires absent { map.get list.old piece ≡ None }
+    requires few { map.len list.old + 1 < 2 ^ 64 }
+    requires fits { sum_of (map.entries list.old) + keys < 2 ^ 64 }
+    ensures { OnOk result (list.new ≡ with_entry list.old piece keys) }
+{
+    if keys > 1 {
+        list.add(piece, keys - 1)?;
+    }
+    Ok(())
+}
+
+impl Arena {
+    // The level at a place.
+    fn level_at(&self, at: u64) -> &WordMap
+        requires { IsLevelChild (child_at self.now at) }
+        ensures { child_at self.now at
+            ≡ LevelChild (keys_told (child_at self.now at)) result.now }
+    {
+        match self.child(at) {
+            ChildRef::Level(level) => level,
+            ChildRef::Tail(_) => unreachable!(),
+        }
+    }
+
+    // Whether more than one key begins with a piece behind the level at a place.
+    fn begins_more(&self, at: u64, piece: u64) -> bool
+        requires is_arena { IsArena self.now }
+        requires counted { AreCounted self.now }
+        requires level { IsLevelChild (child_at self.now at) }
+        ensures more { result ≡ true
+            → 2 ≤ beginning (map_behind (world_of self.now) (suc at)) piece }
+        ensures none { result ≡ false
+            → beginning (map_behind (world_of self.now) (suc at)) piece ≤ 1 }
+    {
+        match self.level_at(at).get(piece) {
+            Some(value) => self.keys_at(piece, value) > 1,
+            None => false,
+        }
+    }
+
+    // The list of some entries of a level. The error is want of memory.
+    fn list_page(&self, page: &[(u64, u64)]) -> Result<Sums, AllocError>
+        requires is_arena { IsArena self.now }
+        requires counted { AreCounted self.now }
+        requires leads { All (LeadsOn (world_of self.now)) page.now }
+        requires ascends { Ascends page.now }
+        requires few { length page.now < 2 ^ 60 }
+        requires fits { keys_behind_all (world_of self.now) page.now < 2 ^ 64 }
+        ensures { IfOk result (IsPageList (world_of self.now) page.now) }
+    {
+        let mut list = Sums::new(self.alloc);
+        let mut left = page.len();
+        'entries: while left > 0 {
+            left -= 1;
+            let (piece, value) = page[left];
+            list_entry(&mut list, piece, self.keys_at(piece, value))?;
+        }
+        Ok(list)
+    }
+
+    // The list of a level with so many entries, which are read. The error is want of memory. Its page is no caller's.
+    #[inline(never)]
+    fn read_list(&self, level: &WordMap, entries: u64) -> Result<Sums, AllocError>
+        requires is_arena { IsArena self.now }
+        requires counted { AreCounted self.now }
+        requires stands { (seat : ℕ) × (world_of self.now seat ≡ world.level level.now.map)
+            × (keys_behind (world_of self.now) seat < 2 ^ 64) }
+        requires entries { entries ≡ map.len level.now.map }
+        requires few { entries ≤ 128 }
+        ensures { IfOk result
+            (IsPageList (world_of self.now) (map.entries level.now.map)) }
+    {
+        let mut page = [(0, 0); READ as usize];
+        let next = &mut page[..entries as usize];
+        level.iter().fill(next);
+        self.list_page(next)
+    }
+
+    // A list for the level at a place, where it is to have one and there is memory.
+    fn list_for(&self, at: u64) -> Option<Sums>
+        requires is_arena { IsArena self.now }
+        requires counted { AreCounted self.now }
+        requires level { IsLevelChild (child_at self.now at) }
+        requires fits { keys_behind (world_of self.now) (suc at) < 2 ^ 64 }
+        ensures { IfSome result (AreFirsts (map_behind (world_of self.now) (suc at))) }
+    {
+        let level = self.level_at(at);
+        let entries = level.len();
+        if entries <= NARROW || entries > READ {
+            return None;
+        }
+        match self.read_list(level, entries) {
+            Ok(list) => Some(list),
+            Err(_) => None,
+        }
+    }
+
+    // Counts a key that has come in behind the level at a place in the level's list. One without a list may get it.
+    fn list_more(&self, lists: &mut LevelSums, at: u64, rest: &[u8])
+        requires is_arena { IsArena self.now }
+        requires counted { AreCounted self.now }
+        requires off { IsOff true self.now lists.old at rest.now }
+        ensures here { (list : FinMap word_order ℕ) → list_at lists.new (at / 256) ≡ Some list
+            → IsListed (world_of self.now) at list }
+        ensures others { AreOthers (at / 256) lists.old lists.new }
+    {
+        let keys = self.keys_told(at);
+        if keys <= FEW {
+            return;
+        }
+        let index = (at / 256) as usize;
+        if lists.get(index).is_none() {
+            if let Some(list) = self.list_for(at) {
+                lists.put(index, list);
+            }
+            return;
+        }
+        let piece = first_piece(rest);
+        if self.begins_more(at, piece) {
+            lists.raise(index, piece);
+        }
+    }
+
+    // Counts a key that has gone no more. Where few keys are left, the list goes too.
+    fn list_less(&self, lists: &mut LevelSums, at: u64, rest: &[u8])
+        requires is_arena { IsArena self.now }
+        requires counted { AreCounted self.now }
+        requires off { IsOff false self.now lists.old at rest.now }
+        ensures here { (list : FinMap word_order ℕ) → list_at lists.new (at / 256) ≡ Some list
+            → IsListed (world_of self.now) at list }
+        ensures others { AreOthers (at / 256) lists.old lists.new }
+    {
+        let index = (at / 256) as usize;
+        let Some(_) = lists.get(index) else {
+            return;
+        };
+        if self.keys_told(at) <= FEW {
+            lists.forget(index);
+        } else {
+            lists.lower(index, first_piece(rest));
+        }
+    }
+
+    // Counts a key in at the list of a level on its way, or out.
+    fn list_key(&self, lists: &mut LevelSums, at: u64, rest: &[u8], comes: bool)
+        requires is_arena { IsArena self.now }
+        requires counted { AreCounted self.now }
+        requires off { IsOff comes self.now lists.old at rest.now }
+        ensures here { (list : FinMap word_order ℕ) → list_at lists.new (at / 256) ≡ Some list
+            → IsListed (world_of self.now) at list }
+        ensures others { AreOthers (at / 256) lists.old lists.new }
+    {
+        if comes {
+            self.list_more(lists, at, rest);
+        } else {
+            self.list_less(lists, at, rest);
+        }
+    }
+
+    // The same at the lists of all levels that its way passed, by their places.
+    pub fn list_places(&self, lists: &mut LevelSums, places: &[u64], key: &[u8], comes: bool)
+        requires is_arena { IsArena self.now }
+        requires counted { AreCounted self.now }
+        requires but { AreListedBut comes self.now lists.old places.now key.now }
+        ensures { AreListed (world_of self.now) lists.new }
+    {
+        let mut rest = key;
+        'places: for at in places {
+            rest = &rest[8..];
+            self.list_key(lists, *at, rest, comes);
+        }
+    }
+}
