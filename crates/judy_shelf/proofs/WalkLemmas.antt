@@ -1,13 +1,13 @@
 -- The entries of a map of strings, one after another by `first` and `next`, and lists whose items are written in turn.
-use Rattle.std.proofs.Common.{◌≡◌, ℕ, zero, suc, ◌-◌, ◌<◌, List, [], ◌∷◌, ◌++◌, length, take, drop, filter, slice_get, Option, Some, None, option_map, unwrap_or, refl, sym, ap}
-use Rattle.std.proofs.Common.{subst, ◌∙◌, append_assoc, append-nil, arith}
+use Rattle.std.proofs.Common.{◌≡◌, ℕ, zero, suc, ◌-◌, ◌<◌, ◌≤◌, List, [], ◌∷◌, ◌++◌, length, take, drop, filter, slice_get, Option, Some, None, option_map, unwrap_or, refl, sym, ap}
+use Rattle.std.proofs.Common.{Result, Ok, Err, subst, ◌∙◌, append_assoc, append-nil, arith}
 use Rattle.std.specs.List.{flat_map}
 use Rattle.std.specs.Cmp.{IsTotalOrder, tied_itself}
 use Rattle.std.specs.Cmp.Lexicographic.{nat_list_cmp_total}
 use Rattle.std.specs.declared.cmp.Ordering.{Ordering}
 use Rattle.std.specs.Ordering.{is_lt}
 use Rattle.std.specs.FinMap.{FinMap, keys, entries, entries_sorted, get, get-entries}
-use Rattle.std.proofs.lemmas.List.{take-append-drop}
+use Rattle.std.proofs.lemmas.List.{take_at, take-append-drop, length-take-le}
 use Rattle.std.proofs.lemmas.Grind.{flat_map-append}
 use Rattle.std.proofs.lemmas.Option.{slice_get-map, slice_get_within, get_or_from_slice_get}
 use Rattle.judy_model.specs.Keys.{byte_order}
@@ -18,8 +18,9 @@ use Rattle.std.proofs.lemmas.Option.{same_Some}
 use Rattle.judy_sl.specs.Scans.{value_found}
 use Rattle.judy_model.proofs.lemmas.maps.Pairs.{find-at}
 use Rattle.judy_pipe.specs.Pipe.{grown}
-use Rattle.judy_shelf.specs.Writes.{Sunk, WroteAll, WroteFront}
-use Rattle.judy_shelf.proofs.WriteLemmas.{wrote_both, wrote_second, wrote_first, grown_nothing}
+use Rattle.judy_pipe.specs.declared.stop.PipeFailed.{PipeFailed}
+use Rattle.judy_shelf.specs.Writes.{Sunk, WroteAll, WroteFront, Wrote}
+use Rattle.judy_shelf.proofs.WriteLemmas.{wrote_both, wrote_second, wrote_first, wrote_then, grown_nothing}
 
 -- ---- the entries of a map in turn
 
@@ -143,21 +144,32 @@ module _ {A : Type 0} (text : A → List ℕ) where
     pub written_all : (place : ℕ) (now : Sunk) → Written place now → slice_get items place ≡ None → WroteAll (flat_map text items) before now
     written_all place now written at = (written.0 ∙ ap (λ xs. grown before.taken (flat_map text xs)) (take_none text items place at), written.1)
 
--- ---- items that an iterator gives
+-- ---- entries that are written page by page
 
-module _ {A : Type 0} (text : A → List ℕ) (before : Sunk) where
-  pub wrote_nothing : WroteAll [] before before
-  wrote_nothing = (sym (grown_nothing before.taken), refl)
+module _ {E : Type 0} (line : E → List ℕ) (all : List ℕ) (before : Sunk) where
+  -- Whatever comes of the writing of some entries, comes of the writing of the whole.
+  abbrev pub IsRest : Sunk → List E → Type 0
+  IsRest now entries = (result : Result (Unit {0}) PipeFailed) (after : Sunk) → Wrote (flat_map line entries) now result after → Wrote all before result after
 
-  -- One item more is written.
-  pub wrote_more : (done : List A) (item : A) (mid after : Sunk) → WroteAll (flat_map text done) before mid → WroteAll (text item) mid after → WroteAll (flat_map text (done ++ item ∷ [])) before after
-  wrote_more done item mid after written wrote =
-      subst (λ t. WroteAll t before after) (sym (flat_map-append text done (item ∷ []) ∙ ap (λ t. flat_map text done ++ t) (append-nil (text item))))
-      (wrote_both (flat_map text done) (text item) before mid after written wrote)
+  page_and_others : (told : ℕ) (entries : List E) → flat_map line (take told entries) ++ flat_map line (drop told entries) ≡ flat_map line entries
+  page_and_others told entries = sym (flat_map-append line (take told entries) (drop told entries)) ∙ ap (flat_map line) (take-append-drop told entries)
 
-  -- A front of the next item is one of all items.
-  pub wrote_part : (done rest : List A) (item : A) (mid after : Sunk) → WroteAll (flat_map text done) before mid → WroteFront (text item) mid after →
-      WroteFront (flat_map text (done ++ item ∷ rest)) before after
-  wrote_part done rest item mid after written wrote =
-      let here = wrote_first (flat_map text done ++ text item) (flat_map text rest) before after (wrote_second (flat_map text done) (text item) before mid after written wrote) in
-      subst (λ t. WroteFront t before after) (append_assoc (flat_map text done) (text item) (flat_map text rest) ∙ sym (flat_map-append text done (item ∷ rest))) here
+  -- A page of which a front was written ends it.
+  pub page_failed : (fault : PipeFailed) (told : ℕ) (entries : List E) (now after : Sunk) → IsRest now entries → WroteFront (flat_map line (take told entries)) now after → WroteFront all before after
+  page_failed fault told entries now after is_rest front =
+      is_rest (Err fault) after
+      (subst (λ text. WroteFront text now after) (page_and_others told entries) (wrote_first (flat_map line (take told entries)) (flat_map line (drop told entries)) now after front))
+
+  -- Behind a page that was written whole the others are the rest.
+  pub page_passed : (told : ℕ) (entries : List E) (now mid : Sunk) → IsRest now entries → WroteAll (flat_map line (take told entries)) now mid → IsRest mid (drop told entries)
+  page_passed told entries now mid is_rest page result after others =
+      is_rest result after
+      (subst (λ text. Wrote text now result after) (page_and_others told entries) (wrote_then (flat_map line (take told entries)) (flat_map line (drop told entries)) now mid after result page others))
+
+  -- Behind the last page all is written.
+  pub pages_ended : (now : Sunk) → IsRest now [] → WroteAll all before now
+  pages_ended now is_rest = is_rest (Ok tt) now (sym (grown_nothing now.taken), refl)
+
+-- The front of a page that was filled from entries.
+pub page_filled : {E : Type 0} (told : ℕ) (some page behind : List E) → told ≤ length some → page ≡ take told some ++ behind → take told page ≡ take told some
+page_filled told some page behind within is = ap (take told) is ∙ take_at (take told some) behind told (length-take-le told some within)

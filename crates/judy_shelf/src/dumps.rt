@@ -15,6 +15,7 @@ use crate::array::Array;
 use crate::fault::DumpFault;
 use crate::keys::LastKey;
 use crate::name::Name;
+use crate::page::{PAGE, put_page};
 use crate::shelf::Shelf;
 use crate::sorted::{SortedKeys, list_count, sorted_lists};
 use crate::version::Version;
@@ -113,30 +114,40 @@ fn write_array<W: Sink>(
     }
 }
 
-// Writes the keys of a set.
+// Writes the keys of a set, a page at a time.
 fn write_set<W: Sink>(set: &Judy1, sink: &mut W) -> Result<(), PipeFailed>
     requires { (W.tally sink.old).failures < 2 ^ 64 - 1 }
     ensures { Wrote (text.contents jdy1 (judy1 (array_of set.now)))
         (sunk (W.taken sink.old) (W.tally sink.old).failures) result
         (sunk (W.taken sink.new) (W.tally sink.new).failures) }
 {
-    'keys: for key in set {
-        put_word(sink, key)?;
+    let mut keys = set.iter();
+    let mut page = [0; PAGE];
+    'pages: loop {
+        let told = keys.fill(&mut page);
+        put_page(sink, &page[..told])?;
+        if told < PAGE {
+            return Ok(());
+        }
     }
-    Ok(())
 }
 
-// Writes the keys of a map, and the value of each behind it.
+// Writes the keys of a map, and the value of each behind it, a page at a time.
 fn write_words<W: Sink>(words: &JudyL, sink: &mut W) -> Result<(), PipeFailed>
     requires { (W.tally sink.old).failures < 2 ^ 64 - 1 }
     ensures { Wrote (text.contents jdy1 (judyl (array_of words.now)))
         (sunk (W.taken sink.old) (W.tally sink.old).failures) result
         (sunk (W.taken sink.new) (W.tally sink.new).failures) }
 {
-    'entries: for (key, value) in words {
-        put_entry(sink, key, value)?;
+    let mut entries = words.iter();
+    let mut page = [(0, 0); PAGE];
+    'pages: loop {
+        let told = entries.fill(&mut page);
+        put_page(sink, &page[..told])?;
+        if told < PAGE {
+            return Ok(());
+        }
     }
-    Ok(())
 }
 
 // Writes the keys of an array of strings, each by the one before, and the value of each behind it.
@@ -160,15 +171,4 @@ fn write_strings<W: Sink>(
         next = cursor.next();
     }
     Ok(())
-}
-
-// Writes a key and its value.
-fn put_entry<W: Sink>(sink: &mut W, key: u64, value: u64) -> Result<(), PipeFailed>
-    requires { (W.tally sink.old).failures < 2 ^ 64 - 1 }
-    ensures { Wrote (text.word key ++ text.word value)
-        (sunk (W.taken sink.old) (W.tally sink.old).failures) result
-        (sunk (W.taken sink.new) (W.tally sink.new).failures) }
-{
-    put_word(sink, key)?;
-    put_word(sink, value)
 }

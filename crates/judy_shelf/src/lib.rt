@@ -6,9 +6,9 @@
 //! array of one of the kinds (kind.rt), name.rt the names, and error.rt why an array isn't made.
 //!
 //! [`dump`] and [`dump2`] write a shelf to a sink and [`load`] reads one from a source, both of judy_pipe, in the two
-//! formats that docs/use/formats.md tells (version.rt). dumps.rt, write.rt and sorted.rt write it; loads.rt, head.rt,
-//! keys.rt, fronts.rt and fields.rt read it, and one.rt the dump of one array alone; fault.rt tells why either fails.
-//! The parts of a dump's text are public: judy_saved writes them for an array that stands on no shelf.
+//! formats that docs/use/formats.md tells (version.rt). dumps.rt, write.rt, page.rt and sorted.rt write it; loads.rt,
+//! head.rt, keys.rt, fronts.rt and fields.rt read it, and one.rt the dump of one array alone; fault.rt tells why either
+//! fails. The parts of a dump's text are public: judy_saved writes them for an array that stands on no shelf.
 #![tactic(auto)]
 
 mod array;
@@ -23,6 +23,7 @@ mod kind;
 mod loads;
 mod name;
 mod one;
+mod page;
 mod shelf;
 mod sorted;
 mod version;

@@ -111,7 +111,7 @@ fn len_bytes(len: usize) -> [u8; 2]
 }
 
 // The bytes of a word.
-fn word_bytes(word: u64) -> [u8; 8]
+pub(crate) fn word_bytes(word: u64) -> [u8; 8]
     ensures { result ≡ text.word word }
 {
     let mut bytes = [0; 8];
