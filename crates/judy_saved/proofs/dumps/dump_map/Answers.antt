@@ -12,9 +12,7 @@ returns-then-size-room c =
     let version = format_of c.args.version in
     let m = c.args.words.now.map in
     let over = c.if-size-room.true in
-    let within = c.if-count-gt-MAX_LIMIT.false in
-    let count = c.len-count.ensures.count in
-    let few : len m ≤ most = omega (arith, within, count) in
+    let few : len m ≤ most = omega arith in
     let is = size_alone version c.args.name.now (judyl (record { limit = most; map = m })) refl c.len-count.result c.len-count.ensures.count _ _ c.put_head-head.result _ c.put_head-head.ensures.adds
     (size_of_map version m c.len-count.result c.len-count.ensures.count) in
     (few, refl, not_saved (map_text version c.args.name.now m) c.args.room.now _ is over)
@@ -24,9 +22,7 @@ returns c =
     let version = format_of c.args.version in
     let m = c.args.words.now.map in
     let fits = c.if-size-room.false in
-    let within = c.if-count-gt-MAX_LIMIT.false in
-    let count = c.len-count.ensures.count in
-    let few : len m ≤ most = omega (arith, within, count) in
+    let few : len m ≤ most = omega arith in
     let is = size_alone version c.args.name.now (judyl (record { limit = most; map = m })) refl c.len-count.result c.len-count.ensures.count _ _ c.put_head-head.result _ c.put_head-head.ensures.adds
     (size_of_map version m c.len-count.result c.len-count.ensures.count) in
     (few, refl, saved (map_text version c.args.name.now m) c.args.room.now _ c.write_map.result _ is fits c.write_map.ensures)

@@ -10,9 +10,7 @@ returns-then-size-room-clause-dumped c =
     let m = c.args.strings.now.map in
     let text = strings_text (format_of c.args.version) c.args.name.now m in
     let stands = from_front text _ _ _ c.write_strings-size.ensures in
-    let within = c.if-len-gt-MAX_LIMIT.false in
-    let count = c.len.ensures.count in
-    let few : len m ≤ most = omega (arith, within, count) in
+    let few : len m ≤ most = omega arith in
     (few, refl, not_saved text c.args.room.now _ stands.ends c.if-size-room.true)
 
 pub returns-clause-dumped : goal.returns-clause-dumped
@@ -20,7 +18,5 @@ returns-clause-dumped c =
     let m = c.args.strings.now.map in
     let text = strings_text (format_of c.args.version) c.args.name.now m in
     let stands = from_front text _ _ _ c.write_strings-size.ensures in
-    let within = c.if-len-gt-MAX_LIMIT.false in
-    let count = c.len.ensures.count in
-    let few : len m ≤ most = omega (arith, within, count) in
+    let few : len m ≤ most = omega arith in
     (few, refl, saved_again text c.args.room.now _ _ _ stands.ends c.if-size-room.false c.write_strings.ensures)
