@@ -460,16 +460,15 @@ uint32_t sellumaq_judysl_from_sorted(sellumaq_judysl *map, const uint8_t *bytes,
 uint64_t sellumaq_judysl_len(const sellumaq_judysl *map);
 
 /* How many keys there are from one string to another, both included; 0 where the first is above the second, or where
- * a map can't hold one of the two. It takes at most two ways down the map, however many keys it counts. In the level
- * where these part, if that isn't the first, the entries between the two strings are read, or the others where they
- * are fewer. In each level below those on one side of the key's own are, on the side that has fewer. */
+ * a map can't hold one of the two. It takes at most two ways down the map, however many keys it counts. No entries
+ * of a wide level are read, unless memory for its list was refused. */
 uint64_t sellumaq_judysl_count(const sellumaq_judysl *map, const uint8_t *from, size_t from_length, const uint8_t *to,
     size_t to_length);
 
 /* The n-th key, counted from 1, told as those of the scans are: SELLUMAQ_FOUND, and the key is in the first
  * `*length` bytes of the buffer, whatever was there before. Else nothing is written: SELLUMAQ_NONE for 0 and above
- * the number of keys, SELLUMAQ_TOO_SMALL where it doesn't fit. It takes one way down the map; in each level but the
- * first the entries up to the key's own are read, from the end that is nearer by the keys between. */
+ * the number of keys, SELLUMAQ_TOO_SMALL where it doesn't fit. It takes one way down the map, and reads no entries
+ * of a wide level, unless memory for its list was refused. */
 uint32_t sellumaq_judysl_by_count(const sellumaq_judysl *map, uint64_t n, uint8_t *buffer, size_t capacity,
     size_t *length, uint64_t *value);
 

@@ -146,6 +146,8 @@ static int try_once(enum call call, const list old[2], const list made[2], uint6
     answered = -1;
     CHECK(of_set == SELLUMAQ_DONE || (of_set == SELLUMAQ_NO_MEMORY && calls >= 0));
     CHECK(of_map == SELLUMAQ_DONE || (of_map == SELLUMAQ_NO_MEMORY && calls >= 0));
+    CHECK(call != APPEND || of_set != SELLUMAQ_DONE || !sets[1].array);
+    CHECK(call != APPEND || of_map != SELLUMAQ_DONE || !maps[1].array);
     for (int at = 0; at < 2; at++) {
         compare_set(&sets[at], of_set == SELLUMAQ_DONE ? &made[at] : &old[at]);
         compare_map(&maps[at], of_map == SELLUMAQ_DONE && call < INSERT_RANGE ? &made[at] : &old[at]);
@@ -218,6 +220,18 @@ static void too_many(void) {
     sellumaq_judy1_free(&set);
 }
 
+/* No word is from one to another below it: a handle of zeros stays one, and no memory is asked for. */
+static void no_words(void) {
+    for (long calls = -1; calls < 1; calls++) {
+        sellumaq_judy1 set = { 0 };
+        answered = calls;
+        uint32_t put_in = sellumaq_judy1_insert_range(&set, 6, 5), turned = sellumaq_judy1_flip(&set, UINT64_MAX, 0);
+        answered = -1;
+        CHECK(put_in == SELLUMAQ_DONE && turned == SELLUMAQ_DONE);
+        CHECK(!set.array && held == 0);
+    }
+}
+
 int main(void) {
     static list old[2];
     for (unsigned turn = 0; turn < 60; turn++) {
@@ -235,6 +249,7 @@ int main(void) {
         }
         try_lists(old, count, refuse);
     }
+    no_words();
     too_many();
     CHECK(held == 0);
     return 0;

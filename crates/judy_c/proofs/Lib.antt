@@ -21,5 +21,4 @@ pub mod FirstKeys
 pub mod SortedStrings
 pub mod CombinedAnswers
 pub mod SavedAnswers
-pub mod CombinedStringAnswers
 pub mod StringRanges

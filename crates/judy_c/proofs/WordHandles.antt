@@ -15,7 +15,8 @@ use Rattle.judy_model.proofs.lemmas.maps.SortedMaps.{remove_absent}
 use Rattle.judy_word.specs.WordArrays as words
 use Rattle.judy_word.specs.WordArrays.{WordArray}
 use Rattle.judy_sets.proofs.RangeFacts.{NoneInside, count-within, within-none, within-most, outside-all}
-use Rattle.judy_c.specs.Maps.{array_of}
+use Rattle.judy_c.specs.declared.held.Held.{Held}
+use Rattle.judy_c.specs.Maps.{array_of, array_held, map_held}
 use Rattle.judy_c.specs.NullArrays.{unbounded}
 
 -- a null handle's array is without keys
@@ -112,3 +113,9 @@ nothing_many a is =
 pub of_null : (change : map.FinMap word_order ℕ → map.FinMap word_order ℕ) (a b made : WordArray) → a ≡ unbounded → b ≡ unbounded
     → words.array_of made ≡ array.with_map (words.array_of a) (change a.map) → words.array_of made ≡ array.with_map (words.array_of b) (change b.map)
 of_null change a b made one other is = subst (λ (w : WordArray). words.array_of made ≡ array.with_map (words.array_of w) (change w.map)) (one ∙ sym other) is
+
+-- What a change makes of the array that a handle lent it makes of what the handle holds.
+pub changed_held : (change : map.FinMap word_order ℕ → map.FinMap word_order ℕ) (before after : Held WordArray) (lent made : WordArray) → after ≡ record before { array = Some made }
+    → Some lent ≡ before.array → words.array_of made ≡ array.with_map (words.array_of lent) (change lent.map) → array_held after ≡ array.with_map (array_held before) (change (map_held before))
+changed_held change before after lent made kept held is =
+    ap array_held kept ∙ subst (λ (o : Option WordArray). words.array_of made ≡ array.with_map (words.array_of (array_of o)) (change (array_of o).map)) held is

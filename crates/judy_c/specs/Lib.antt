@@ -25,4 +25,3 @@ pub mod Looks
 pub mod SortedStrings
 pub mod Combined
 pub mod Saved
-pub mod CombinedStrings

@@ -1,6 +1,7 @@
 -- The array that a handle stands for.
 use Rattle.std.specs.Prelude.{ℕ, Option, Some, None, unwrap_or}
 use Rattle.std.specs.FinMap.{FinMap, get}
+use Rattle.judy_c.specs.declared.held.Held.{Held}
 use Rattle.judy_c.specs.declared.map.Map.{Map}
 use Rattle.judy_c.specs.declared.set.Set.{Set}
 use Rattle.judy_c.specs.NullArrays.{unbounded}
@@ -27,6 +28,13 @@ array_in_map handle = words.array_of (array_of handle.array)
 
 abbrev pub array_in_set : Set → ArrayOf word_order
 array_in_set handle = words.array_of (array_of handle.array)
+
+-- The same of what either holds.
+abbrev pub map_held : Held WordArray → FinMap word_order ℕ
+map_held held = (array_of held.array).map
+
+abbrev pub array_held : Held WordArray → ArrayOf word_order
+array_held held = words.array_of (array_of held.array)
 
 -- The value of the key that was found; none where none was.
 abbrev pub value_beside : FinMap word_order ℕ → Option ℕ → Option ℕ

@@ -13,8 +13,9 @@ ghost use Rattle.judy_c.specs.NullArrays.{unbounded, empty_keyed};
 
 use crate::answers::{InsertRefusal, Outcome};
 use judy_hs::{Eights, HsError, JudyHs};
+use judy_leaf::Words;
 use judy_sl::{JudySl, SlError};
-use judy_word::{Judy1, JudyL};
+use judy_word::WordArray;
 use std::alloc::Global;
 
 // How many keys an array of strings or of byte strings may hold: the most that it may be given as its limit.
@@ -69,19 +70,11 @@ pub(crate) trait KeyedArray: HeldArray {
     ghost emptied: { seen Self.without_keys ≡ empty_keyed };
 }
 
-impl HeldArray for Judy1 {
+impl<V: Words + Drop> HeldArray for WordArray<V> {
     ghost without_keys = { unbounded };
 
-    fn empty(alloc: Global) -> Judy1 {
-        Judy1::unbounded(alloc)
-    }
-}
-
-impl HeldArray for JudyL {
-    ghost without_keys = { unbounded };
-
-    fn empty(alloc: Global) -> JudyL {
-        JudyL::unbounded(alloc)
+    fn empty(alloc: Global) -> WordArray<V> {
+        WordArray::unbounded(alloc)
     }
 }
 

@@ -19,17 +19,18 @@
 //! key_updates.rt those that tell the value that was there, walks.rt and key_walks.rt those that tell many keys at a
 //! time, looks.rt those that look many up, two_words.rt those on two arrays of words, made_of_two.rt those that make an
 //! array of two, word_ranges.rt those on ranges of words and copies, word_parts.rt those that move a part or fill a
-//! range, string_sets.rt and made_of_strings.rt all that of strings, and string_prefixes.rt the longest key that begins
-//! some bytes, sorted.rt and sorted_strings.rt those that make an array at once, saved.rt those that dump and load one,
-//! told.rt how a call answers a word or a slot that may not be there, answers.rt how one answers by a number, scans.rt
-//! the scans over strings, string_counts.rt their counts, and box_parts.rt a box as its pointer. The crate is a static
-//! library, and no other stands on it.
+//! range, string_sets.rt and made_of_strings.rt all that of strings, with combined.rt and ranges.rt for what they have
+//! alike, and string_prefixes.rt the longest key that begins some bytes, sorted.rt and sorted_strings.rt those that
+//! make an array at once, saved.rt those that dump and load one, told.rt how a call answers a word or a slot that may
+//! not be there, answers.rt how one answers by a number, scans.rt the scans over strings, string_counts.rt their
+//! counts, and box_parts.rt a box as its pointer. The crate is a static library, and no other stands on it.
 #![tactic(auto)]
 
 mod answers;
 mod arrays;
 mod box_parts;
 mod bytes;
+mod combined;
 mod entries;
 mod exchanges;
 mod handles;
@@ -45,6 +46,7 @@ mod made_of_strings;
 mod made_of_two;
 mod map;
 mod nearest_slots;
+mod ranges;
 mod saved;
 mod scans;
 mod set;

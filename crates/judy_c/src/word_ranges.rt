@@ -1,21 +1,19 @@
 //! The calls of C on ranges of keys, and those that copy an array of words.
 
-ghost use Rattle.std.specs.Prelude.{◌≡◌, min, IfOk};
+ghost use Rattle.std.specs.Prelude.{◌≡◌, min};
 ghost use Rattle.judy_model.specs.Arrays as array;
 ghost use Rattle.judy_model.specs.Counts as counts;
 ghost use Rattle.judy_model.specs.Ranges as ranges;
-ghost use Rattle.judy_word.specs.WordArrays.{array_of};
 ghost use Rattle.judy_c.specs.Combined.{IsDone};
 ghost use Rattle.judy_c.specs.Maps.{array_in_map, array_in_set, map_of, set_of};
 
-use crate::answers::NO_MEMORY;
-use crate::handles::{Handle, asked};
-use crate::made_of_two::{hand_map, hand_set};
+use crate::combined::copy;
+use crate::handles::Handle;
 use crate::map::Map;
+use crate::ranges::remove_range;
 use crate::set::Set;
-use judy_sets::{count_empty, remove_range};
-use judy_word::{Judy1, JudyL};
-use std::alloc::{AllocError, Global};
+use judy_sets::count_empty;
+use std::alloc::Global;
 
 /// Takes the keys from one word to another out of a set, both included, and answers how many they were: none where the
 /// first is above the second. It can't fail.
@@ -31,10 +29,7 @@ pub extern "C" fn sellumaq_judy1_remove_range(
         ≡ array.with_map (array_in_set handle.old)
         (ranges.outside (set_of handle.old) from to) }
 {
-    match handle.array() {
-        Some(array) => remove_range(alloc, array, from, to),
-        None => 0,
-    }
+    remove_range(alloc, handle, from, to)
 }
 
 /// How many words from one to another, both included, are no keys of a set: none where the first is above the second.
@@ -52,14 +47,6 @@ pub extern "C" fn sellumaq_judy1_count_empty(
     handle.ask(alloc, |array| count_empty(array, from, to))
 }
 
-// A copy of the set of a handle.
-fn copy_of_set(alloc: Global, handle: &mut Set) -> Result<Judy1, AllocError>
-    ensures copied { IfOk result (λ copy. array_of copy ≡ array_in_set handle.old) }
-    ensures stays { handle.new ≡ handle.old }
-{
-    asked!(handle, alloc, Judy1, array => array.try_clone())
-}
-
 /// Makes a set a copy of another, in place of what it held, with nodes as small as its keys allow: 1. Else it is as
 /// it was, where there is no memory: 2. The two handles are two.
 #[unsafe(no_mangle)]
@@ -68,10 +55,7 @@ pub extern "C" fn sellumaq_judy1_copy(alloc: Global, made: &mut Set, handle: &mu
         (made.new ≡ made.old) result }
     ensures stays { handle.new ≡ handle.old }
 {
-    match copy_of_set(alloc, handle) {
-        Ok(copy) => hand_set(alloc, made, Ok(copy)),
-        Err(_) => NO_MEMORY,
-    }
+    copy(alloc, made, handle)
 }
 
 /// Takes the keys from one word to another out of a map, both included, and answers how many they were: none where the
@@ -88,10 +72,7 @@ pub extern "C" fn sellumaq_judyl_remove_range(
         ≡ array.with_map (array_in_map handle.old)
         (ranges.outside (map_of handle.old) from to) }
 {
-    match handle.array() {
-        Some(array) => remove_range(alloc, array, from, to),
-        None => 0,
-    }
+    remove_range(alloc, handle, from, to)
 }
 
 /// How many words from one to another, both included, are no keys of a map: none where the first is above the second.
@@ -109,14 +90,6 @@ pub extern "C" fn sellumaq_judyl_count_empty(
     handle.ask(alloc, |array| count_empty(array, from, to))
 }
 
-// A copy of the map of a handle.
-fn copy_of_map(alloc: Global, handle: &mut Map) -> Result<JudyL, AllocError>
-    ensures copied { IfOk result (λ copy. array_of copy ≡ array_in_map handle.old) }
-    ensures stays { handle.new ≡ handle.old }
-{
-    asked!(handle, alloc, JudyL, array => array.try_clone())
-}
-
 /// Makes a map a copy of another, in place of what it held, with nodes as small as its keys allow: 1. Else it is as
 /// it was, where there is no memory: 2. The two handles are two.
 #[unsafe(no_mangle)]
@@ -125,8 +98,5 @@ pub extern "C" fn sellumaq_judyl_copy(alloc: Global, made: &mut Map, handle: &mu
         (made.new ≡ made.old) result }
     ensures stays { handle.new ≡ handle.old }
 {
-    match copy_of_map(alloc, handle) {
-        Ok(copy) => hand_map(alloc, made, Ok(copy)),
-        Err(_) => NO_MEMORY,
-    }
+    copy(alloc, made, handle)
 }

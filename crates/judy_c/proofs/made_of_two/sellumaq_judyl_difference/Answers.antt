@@ -1,5 +1,0 @@
-use Rattle.judy_c.proofs.CombinedAnswers.{combined}
-use Rattle.judy_c.proofs.made_of_two.sellumaq_judyl_difference.Goals as goal
-
-pub returns-clause-answer : goal.returns-clause-answer
-returns-clause-answer c = combined _ _ _ _ _ c.difference_of_maps-array.ensures.made c.hand_map.ensures
