@@ -111,6 +111,23 @@ CHOSEN_GOAL = 4.0
 # Python.
 RUST_GOAL = 10.0
 RUST_WALKS = ("iterate", "iterate-back", "iter_mut")
+# What is told of Rust's calls on many keys.
+RUST_WHOLES = {
+    "iterate": "`iter`",
+    "iterate-back": "`iter().rev()`",
+    "values": "`values`",
+    "iter_mut": "`iter_mut`",
+    "into_iter": "`into_iter`",
+    "range": "`range`, five keys",
+    "collect": "`collect`",
+    "extend": "`extend` of an empty one",
+    "clone": "`clone`",
+    "append": "`append`",
+    "retain": "`retain`, two of three stay",
+    "retain-few": "`retain`, few stay",
+    "pop_first": "`pop_first`",
+    "pop_last": "`pop_last`",
+}
 PYTHON_GOAL = 1.0
 PYTHON_WALKS = dict.fromkeys(("walk", "items", "values", "back", "slice", "slice-back"), 2.0)
 # The tables in which each figure of ours has one of libJudy's beside it.
@@ -499,6 +516,23 @@ def rust(told):
                 array, call, *(rust_cell(table, told[array, keys], pattern, call, goal) for keys, pattern in of_array)
             )
     return "\n\n".join(table.text() for table in tables.values())
+
+
+def beside_std(told):
+    """Of calls of the Rust crate on all keys the least and the greatest ratio to std's over the patterns."""
+    names = (KINDS[array].partition(",")[0].replace("SL", "Sl").replace("HS", "Hs") for array, _ in told)
+    table = Table("call", *names)
+    measured = {call for each in told.values() for call in each.calls()}
+    for call in filter(measured.__contains__, RUST_WHOLES):
+        found = ([each.ratio("sellumaq", it, call, "std") for it in each.patterns()] for each in told.values())
+        table.row(RUST_WHOLES[call], *(span_of(list(filter(None, ratios))) for ratios in found))
+    return table.plain()
+
+
+def span_of(ratios):
+    """The least and the greatest of some ratios."""
+    least, most = (f"{end:.{int(end < 10)}f}" for end in (min(ratios), max(ratios))) if ratios else ("", "")
+    return f"{least} to {most}" if least != most else least
 
 
 def rust_cell(table, each, pattern, call, goal):

@@ -1,6 +1,6 @@
-/* A walk through strings in order. Upward it takes many pairs at a time, and the next ones anew where the map has
- * changed since; its first step, and each one down, is a search beside the key given last. So each key that comes is
- * one that stands in the map then. */
+/* A walk through strings in order. It takes many pairs at a time, downward those of some places, and the next ones
+ * anew where the map has changed since; its first step, and one down after a change, is a search beside the key given
+ * last. So each key that comes is one that stands in the map then. */
 #include <string.h>
 
 #include "strings.h"
@@ -14,8 +14,10 @@ typedef struct {
     uint64_t seen; /* how many changes there were then */
     size_t most;   /* how many were asked for */
     size_t count;
-    size_t given; /* how many of these were given, */
-    size_t end;   /* whose keys have so many bytes */
+    size_t given; /* how many of these were given, from the end at which the walk begins, */
+    size_t end;   /* and where the bytes of the last one end, or, downward, begin */
+    uint64_t below; /* downward: how many keys lie below these, where it was told, */
+    size_t fit;     /* and how many pairs had a place where more were asked for */
     sellumaq_entry entries[PAIRS];
     uint8_t bytes[ROOM];
 } Page;
@@ -116,6 +118,8 @@ static bool make_page(Cursor *self)
         page->seen = *self->changes;
         page->most = 1;
         page->count = page->given = page->end = 0;
+        page->below = UINT64_MAX;
+        page->fit = PAIRS;
         self->page = page;
     }
     return page != NULL;
@@ -127,8 +131,9 @@ static void keep_last(Cursor *self)
     const Page *page = self->page;
     if (page->given == 0)
         return;
-    self->length = page->entries[page->given - 1].length;
-    memcpy(self->key, page->bytes + page->end - self->length, self->length);
+    size_t place = self->reverse ? page->count - page->given : page->given - 1;
+    self->length = page->entries[place].length;
+    memcpy(self->key, page->bytes + page->end - (self->reverse ? 0 : self->length), self->length);
 }
 
 /* Takes the pairs behind the key given last; false where there are none. */
@@ -145,6 +150,62 @@ static bool fill(Cursor *self)
     return page->count > 0;
 }
 
+/* Takes the `count` pairs below so many keys, or fewer where their keys don't fit. One key always does. */
+static void take_below(Cursor *self, uint64_t below, size_t count)
+{
+    Page *page = self->page;
+    const sellumaq_judysl *map = &self->map->handle.strings;
+    page->count = count;
+    do {
+        uint64_t value;
+        count = page->count;
+        self->length = 0;
+        sellumaq_judysl_by_count(map, below - count + 1, self->key, sizeof self->key, &self->length, &value);
+        page->count = sellumaq_judysl_walk(map, self->key, self->length, true, page->bytes, ROOM, page->entries, count);
+        if (page->count < count)
+            page->fit = page->count;
+    } while (page->count < count);
+    page->below = below - count;
+    page->given = page->end = 0;
+    for (size_t n = 0; n < count; n++)
+        page->end += page->entries[n].length;
+}
+
+/* How many keys lie below the one given last, which may be gone. */
+static uint64_t count_below(const Cursor *self)
+{
+    const sellumaq_judysl *map = &self->map->handle.strings;
+    uint64_t value;
+    return sellumaq_judysl_count(map, (const uint8_t *)"", 0, self->key, self->length) -
+           sellumaq_judysl_get(map, self->key, self->length, &value);
+}
+
+/* Takes the pairs below the key given last; false where there are none. */
+static bool fill_back(Cursor *self)
+{
+    Page *page = self->page;
+    size_t more = page->most * GROWTH;
+    if (page->below == UINT64_MAX)
+        page->below = count_below(self);
+    page->most = more < page->fit ? more : page->fit;
+    if (page->below == 0)
+        return false;
+    take_below(self, page->below, page->below < page->most ? (size_t)page->below : page->most);
+    return true;
+}
+
+/* Finds the next pair on the page, downward. */
+static bool turn_back(Cursor *self, Pair *pair)
+{
+    Page *page = self->page;
+    if (page->given == page->count && !fill_back(self))
+        return false;
+    const sellumaq_entry *entry = &page->entries[page->count - ++page->given];
+    page->end -= entry->length;
+    *pair = (Pair){page->bytes + page->end, entry->length, entry->value};
+    return true;
+}
+
 /* Finds the next pair on the page. */
 static bool turn(Cursor *self, Pair *pair)
 {
@@ -157,10 +218,25 @@ static bool turn(Cursor *self, Pair *pair)
     return true;
 }
 
+/* Forgets the page, and goes on by a search. */
+static bool search_anew(Cursor *self, Pair *pair)
+{
+    Page *page = self->page;
+    keep_last(self);
+    page->seen = *self->changes;
+    page->most = 1;
+    page->count = page->given = page->end = 0;
+    page->below = UINT64_MAX;
+    return search(self, pair);
+}
+
 static bool find_next(Cursor *self, Pair *pair)
 {
-    bool by_pages = !self->reverse && self->begun && (self->page || make_page(self));
-    return by_pages ? turn(self, pair) : search(self, pair);
+    if (!self->begun || !(self->page || make_page(self)))
+        return search(self, pair);
+    if (!self->reverse)
+        return turn(self, pair);
+    return self->page->seen != *self->changes ? search_anew(self, pair) : turn_back(self, pair);
 }
 
 static bool is_beyond_end(const Cursor *self, const Pair *pair)

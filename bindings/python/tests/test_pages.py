@@ -1,6 +1,7 @@
 """Walks through strings in order, which take many keys a call, beside a sorted list of the same keys."""
 
 import bisect
+import operator
 import random
 import unittest
 
@@ -69,14 +70,21 @@ class Walks(unittest.TestCase):
 class Changed(unittest.TestCase):
     """Each step of a walk finds the next key that the array has then, with the value that it has then."""
 
-    def beside_a_list(self, kind, seed, high):
+    def beside_a_list(self, kind, seed, end, reverse):
         (key, order), chance = KINDS[kind], random.Random(seed)
         array, pairs = filled(kind, 600, seed)
-        there, last = dict(pairs), None
-        walk = array.items() if high is None else ((each, array[each]) for each in array.irange(None, high))
+        there, last, is_behind = dict(pairs), None, operator.lt if reverse else operator.gt
+        bounds = (end, None) if reverse else (None, end)
+        walk = ((each, array[each]) for each in array.irange(*bounds, reverse=reverse))
+        if end is None:
+            walk = reversed(array.items()) if reverse else array.items()
+
+        def left():
+            behind = [each for each in there if last is None or is_behind(order(each), order(last))]
+            return [each for each in behind if end is None or not is_behind(order(each), order(end))]
+
         for at, found in enumerate(walk):
-            left = [each for each in there if (last is None or order(each) > order(last)) and (high is None or order(each) <= order(high))]
-            last = min(left, key=order)
+            last = (max if reverse else min)(left(), key=order)
             self.assertEqual(found, (last, there[last]))
             for _ in range(chance.choice([0, 0, 0, 0, 1, 3]) if at < 900 else 0):
                 other = chance.choice([key(chance), last, chance.choice([*there, last])])
@@ -84,13 +92,23 @@ class Changed(unittest.TestCase):
                     del array[other], there[other]
                 else:
                     array[other] = there[other] = chance.getrandbits(64)
-        self.assertFalse([each for each in there if order(each) > order(last) and (high is None or order(each) <= order(high))])
+        self.assertFalse(left())
 
     def test_keys_come_and_go_between_two_steps(self):
         for kind, (key, _) in KINDS.items():
             for seed in range(3):
-                self.beside_a_list(kind, seed, None)
-                self.beside_a_list(kind, seed, key(random.Random(seed)))
+                for reverse in (False, True):
+                    self.beside_a_list(kind, seed, None, reverse)
+                    self.beside_a_list(kind, seed, key(random.Random(seed)), reverse)
+
+    def test_each_key_goes_when_it_was_given(self):
+        for kind in KINDS:
+            array, pairs = filled(kind, 400, 7)
+            for reverse, ends in ((False, pairs[:150]), (True, pairs[:149:-1])):
+                walk = reversed(array) if reverse else iter(array)
+                for key, value in ends:
+                    self.assertEqual((next(walk), array.pop(key)), (key, value))
+            self.assertEqual((len(array), next(walk, None)), (0, None))
 
     def test_a_key_comes_behind_the_last_one_of_a_range(self):
         for count in (1, 2, 9, 10, 73, 330):
@@ -109,6 +127,10 @@ class Changed(unittest.TestCase):
             self.assertEqual(value, at if at == 0 else at + 1000)
             for each in range(at + 1, min(at + 3, 400)):
                 array["a%04d" % each] = each + 1000
+        for at, value in enumerate(reversed(array.values())):
+            self.assertEqual(value, 1399 if at == 0 else 2399 - at)
+            for each in range(max(397 - at, 0), 399 - at):
+                array["a%04d" % each] = each + 2000
 
 
 if __name__ == "__main__":

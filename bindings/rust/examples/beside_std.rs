@@ -1,6 +1,6 @@
-//! Measures the arrays beside std's sets and maps: `cargo run --release --example beside_std`. It prints a line for each figure, as
-//! the measuring programs in C do: ARRAY LIBRARY PATTERN KEYS CALL NUMBER, the number being nanoseconds of processor time a key, the
-//! least of 15 turns. `by-calls` is a walk by the call of C that each step of an iterator makes, without the iterator.
+//! Measures the arrays beside std's sets and maps: `cargo run --release --example beside_std [KEYS ..]`. It prints a line for each figure,
+//! as the measuring programs in C do: ARRAY LIBRARY PATTERN KEYS CALL NUMBER, the number being nanoseconds of processor time a key, the
+//! least of 15 turns, or of three at a million keys. `by-calls` is a walk by the call of C that each step of an iterator makes, without the iterator.
 // One text measures std's types too, which want keys lent; and it may ask for a newer Rust than the crate.
 #![allow(
     clippy::needless_borrows_for_generic_args,
@@ -9,6 +9,7 @@
 )]
 use sellumaq::{Judy1, JudyHs, JudyL, JudySl};
 use std::collections::{BTreeMap, BTreeSet, HashMap};
+use std::ops::Bound;
 use std::os::raw::c_long;
 use std::ptr::read_volatile;
 
@@ -46,7 +47,8 @@ fn nanoseconds<T>(keys: usize, before: impl Fn() -> T, act: impl Fn(T)) -> f64 {
         act(made);
         (microseconds() - begin) * 1e3 / keys as f64
     };
-    (0..15).map(|_| turn()).fold(f64::INFINITY, f64::min)
+    let turns = if keys < 1_000_000 { 15 } else { 3 };
+    (0..turns).map(|_| turn()).fold(f64::INFINITY, f64::min)
 }
 
 /// Which keys are measured: their pattern, and how many there are.
@@ -154,17 +156,19 @@ fn measure(pattern: &str, keys: &[u64]) {
     );
     let by_calls = nanoseconds(count, || (), |()| walk_by_the_call(&map));
     tell("judyl", "by-calls", told, "iterate", by_calls);
-    measure_wholes(told, (&set, &map), (&plain_set, &plain));
+    measure_wholes((told, keys), (&set, &map), (&plain_set, &plain));
 }
 
-/// The calls on all keys of an array. Of each three keys two are kept, and as many come to the others.
+/// The calls on all keys of an array. Of each three keys two are kept, or of 101 one, and as many come to the others.
 fn measure_wholes(
-    told: Keys,
+    (told, keys): (Keys, &[u64]),
     (set, map): (&Judy1, &JudyL),
     (plain_set, plain): (&BTreeSet<u64>, &BTreeMap<u64, u64>),
 ) {
     let others: JudyL = map.iter().map(|(key, value)| (key ^ 1, value)).collect();
     let plain_others: BTreeMap<u64, u64> = others.iter().collect();
+    let other_set: Judy1 = others.keys().collect();
+    let plain_other_set: BTreeSet<u64> = others.keys().collect();
     side_by_side!("judy1", "clone", told, || set, || plain_set, |it| drop(
         it.clone()
     ));
@@ -202,6 +206,87 @@ fn measure_wholes(
         || map.clone(),
         || plain.clone(),
         |it| while it.pop_first().is_some() {}
+    );
+    side_by_side!(
+        "judy1",
+        "collect",
+        told,
+        || |keys: &[u64]| keys.iter().copied().collect::<Judy1>(),
+        || |keys: &[u64]| keys.iter().copied().collect::<BTreeSet<u64>>(),
+        |it| drop(it(keys))
+    );
+    side_by_side!(
+        "judy1",
+        "into_iter",
+        told,
+        || set.clone(),
+        || plain_set.clone(),
+        |it| it.into_iter().for_each(|item| see(item))
+    );
+    side_by_side!("judy1", "range", told, || set, || plain_set, |it| keys
+        .iter()
+        .for_each(|key| it.range(key..).take(5).for_each(|item| see(item))));
+    side_by_side!(
+        "judy1",
+        "retain-few",
+        told,
+        || set.clone(),
+        || plain_set.clone(),
+        |it| it.retain(|key| key % 101 == 0)
+    );
+    side_by_side!(
+        "judy1",
+        "pop_last",
+        told,
+        || set.clone(),
+        || plain_set.clone(),
+        |it| while it.pop_last().is_some() {}
+    );
+    side_by_side!(
+        "judyl",
+        "collect",
+        told,
+        || |keys: &[u64]| keys.iter().map(|key| (*key, 1)).collect::<JudyL>(),
+        || |keys: &[u64]| keys
+            .iter()
+            .map(|key| (*key, 1))
+            .collect::<BTreeMap<u64, u64>>(),
+        |it| drop(it(keys))
+    );
+    side_by_side!(
+        "judyl",
+        "into_iter",
+        told,
+        || map.clone(),
+        || plain.clone(),
+        |it| it.into_iter().for_each(|item| see(item))
+    );
+    side_by_side!("judyl", "range", told, || map, || plain, |it| keys
+        .iter()
+        .for_each(|key| it.range(key..).take(5).for_each(|item| see(item))));
+    side_by_side!(
+        "judyl",
+        "retain-few",
+        told,
+        || map.clone(),
+        || plain.clone(),
+        |it| it.retain(|key, _| key % 101 == 0)
+    );
+    side_by_side!(
+        "judyl",
+        "pop_last",
+        told,
+        || map.clone(),
+        || plain.clone(),
+        |it| while it.pop_last().is_some() {}
+    );
+    side_by_side!(
+        "judy1",
+        "append",
+        told,
+        || (set.clone(), other_set.clone()),
+        || (plain_set.clone(), plain_other_set.clone()),
+        |it| it.0.append(&mut it.1)
     );
 }
 
@@ -267,7 +352,71 @@ fn measure_texts(pattern: &str, keys: &[Vec<u8>]) {
         || plain.clone(),
         |it| while it.pop_first().is_some() {}
     );
+    side_by_side!(
+        "judysl",
+        "pop_last",
+        told,
+        || map.clone(),
+        || plain.clone(),
+        |it| while it.pop_last().is_some() {}
+    );
+    side_by_side!(
+        "judysl",
+        "retain-few",
+        told,
+        || map.clone(),
+        || plain.clone(),
+        |it| it.retain(|key, _| key[key.len() - 1] % 32 == 0)
+    );
+    side_by_side!(
+        "judysl",
+        "into_iter",
+        told,
+        || map.clone(),
+        || plain.clone(),
+        |it| it.into_iter().for_each(|pair| see(pair.1))
+    );
+    side_by_side!("judysl", "values", told, || &map, || &plain, |it| it
+        .values()
+        .for_each(|value| see(value)));
+    side_by_side!("judysl", "extend", told, JudySl::new, BTreeMap::new, |it| {
+        it.extend(pairs())
+    });
+    measure_ranges(told, keys, &map, &plain);
+    measure_hashed(told, keys);
+}
+
+/// Five pairs from a key on.
+fn measure_ranges(told: Keys, keys: &[Vec<u8>], map: &JudySl, plain: &BTreeMap<Vec<u8>, u64>) {
+    let ours = |key: &[u8]| {
+        let range = map.range((Bound::Included(key), Bound::Unbounded));
+        range.take(5).for_each(|pair| see(pair.1));
+    };
+    let std = |key: &[u8]| {
+        let range = plain.range::<[u8], _>((Bound::Included(key), Bound::Unbounded));
+        range.take(5).for_each(|pair| see(pair.1));
+    };
+    side_by_side!("judysl", "range", told, || ours, || std, |it| keys
+        .iter()
+        .for_each(|key| it(key)));
+}
+
+fn measure_hashed(told: Keys, keys: &[Vec<u8>]) {
+    let pairs = || keys.iter().map(|key| (key.clone(), 1));
     let (hashed, plain): (JudyHs, HashMap<Vec<u8>, u64>) = (pairs().collect(), pairs().collect());
+    side_by_side!("judyhs", "extend", told, JudyHs::new, HashMap::new, |it| it
+        .extend(pairs()));
+    side_by_side!(
+        "judyhs",
+        "into_iter",
+        told,
+        || hashed.clone(),
+        || plain.clone(),
+        |it| it.into_iter().for_each(|pair| see(pair.1))
+    );
+    side_by_side!("judyhs", "values", told, || &hashed, || &plain, |it| it
+        .values()
+        .for_each(|value| see(value)));
     side_by_side!("judyhs", "iterate", told, || &hashed, || &plain, |it| it
         .iter()
         .for_each(|pair| see(pair.1)));
@@ -294,18 +443,20 @@ fn walk_by_the_call(map: &JudyL) {
 }
 
 fn main() {
-    for count in [10_000, 200_000] {
+    let asked = std::env::args().skip(1).filter_map(|it| it.parse().ok());
+    let counts: Vec<u64> = asked.collect();
+    let counts = if counts.is_empty() {
+        vec![10_000, 200_000]
+    } else {
+        counts
+    };
+    for count in counts {
         for (pattern, key) in PATTERNS {
             measure(pattern, &(0..count).map(key).collect::<Vec<_>>());
         }
-    }
-    let random = |n: u64| n.wrapping_mul(0x9e37_79b9_7f4a_7c15) >> 31;
-    for count in [10_000, 100_000] {
         for (pattern, key) in TEXTS {
-            measure_texts(
-                pattern,
-                &(0..count).map(random).map(key).collect::<Vec<_>>(),
-            );
+            let numbers = (0..count).map(|n| n.wrapping_mul(0x9e37_79b9_7f4a_7c15) >> 31);
+            measure_texts(pattern, &numbers.map(key).collect::<Vec<_>>());
         }
     }
 }

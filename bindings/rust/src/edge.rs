@@ -1,8 +1,10 @@
 //! The ends of a walk through strings.
 use crate::keyed::MAX_KEY;
 use sellumaq_sys as sys;
+use std::mem::MaybeUninit;
 use std::ops::{Bound, RangeBounds};
 use std::ops::{Range, RangeFrom, RangeFull, RangeInclusive, RangeTo, RangeToInclusive};
+use std::slice::from_raw_parts;
 
 /// A scan of C from the string in a buffer of the capacity given, whose length and what is told of the key found, its value or
 /// its slot, stand behind pointers.
@@ -61,21 +63,21 @@ fn bytes<K: AsRef<[u8]>>(bound: Bound<&K>) -> Bound<&[u8]> {
     }
 }
 
+/// No key lies above this string.
+const GREATEST: &[u8] = &[u8::MAX; MAX_KEY];
+
 /// One end of the strings whose keys are still to come, and whether it is one of them.
 #[derive(Clone)]
 pub struct Edge {
-    bytes: [u8; MAX_KEY],
-    length: usize,
+    // None is the greatest string, and takes no memory.
+    string: Option<Vec<u8>>,
     included: bool,
 }
 
 impl Edge {
     fn at(string: &[u8], included: bool) -> Edge {
-        let mut bytes = [0; MAX_KEY];
-        bytes[..string.len()].copy_from_slice(string);
         Edge {
-            bytes,
-            length: string.len(),
+            string: Some(string.to_vec()),
             included,
         }
     }
@@ -95,7 +97,10 @@ impl Edge {
     /// The upper end of a range.
     pub fn upper(bound: Bound<&[u8]>) -> Edge {
         match bound {
-            Bound::Unbounded => Edge::at(&[u8::MAX; MAX_KEY], true),
+            Bound::Unbounded => Edge {
+                string: None,
+                included: true,
+            },
             Bound::Included(string) => Edge::at(could_be_key(string).0, true),
             Bound::Excluded(string) => {
                 let (key, whole) = could_be_key(string);
@@ -115,12 +120,14 @@ impl Edge {
 
     /// Moves to a key, which isn't still to come then.
     pub fn go_behind(&mut self, key: &[u8]) {
-        self.bytes[..key.len()].copy_from_slice(key);
-        (self.length, self.included) = (key.len(), false);
+        let string = self.string.get_or_insert_with(Vec::new);
+        string.clear();
+        string.extend_from_slice(key);
+        self.included = false;
     }
 
     pub fn key(&self) -> &[u8] {
-        &self.bytes[..self.length]
+        self.string.as_deref().unwrap_or(GREATEST)
     }
 
     /// Whether the edge's own string is still to come.
@@ -128,25 +135,28 @@ impl Edge {
         self.included
     }
 
-    /// Goes on to the next key, by a scan that begins with the edge's string and one that begins behind it, which tell of the key found.
-    /// Where there is none the edge stays, and false is answered.
+    /// The next key, by a scan that begins with the edge's string and one that begins behind it, which tell of the key found.
     ///
     /// # Safety
     ///
     /// The handle is an array's that isn't changed meanwhile, and both are scans of `sellumaq_sys`.
-    pub unsafe fn step<T>(
-        &mut self,
+    pub unsafe fn find<T>(
+        &self,
         handle: sys::sellumaq_judysl,
         [from, past]: [Scan<T>; 2],
         told: &mut T,
-    ) -> bool {
+    ) -> Option<Vec<u8>> {
         let scan = if self.included { from } else { past };
-        let buffer = self.bytes.as_mut_ptr();
+        let (mut buffer, mut length) = ([MaybeUninit::uninit(); MAX_KEY], self.key().len());
+        for (to, byte) in buffer.iter_mut().zip(self.key()) {
+            to.write(*byte);
+        }
+        let bytes = buffer.as_mut_ptr().cast();
         // SAFETY: the handle is as the caller says; the buffer has the bytes that it is said to have, the string is no
-        // longer, and all that the call writes to is the caller's or the edge's, which is lent.
-        let found = unsafe { scan(&handle, buffer, MAX_KEY, &mut self.length, told) };
-        self.included &= found != sys::SELLUMAQ_FOUND;
-        found == sys::SELLUMAQ_FOUND
+        // longer, and all that the call writes to is the caller's or this function's.
+        let found = unsafe { scan(&handle, bytes, MAX_KEY, &mut length, told) };
+        // SAFETY: where it is found, the call wrote a key of this length to the buffer.
+        (found == sys::SELLUMAQ_FOUND).then(|| unsafe { from_raw_parts(bytes, length) }.to_vec())
     }
 
     /// Whether a key lies above this edge, or is it.
@@ -156,7 +166,8 @@ impl Edge {
 
     /// Whether a key lies below this edge, or is it.
     pub fn lets_below(&self, key: &[u8]) -> bool {
-        key < self.key() || self.included && key == self.key()
+        let is_below = |end: &Vec<u8>| key < &end[..] || self.included && key == &end[..];
+        self.string.as_ref().map_or(true, is_below)
     }
 }
 

@@ -95,6 +95,11 @@ impl<K: Key> Judy1<K> {
     fn greatest(&self, up_to: u64) -> Option<u64> {
         self.search(sys::sellumaq_judy1_last, up_to)
     }
+
+    fn delete_word(&mut self, word: u64) -> bool {
+        // SAFETY: the handle is this set's, lent for this call alone.
+        unsafe { sys::sellumaq_judy1_unset(&mut self.handle, word) }
+    }
 }
 
 impl<K: Key> Judy1<K> {
@@ -134,8 +139,7 @@ impl<K: Key> Judy1<K> {
     /// assert!(set.remove(&7) && !set.remove(7));
     /// ```
     pub fn remove(&mut self, key: impl Borrow<K>) -> bool {
-        // SAFETY: the handle is this set's, lent for this call alone.
-        unsafe { sys::sellumaq_judy1_unset(&mut self.handle, key.borrow().word()) }
+        self.delete_word(key.borrow().word())
     }
 
     /// Whether a key is there.

@@ -115,7 +115,10 @@ impl<V: Value> JudyHs<V> {
     /// assert_eq!(map.values().sum::<u64>(), 30);
     /// ```
     pub fn values(&self) -> Values<'_, V> {
-        Values { pairs: self.iter() }
+        Values {
+            list: self.list(),
+            map: PhantomData,
+        }
     }
 
     /// The values, to change.
@@ -127,7 +130,9 @@ impl<V: Value> JudyHs<V> {
     /// ```
     pub fn values_mut(&mut self) -> ValuesMut<'_, V> {
         ValuesMut {
-            pairs: self.iter_mut(),
+            list: self.list(),
+            map: self,
+            lent: PhantomData,
         }
     }
 
@@ -151,7 +156,8 @@ impl<V: Value> JudyHs<V> {
     /// ```
     pub fn into_values(self) -> IntoValues<V> {
         IntoValues {
-            pairs: self.into_iter(),
+            list: self.list(),
+            of: PhantomData,
         }
     }
 
@@ -197,17 +203,66 @@ impl<V: Value> JudyHs<V> {
     /// assert_eq!((map.len(), map["b"]), (1, 20));
     /// ```
     pub fn retain(&mut self, mut keep: impl FnMut(&[u8], &mut V) -> bool) {
-        let mut list = self.list();
-        while let Some((key, bits)) = list.next() {
-            let mut value = V::of_bits(bits);
-            if !keep(key, &mut value) {
-                self.delete(key);
-            } else if value.bits() != bits {
-                self.insert(key, value);
-            }
+        self.extract_if(|key, value| !keep(key, value))
+            .for_each(drop);
+    }
+
+    /// Takes those keys out that are chosen, one at each step of the iterator; `chosen` may change the values. Where the iterator is dropped,
+    /// the others stay.
+    ///
+    /// ```
+    /// let mut map = sellumaq::JudyHs::from([("a", 10), ("b", 20), ("c", 30)]);
+    /// assert!(map.extract_if(|_, value| *value > 20).eq([(b"c".to_vec(), 30)]));
+    /// assert_eq!(map.len(), 2);
+    /// ```
+    pub fn extract_if<F: FnMut(&[u8], &mut V) -> bool>(
+        &mut self,
+        chosen: F,
+    ) -> ExtractIf<'_, V, F> {
+        ExtractIf {
+            list: self.list(),
+            map: self,
+            chosen,
         }
     }
 }
+
+/// The pairs that [`JudyHs::extract_if`] takes out.
+///
+/// ```
+/// let mut map = sellumaq::JudyHs::from([("a", 10), ("b", 20)]);
+/// assert_eq!(map.extract_if(|key, _| key > &b"a"[..]).next(), Some((b"b".to_vec(), 20)));
+/// ```
+#[must_use = "iterators are lazy and do nothing unless consumed"]
+pub struct ExtractIf<'a, V: Value, F> {
+    map: &'a mut JudyHs<V>,
+    list: List,
+    chosen: F,
+}
+
+impl<V: Value, F: FnMut(&[u8], &mut V) -> bool> Iterator for ExtractIf<'_, V, F> {
+    type Item = (Vec<u8>, V);
+
+    fn next(&mut self) -> Option<(Vec<u8>, V)> {
+        while let Some((key, bits)) = self.list.next() {
+            let mut value = V::of_bits(bits);
+            if (self.chosen)(key, &mut value) {
+                self.map.delete(key);
+                return Some((key.to_vec(), value));
+            }
+            if value.bits() != bits {
+                self.map.insert(key, value);
+            }
+        }
+        None
+    }
+
+    fn size_hint(&self) -> (usize, Option<usize>) {
+        (0, Some(self.list.left()))
+    }
+}
+
+impl<V: Value, F: FnMut(&[u8], &mut V) -> bool> FusedIterator for ExtractIf<'_, V, F> {}
 
 /// Writes what an iterator over a list of pairs has, each of which it answers by `$answer`.
 macro_rules! pairs {
@@ -306,26 +361,41 @@ halves!(
     #[derive(Clone)]
     Keys<'a, V: Value = u64> of Iter<'a, V>; 0: Vec<u8>
 );
-halves!(
-    /// The values of a map.
-    ///
-    /// ```
-    /// let map = sellumaq::JudyHs::from([("a", 10), ("b", 20)]);
-    /// assert_eq!(map.values().next(), Some(10));
-    /// ```
-    #[derive(Clone)]
-    Values<'a, V: Value = u64> of Iter<'a, V>; 1: V
-);
-halves!(
-    /// The values of a map, to change.
-    ///
-    /// ```
-    /// let mut map = sellumaq::JudyHs::from([("a", 10), ("b", 20)]);
-    /// *map.values_mut().next().unwrap() += 1;
-    /// assert_eq!(map["a"], 11);
-    /// ```
-    ValuesMut<'a, V: Value = u64> of IterMut<'a, V>; 1: &'a mut V
-);
+/// The values of a map.
+///
+/// ```
+/// let map = sellumaq::JudyHs::from([("a", 10), ("b", 20)]);
+/// assert_eq!(map.values().next(), Some(10));
+/// ```
+#[derive(Clone)]
+#[must_use = "iterators are lazy and do nothing unless consumed"]
+pub struct Values<'a, V: Value = u64> {
+    list: List,
+    map: PhantomData<&'a JudyHs<V>>,
+}
+
+pairs!(Values<'a, V>; self, _key, value: Some(V::of_bits(value)) => V);
+
+/// The values of a map, to change.
+///
+/// ```
+/// let mut map = sellumaq::JudyHs::from([("a", 10), ("b", 20)]);
+/// *map.values_mut().next().unwrap() += 1;
+/// assert_eq!(map["a"], 11);
+/// ```
+#[must_use = "iterators are lazy and do nothing unless consumed"]
+pub struct ValuesMut<'a, V: Value = u64> {
+    list: List,
+    map: &'a JudyHs<V>,
+    lent: PhantomData<&'a mut V>,
+}
+
+pairs!(ValuesMut<'a, V>; self, key, _value: {
+    let slot = self.map.find_slot(key)?;
+    // SAFETY: as in `IterMut`.
+    Some(unsafe { &mut *slot.as_ptr() })
+} => &'a mut V);
+
 halves!(
     /// The keys of a map, which the iterator owns.
     ///
@@ -335,15 +405,21 @@ halves!(
     /// ```
     IntoKeys<V: Value = u64> of IntoIter<V>; 0: Vec<u8>
 );
-halves!(
-    /// The values of a map, which the iterator owns.
-    ///
-    /// ```
-    /// let map = sellumaq::JudyHs::from([("a", 10), ("b", 20)]);
-    /// assert_eq!(map.into_values().next(), Some(10));
-    /// ```
-    IntoValues<V: Value = u64> of IntoIter<V>; 1: V
-);
+
+/// The values of a map, which the iterator owns.
+///
+/// ```
+/// let map = sellumaq::JudyHs::from([("a", 10), ("b", 20)]);
+/// assert_eq!(map.into_values().next(), Some(10));
+/// ```
+#[derive(Clone)]
+#[must_use = "iterators are lazy and do nothing unless consumed"]
+pub struct IntoValues<V: Value = u64> {
+    list: List,
+    of: PhantomData<V>,
+}
+
+pairs!(IntoValues<V>; self, _key, value: Some(V::of_bits(value)) => V);
 
 impl<V: Value> IntoIterator for JudyHs<V> {
     type Item = (Vec<u8>, V);

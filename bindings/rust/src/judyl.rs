@@ -3,6 +3,7 @@ use crate::array::array;
 use crate::entry::entries;
 use crate::ordered::ordered_map;
 use crate::saved::{saved, OfTypes};
+use crate::sieve::Sieve;
 use crate::slots::slot_walks;
 use crate::sorted::at_once;
 use crate::span::{Found, Span};
@@ -228,8 +229,12 @@ impl<V: Value, K: Key> JudyL<V, K> {
     }
 
     fn delete(&mut self, key: &K) {
+        self.delete_word(key.word());
+    }
+
+    fn delete_word(&mut self, word: u64) {
         // SAFETY: the handle is this map's, lent for this call alone.
-        unsafe { sys::sellumaq_judyl_del(&mut self.handle, key.word()) };
+        unsafe { sys::sellumaq_judyl_del(&mut self.handle, word) };
     }
 
     fn owned(key: &impl Borrow<K>) -> K {
@@ -520,8 +525,7 @@ impl<V: Value, K: Key> JudyL<V, K> {
         chosen: F,
     ) -> ExtractIf<'_, V, K, F> {
         ExtractIf {
-            way: Way::of(Span::of(range)),
-            map: self,
+            sieve: Sieve::of(self, range),
             chosen,
         }
     }
@@ -539,8 +543,7 @@ impl<V: Value, K: Key> JudyL<V, K> {
 /// ```
 #[must_use = "iterators are lazy and do nothing unless consumed"]
 pub struct ExtractIf<'a, V: Value, K: Key, F> {
-    map: &'a mut JudyL<V, K>,
-    way: Way<sys::sellumaq_pair>,
+    sieve: Sieve<'a, JudyL<V, K>>,
     chosen: F,
 }
 
@@ -548,16 +551,18 @@ impl<V: Value, K: Key, F: FnMut(&K, &mut V) -> bool> Iterator for ExtractIf<'_, 
     type Item = (K, V);
 
     fn next(&mut self) -> Option<(K, V)> {
-        // what was brought beyond a key is there still when the key was taken out
-        while let Some((word, bits)) = self.way.next(self.map) {
+        while let Some((word, bits)) = self.sieve.next() {
             let (key, mut value) = (K::of_word(word), V::of_bits(bits));
             if (self.chosen)(&key, &mut value) {
-                self.map.delete(&key);
+                self.sieve.goes(word);
                 return Some((key, value));
             }
             if value.bits() != bits {
-                self.map.put(key, value);
+                if let Some(slot) = self.sieve.array().get_mut(key) {
+                    *slot = value;
+                }
             }
+            self.sieve.stays(Told::of((word, value.bits())));
         }
         None
     }

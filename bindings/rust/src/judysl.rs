@@ -1,6 +1,6 @@
 //! Maps from strings to words, their entries and iterators.
 use crate::array::array;
-use crate::edge::Edge;
+use crate::edge::{Edge, Scan};
 use crate::entry::entries;
 use crate::keyed::{keyed_map, InsertError, MAX_KEY};
 use crate::ordered::ordered_map;
@@ -15,14 +15,14 @@ use std::cmp::Ordering;
 use std::fmt;
 use std::hash::{Hash, Hasher};
 use std::iter::FusedIterator;
-use std::mem::take;
+use std::mem::{swap, take};
 use std::ops::{Bound, Index};
 use std::ptr::{null_mut, NonNull};
 
 mod sorted;
 mod way;
 
-use way::{SlotSteps, Steps, Way};
+use way::{SlotSteps, Steps, Way, DOWN, DOWN_TO_SLOTS, UP, UP_TO_SLOTS};
 
 pub use crate::edge::StringRange;
 
@@ -103,6 +103,31 @@ impl<V: Value> JudySl<V> {
         key.as_ref().to_vec()
     }
 
+    // The pair of the key that is nearest to an end.
+    fn nearest(&self, end: &Edge, scans: [Scan<u64>; 2]) -> Option<(Vec<u8>, V)> {
+        let mut bits = 0;
+        // SAFETY: the map is borrowed, and the scans are this kind's.
+        let key = unsafe { end.find(self.handle, scans, &mut bits) }?;
+        Some((key, V::of_bits(bits)))
+    }
+
+    // The entry of that key.
+    fn nearest_entry(
+        &mut self,
+        end: &Edge,
+        scans: [Scan<*mut u64>; 2],
+    ) -> Option<OccupiedEntry<'_, Vec<u8>, V>> {
+        let mut slot = null_mut();
+        // SAFETY: as in `nearest`.
+        let key = unsafe { end.find(self.handle, scans, &mut slot) }?;
+        let slot = NonNull::new(slot.cast())?;
+        Some(OccupiedEntry {
+            map: self,
+            key,
+            slot,
+        })
+    }
+
     /// The pair of the least key.
     ///
     /// ```
@@ -111,7 +136,7 @@ impl<V: Value> JudySl<V> {
     /// ```
     #[must_use]
     pub fn first_key_value(&self) -> Option<(Vec<u8>, V)> {
-        Steps::of(&(..)).next(self).map(Self::item)
+        self.nearest(&Edge::lower(Bound::Unbounded), UP)
     }
 
     /// The pair of the greatest key.
@@ -122,7 +147,7 @@ impl<V: Value> JudySl<V> {
     /// ```
     #[must_use]
     pub fn last_key_value(&self) -> Option<(Vec<u8>, V)> {
-        Steps::of(&(..)).next_back(self).map(Self::item)
+        self.nearest(&Edge::upper(Bound::Unbounded), DOWN)
     }
 
     /// The entry of the least key.
@@ -132,12 +157,7 @@ impl<V: Value> JudySl<V> {
     /// assert_eq!(map.first_entry().unwrap().remove(), 10);
     /// ```
     pub fn first_entry(&mut self) -> Option<OccupiedEntry<'_, Vec<u8>, V>> {
-        let (key, slot) = Steps::of(&(..)).next_slot(self)?;
-        Some(OccupiedEntry {
-            map: self,
-            key,
-            slot,
-        })
+        self.nearest_entry(&Edge::lower(Bound::Unbounded), UP_TO_SLOTS)
     }
 
     /// The entry of the greatest key.
@@ -147,12 +167,7 @@ impl<V: Value> JudySl<V> {
     /// assert_eq!(map.last_entry().unwrap().insert(21), 20);
     /// ```
     pub fn last_entry(&mut self) -> Option<OccupiedEntry<'_, Vec<u8>, V>> {
-        let (key, slot) = Steps::of(&(..)).next_back_slot(self)?;
-        Some(OccupiedEntry {
-            map: self,
-            key,
-            slot,
-        })
+        self.nearest_entry(&Edge::upper(Bound::Unbounded), DOWN_TO_SLOTS)
     }
 
     /// The pair of the least key from a string on, which may be any.
@@ -163,8 +178,7 @@ impl<V: Value> JudySl<V> {
     /// ```
     #[must_use]
     pub fn at_or_after(&self, from: impl AsRef<[u8]>) -> Option<(Vec<u8>, V)> {
-        let mut steps = Steps::of(&(Bound::Included(from.as_ref()), Bound::Unbounded));
-        steps.next(self).map(Self::item)
+        self.nearest(&Edge::lower(Bound::Included(from.as_ref())), UP)
     }
 
     /// The pair of the greatest key up to a string, which may be any.
@@ -175,8 +189,7 @@ impl<V: Value> JudySl<V> {
     /// ```
     #[must_use]
     pub fn at_or_before(&self, from: impl AsRef<[u8]>) -> Option<(Vec<u8>, V)> {
-        let mut steps = Steps::of(&(Bound::Unbounded, Bound::Included(from.as_ref())));
-        steps.next_back(self).map(Self::item)
+        self.nearest(&Edge::upper(Bound::Included(from.as_ref())), DOWN)
     }
 
     /// The pairs by ascending key.
@@ -399,14 +412,25 @@ impl<V: Value> JudySl<V> {
     /// ```
     pub fn append(&mut self, other: &mut Self) {
         let mut more = take(other);
-        if !more.is_few_beside(self) {
-            more.join(self);
-            *self = more;
-            return;
+        if more.len() > self.len() {
+            swap(self, &mut more);
+            more.walk(|key, value| {
+                if let Some(others) = self.insert(key, value) {
+                    self.insert(key, others);
+                }
+            });
+        } else {
+            more.walk(|key, value| {
+                self.insert(key, value);
+            });
         }
-        let mut entries = more.iter();
+    }
+
+    // Hands each pair on, by ascending key.
+    fn walk(&self, mut act: impl FnMut(&[u8], V)) {
+        let mut entries = self.iter();
         while let Some((key, value)) = entries.next_entry() {
-            self.insert(key, value);
+            act(key, value);
         }
     }
 

@@ -223,6 +223,12 @@ macro_rules! keyed_map {
             }
         }
 
+        impl<'a, V: Value, K: AsRef<[u8]> + ?Sized> Extend<(&'a K, &'a V)> for $map<V> {
+            fn extend<I: IntoIterator<Item = (&'a K, &'a V)>>(&mut self, pairs: I) {
+                self.extend(pairs.into_iter().map(|(key, value)| (key, *value)));
+            }
+        }
+
         impl<V: Value, K: AsRef<[u8]>> FromIterator<(K, V)> for $map<V> {
             fn from_iter<I: IntoIterator<Item = (K, V)>>(pairs: I) -> Self {
                 let mut map = Self::empty();

@@ -66,6 +66,7 @@ mod ordered;
 mod saved;
 #[cfg(feature = "serde")]
 mod serial;
+mod sieve;
 mod slots;
 mod sorted;
 mod span;

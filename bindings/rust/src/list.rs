@@ -4,8 +4,10 @@ use sellumaq_sys as sys;
 use std::fmt;
 use std::ops::Range;
 
-/// How many bytes of keys are asked for at least.
+/// How many bytes of keys are asked for at least, and for each key: more than most keys have, since each call of C sorts all keys anew. The
+/// system gives pages to what is written alone.
 const LEAST_ROOM: usize = 1024;
+const ROOM: usize = 64;
 
 /// Pairs by the lengths of their keys, and those of one length by their bytes: those that are still to come, from both ends.
 #[derive(Clone)]
@@ -41,13 +43,18 @@ impl List {
             entries: Vec::new(),
             places: 0..count,
         };
-        let mut room = LEAST_ROOM.max(count * 8);
-        list.entries.try_reserve(count).map_err(|_| NoMemory)?;
+        let mut room = LEAST_ROOM.max(count.saturating_mul(ROOM));
+        list.entries
+            .try_reserve_exact(count)
+            .map_err(|_| NoMemory)?;
         while list.entries.len() < count {
-            list.bytes.try_reserve(room).map_err(|_| NoMemory)?;
+            list.bytes.try_reserve_exact(room).map_err(|_| NoMemory)?;
             // SAFETY: as the caller says.
             unsafe { list.go_on(&handle) }?;
-            room *= 2;
+            // the keys that are left are longer than these
+            let longest = list.entries.last().map_or(0, |entry| entry.length);
+            let left = count - list.entries.len();
+            room = (room * 2).max(left.saturating_mul(2 * longest));
         }
         list.keys = 0..list.bytes.len();
         Ok(list)

@@ -59,18 +59,20 @@ macro_rules! at_once {
         $sample:literal, $wrong:literal, $unsorted:literal
     ) => {
         impl<$($param: $bound),+> $array<$($param),+> {
+            /// The array of a list; of one that doesn't ascend the place is told.
+            fn try_at_once(told: &[$told], place: &mut usize) -> Result<Self, crate::InsertError> {
+                let (keys, count) = (told.as_ptr(), told.len());
+                // SAFETY: the handle is a new array's, lent for this call alone, and the place the caller's; the list is as long as is told.
+                Self::made_by(|made| unsafe {
+                    sellumaq_sys::$from_sorted(made, keys, count, place)
+                })
+            }
+
             fn at_once(told: &[$told]) -> Result<Self, crate::NotAscending> {
-                let (mut array, mut place) = (Self::empty(), 0);
-                // SAFETY: the handle is this array's, lent for this call alone, and the place this function's; the list
-                // is as long as is told.
-                let answer = unsafe {
-                    let (keys, count) = (told.as_ptr(), told.len());
-                    sellumaq_sys::$from_sorted(&mut array.handle, keys, count, &mut place)
-                };
-                match answer {
-                    sellumaq_sys::SELLUMAQ_ADDED => Ok(array),
-                    sellumaq_sys::SELLUMAQ_NO_MEMORY => crate::no_room(crate::NoMemory),
-                    _ => Err(crate::NotAscending(place)),
+                let mut place = 0;
+                match Self::try_at_once(told, &mut place) {
+                    Err(crate::InsertError::NoMemory) => crate::no_room(crate::NoMemory),
+                    made => made.map_err(|_| crate::NotAscending(place)),
                 }
             }
 
@@ -117,6 +119,16 @@ macro_rules! at_once {
             fn list(items: impl IntoIterator<Item = $item>) -> Vec<$told> {
                 let told = items.into_iter().map(Self::told);
                 told.map(crate::way::Told::of).collect()
+            }
+        }
+
+        impl<$($param: $bound),+> crate::sieve::Sifted for $array<$($param),+> {
+            fn take_out(&mut self, key: u64) {
+                self.delete_word(key);
+            }
+
+            fn of_list(told: &[$told]) -> Option<Self> {
+                Self::try_at_once(told, &mut 0).ok()
             }
         }
 

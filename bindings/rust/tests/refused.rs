@@ -146,6 +146,29 @@ fn ranges_and_parts_without_memory() {
     assert!(kept.keys().eq(plain.range(..1 << 20).copied()));
 }
 
+#[test]
+fn keys_go_without_memory() {
+    let refuser = match Refuser::find() {
+        Some(refuser) => refuser,
+        None => return,
+    };
+    let all: JudyL = words().chain(1000..4000).map(|key| (key, key)).collect();
+    for stays in [2, 3, 40] {
+        let keep = |key: &u64, value: &mut u64| {
+            *value += 1;
+            *key % 64 < stays
+        };
+        let mut left = all.clone();
+        left.retain(keep);
+        assert!(left.len() < all.len() && left.iter().all(|(key, value)| value == key + 1));
+        for nth in 1..40 {
+            let mut map = all.clone();
+            refuser.from(nth, || map.retain(keep));
+            assert!(map == left && map.len() == left.iter().count());
+        }
+    }
+}
+
 /// A slot that is made holds no value of such a type before one is put in.
 #[test]
 fn a_map_of_values_that_are_never_zero_without_memory() {

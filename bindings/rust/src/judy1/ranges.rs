@@ -1,8 +1,8 @@
 //! What is done with all words of a range.
 use super::Judy1;
+use crate::sieve::Sieve;
 use crate::span::Span;
 use crate::types::Key;
-use crate::way::Way;
 use crate::{no_room, NoMemory};
 use sellumaq_sys as sys;
 use std::iter::FusedIterator;
@@ -113,8 +113,7 @@ impl<K: Key> Judy1<K> {
         chosen: F,
     ) -> ExtractIf<'_, K, F> {
         ExtractIf {
-            way: Way::of(Span::of(range)),
-            set: self,
+            sieve: Sieve::of(self, range),
             chosen,
         }
     }
@@ -128,8 +127,7 @@ impl<K: Key> Judy1<K> {
 /// ```
 #[must_use = "iterators are lazy and do nothing unless consumed"]
 pub struct ExtractIf<'a, K: Key, F> {
-    set: &'a mut Judy1<K>,
-    way: Way<u64>,
+    sieve: Sieve<'a, Judy1<K>>,
     chosen: F,
 }
 
@@ -137,12 +135,13 @@ impl<K: Key, F: FnMut(&K) -> bool> Iterator for ExtractIf<'_, K, F> {
     type Item = K;
 
     fn next(&mut self) -> Option<K> {
-        // what was brought beyond a key is there still when the key was taken out
-        while let Some(key) = self.way.next(self.set).map(K::of_word) {
+        while let Some(word) = self.sieve.next() {
+            let key = K::of_word(word);
             if (self.chosen)(&key) {
-                self.set.remove(key);
+                self.sieve.goes(word);
                 return Some(key);
             }
+            self.sieve.stays(word);
         }
         None
     }

@@ -8,20 +8,20 @@ use std::iter::from_fn;
 use std::ops::Range;
 use std::ptr::{null_mut, NonNull};
 
-const UP: [Scan<u64>; 2] = [sys::sellumaq_judysl_first, sys::sellumaq_judysl_next];
-const DOWN: [Scan<u64>; 2] = [sys::sellumaq_judysl_last, sys::sellumaq_judysl_prev];
-const UP_TO_SLOTS: [Scan<*mut u64>; 2] = [
+pub const UP: [Scan<u64>; 2] = [sys::sellumaq_judysl_first, sys::sellumaq_judysl_next];
+pub const DOWN: [Scan<u64>; 2] = [sys::sellumaq_judysl_last, sys::sellumaq_judysl_prev];
+pub const UP_TO_SLOTS: [Scan<*mut u64>; 2] = [
     sys::sellumaq_judysl_first_slot,
     sys::sellumaq_judysl_next_slot,
 ];
-const DOWN_TO_SLOTS: [Scan<*mut u64>; 2] = [
+pub const DOWN_TO_SLOTS: [Scan<*mut u64>; 2] = [
     sys::sellumaq_judysl_last_slot,
     sys::sellumaq_judysl_prev_slot,
 ];
 
 /// How many keys a call of C brings at most, and how many bytes these have.
 const MOST: usize = 64;
-const ROOM: usize = 2 * MAX_KEY;
+const ROOM: usize = 4 * MAX_KEY;
 
 /// A way of which each step is one way down the map.
 #[derive(Clone)]
@@ -47,9 +47,9 @@ impl Steps {
         told: &mut T,
     ) -> Option<Vec<u8>> {
         // SAFETY: the map is borrowed, and the scans are this kind's.
-        let found = unsafe { self.front.step(map.handle, scans, told) };
-        let key = self.front.key();
-        (found && self.back.lets_below(key)).then(|| key.to_vec())
+        let key = unsafe { self.front.find(map.handle, scans, told) }?;
+        self.front.go_behind(&key);
+        self.back.lets_below(&key).then_some(key)
     }
 
     // The same down.
@@ -60,9 +60,9 @@ impl Steps {
         told: &mut T,
     ) -> Option<Vec<u8>> {
         // SAFETY: as in `up`.
-        let found = unsafe { self.back.step(map.handle, scans, told) };
-        let key = self.back.key();
-        (found && self.front.lets_above(key)).then(|| key.to_vec())
+        let key = unsafe { self.back.find(map.handle, scans, told) }?;
+        self.back.go_behind(&key);
+        self.front.lets_above(&key).then_some(key)
     }
 
     pub fn next<V: Value>(&mut self, map: &JudySl<V>) -> Option<(Vec<u8>, u64)> {
@@ -116,37 +116,35 @@ impl SlotSteps {
     }
 }
 
-/// Pairs that were brought: the keys one behind the other, and how many of them were given.
+/// Pairs that were brought: the keys one behind the other, from which they are given from one end.
 #[derive(Clone)]
 struct Page {
-    bytes: [u8; ROOM],
-    entries: [sys::sellumaq_entry; MOST],
-    count: usize,
+    bytes: Vec<u8>,
+    entries: Vec<sys::sellumaq_entry>,
+    // How many pairs were given.
     given: usize,
     // Where the key given last stands.
     key: Range<usize>,
-    // How many pairs the next call brings: one at first, for a way that is soon left.
+    // How many pairs are brought next: one at first, for a way that is soon left.
     most: usize,
 }
 
 impl Page {
-    fn empty() -> Page {
-        Page {
-            bytes: [0; ROOM],
-            entries: [sys::sellumaq_entry {
-                length: 0,
-                value: 0,
-            }; MOST],
-            count: 0,
-            given: 0,
-            key: 0..0,
-            most: 1,
-        }
-    }
+    const EMPTY: Page = Page {
+        bytes: Vec::new(),
+        entries: Vec::new(),
+        given: 0,
+        key: 0..0,
+        most: 1,
+    };
 
     // The key that was given last.
     fn last(&self) -> Option<&[u8]> {
         (self.given > 0).then(|| &self.bytes[self.key.clone()])
+    }
+
+    fn is_given(&self) -> bool {
+        self.given == self.entries.len()
     }
 
     // Gives the next pair, where one is left.
@@ -157,37 +155,93 @@ impl Page {
         (&self.bytes[self.key.clone()], entry.value)
     }
 
-    // Brings the pairs of a map from an edge on, and answers whether there are any.
-    fn fill<V: Value>(&mut self, map: &JudySl<V>, from: &Edge) -> bool {
-        let (handle, key, itself) = (map.handle, from.key(), from.is_included());
-        let (bytes, entries) = (self.bytes.as_mut_ptr(), self.entries.as_mut_ptr());
-        let (start, length) = (key.as_ptr(), key.len());
-        // SAFETY: the map is borrowed, and the call only reads it; the key is a slice's, and both buffers have the room that they are
-        // said to have.
-        self.count = unsafe {
+    // Gives the last pair that wasn't given, where all are given from the upper end.
+    fn next_back(&mut self) -> (&[u8], u64) {
+        self.given += 1;
+        let entry = self.entries[self.entries.len() - self.given];
+        self.key = self.key.start - entry.length..self.key.start;
+        (&self.bytes[self.key.clone()], entry.value)
+    }
+
+    // Holds one pair that isn't given yet, for the upper end.
+    fn hold(&mut self, key: &[u8], value: u64) {
+        let length = key.len();
+        self.bytes.extend_from_slice(key);
+        self.entries.push(sys::sellumaq_entry { length, value });
+        self.key = length..length;
+    }
+
+    // Forgets its pairs, and tells how many are to be brought.
+    fn turn(&mut self) -> usize {
+        let most = self.most;
+        self.bytes.clear();
+        self.entries.clear();
+        (self.given, self.key) = (0, 0..0);
+        self.most = (most * 8).min(MOST);
+        most
+    }
+
+    // Brings pairs of a map from a string on behind those that are there, up to so many, and answers whether there are any more.
+    fn fill<V: Value>(&mut self, map: &JudySl<V>, from: &[u8], itself: bool, up_to: usize) -> bool {
+        let (handle, begin, had) = (map.handle, self.bytes.len(), self.entries.len());
+        self.bytes.reserve(if up_to == 1 { MAX_KEY } else { ROOM });
+        self.entries.reserve(up_to - had);
+        let bytes = self.bytes.spare_capacity_mut();
+        let (to, room) = (bytes.as_mut_ptr().cast(), bytes.len());
+        let entries = self.entries.spare_capacity_mut().as_mut_ptr().cast();
+        let (start, length) = (from.as_ptr(), from.len());
+        // SAFETY: the map is borrowed, and the call only reads it; the string is a slice's, and both buffers have the room that they are
+        // said to have, and belong to this page alone.
+        let count = unsafe {
             sys::sellumaq_judysl_walk(
-                &handle, start, length, itself, bytes, ROOM, entries, self.most,
+                &handle,
+                start,
+                length,
+                itself,
+                to,
+                room,
+                entries,
+                up_to - had,
             )
         };
-        (self.given, self.key) = (0, 0..0);
-        self.most = (self.most * 8).min(MOST);
-        self.count > 0
+        // SAFETY: the call wrote so many entries.
+        unsafe { self.entries.set_len(had + count) };
+        let written: usize = self.entries[had..].iter().map(|it| it.length).sum();
+        // SAFETY: it wrote as many bytes as their keys have.
+        unsafe { self.bytes.set_len(begin + written) };
+        count > 0
+    }
+
+    // Brings so many pairs of a map, from a key of it on.
+    fn fill_whole<V: Value>(&mut self, map: &JudySl<V>, mut from: Vec<u8>, count: usize) {
+        let mut itself = true;
+        while self.entries.len() < count && self.fill(map, &from, itself, count) {
+            let length = self.entries.last().map_or(0, |entry| entry.length);
+            from.clear();
+            from.extend_from_slice(&self.bytes[self.bytes.len() - length..]);
+            itself = false;
+        }
+        self.key = self.bytes.len()..self.bytes.len();
     }
 }
 
-/// A way that brings many pairs a call of C from its lower end on; from the upper end each step is one way down the map. The front end is the
-/// one that the pairs were brought from.
+/// A way that brings many pairs a call of C, from both ends. An end of the way is the one that its last page was brought from.
 #[derive(Clone)]
 pub struct Way {
     ends: Steps,
     page: Page,
+    back: Page,
+    // How many keys lie below the last page that was brought from the upper end, where one was.
+    below: Option<usize>,
 }
 
 impl Way {
     pub fn of(range: &impl StringRange) -> Way {
         Way {
             ends: Steps::of(range),
-            page: Page::empty(),
+            page: Page::EMPTY,
+            back: Page::EMPTY,
+            below: None,
         }
     }
 
@@ -196,27 +250,57 @@ impl Way {
         if let Some(key) = self.page.last() {
             self.ends.front.go_behind(key);
         }
-        self.page.fill(map, &self.ends.front)
+        let (most, front) = (self.page.turn(), &self.ends.front);
+        self.page.fill(map, front.key(), front.is_included(), most)
+    }
+
+    // Brings the greatest pairs that are left: one by a scan, for a way that is soon left, and then those at some places up to the one
+    // before. False where none is left.
+    fn bring_back<V: Value>(&mut self, map: &JudySl<V>) -> bool {
+        if self.back.most == 1 {
+            self.back.most = 8;
+            return self.ends.next_back(map).map_or(false, |(key, value)| {
+                self.back.hold(&key, value);
+                true
+            });
+        }
+        let below = self
+            .below
+            .unwrap_or_else(|| map.count_up_to(&self.ends.back));
+        let count = self.back.most.min(below);
+        if count == 0 {
+            return false;
+        }
+        if let Some((key, _)) = map.nth(below - count) {
+            self.back.turn();
+            self.back.fill_whole(map, key, count);
+        }
+        self.below = Some(below - count);
+        true
     }
 
     pub fn next_entry<V: Value>(&mut self, map: &JudySl<V>) -> Option<(&[u8], u64)> {
-        if self.page.given == self.page.count && !self.bring(map) {
+        if self.page.is_given() && !self.bring(map) {
             return None;
         }
         let (key, value) = self.page.next();
-        self.ends.back.lets_below(key).then_some((key, value))
+        let is_left = match self.back.last() {
+            Some(given) => key < given,
+            None => self.ends.back.lets_below(key),
+        };
+        is_left.then_some((key, value))
     }
 
     pub fn next_back_entry<V: Value>(&mut self, map: &JudySl<V>) -> Option<(&[u8], u64)> {
-        let mut value = 0;
-        // SAFETY: the map is borrowed, and the scans are this kind's.
-        let found = unsafe { self.ends.back.step(map.handle, DOWN, &mut value) };
-        let key = self.ends.back.key();
+        if self.back.is_given() && !self.bring_back(map) {
+            return None;
+        }
+        let (key, value) = self.back.next_back();
         let is_left = match self.page.last() {
             Some(given) => key > given,
             None => self.ends.front.lets_above(key),
         };
-        (found && is_left).then_some((key, value))
+        is_left.then_some((key, value))
     }
 
     pub fn next<V: Value>(&mut self, map: &JudySl<V>) -> Option<(Vec<u8>, u64)> {
