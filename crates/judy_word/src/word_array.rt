@@ -1,6 +1,6 @@
 //! An array over words as its callers have it: a set of words and a map from words, with what both have alike.
 
-ghost use Rattle.std.specs.Prelude.{◌≡◌, ◌≤◌, ◌↔◌, false, IsTrue};
+ghost use Rattle.std.specs.Prelude.{◌≡◌, ◌≤◌, ◌↔◌, true, false, IsTrue};
 ghost use Rattle.std.specs.FinMap as map;
 ghost use Rattle.judy_model.specs.Arrays as array;
 ghost use Rattle.judy_model.specs.Counts as counts;
@@ -9,6 +9,7 @@ ghost use Rattle.judy_model.specs.Empties as empties;
 ghost use Rattle.judy_model.specs.Forms.{loose_in, shape_in};
 ghost use Rattle.judy_model.specs.Shapes.{form_of, shape_of};
 ghost use Rattle.judy_node.specs.ShapeSums.{shape_as};
+ghost use Rattle.judy_change.specs.Removals.{Has33};
 ghost use Rattle.judy_query.specs.Maps.{map_of};
 ghost use Rattle.judy_word.specs.WordArrays.{array_of, no_keys, seen_as};
 ghost use Rattle.judy_word.specs.Sets.{IsSet};
@@ -196,8 +197,12 @@ impl<V: Words + Drop> WordArray<V> {
     /// can't fail: where memory for a smaller node is refused, the larger one stays.
     pub fn delete(&mut self, i: u64)
         requires { V.WORDS ≤ 1 }
-        ensures { array_of self.new
+        ensures deleted { array_of self.new
             ≡ array.with_map (array_of self.old) (array.del self.old.map i) }
+        ensures absent { map.contains_key self.old.map i ≡ false → self.new ≡ self.old }
+        ensures loose { self.old.loose ≡ true → self.new.loose ≡ true }
+        ensures loosened { self.old.loose ≡ false → self.new.loose ≡ true
+            → Has33 8 (map.entries self.old.map) i }
     {
         self.tree.law();
         self.tree.remove(i);

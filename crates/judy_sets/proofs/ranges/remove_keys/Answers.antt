@@ -61,7 +61,7 @@ keys-smaller g c =
     let to = c.args.to in
     let here = c.keys.array.map in
     let key = c.in-Some.key in
-    let after : c.delete.new.self.map ≡ remove here key = ap (λ (a : ArrayOf word_order). a.map) c.delete.ensures in
+    let after : c.delete.new.self.map ≡ remove here key = ap (λ (a : ArrayOf word_order). a.map) c.delete.ensures.deleted in
     let less = fewer from to here key (first_held from to here key c.in-Some.ensures) in
     rw after less
 
@@ -74,11 +74,11 @@ keys-preserved g c =
     let found = c.in-Some.ensures in
     let held = first_held from to here key found in
     let is = first_inside from to here key found c.if-key-to.false in
-    let after : c.delete.new.self.map ≡ remove here key = ap (λ (a : ArrayOf word_order). a.map) c.delete.ensures in
+    let after : c.delete.new.self.map ≡ remove here key = ap (λ (a : ArrayOf word_order). a.map) c.delete.ensures.deleted in
     let less = within-fewer from to here key held is in
     let counted = c.keys.invariant.counted in
     let long = ap (λ (m : FinMap word_order ℕ). len (within m from to)) after in record {
-      limit = ap (λ (a : ArrayOf word_order). a.limit) c.delete.ensures ∙ c.keys.invariant.limit;
+      limit = ap (λ (a : ArrayOf word_order). a.limit) c.delete.ensures.deleted ∙ c.keys.invariant.limit;
       left = ap (λ (m : FinMap word_order ℕ). outside m from to) after ∙ outside-remove from to here key is ∙ c.keys.invariant.left;
       counted = omega (arith, less, counted, long);
     }
