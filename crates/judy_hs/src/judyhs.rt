@@ -188,18 +188,20 @@ impl<H: ByteHash + Drop> JudyHs<H> {
         groups.get(part_of(&self.hasher, key), key)
     }
 
-    /// How many keys the array may hold: at least 1 (limit: this project's own).
+    /// How many keys the array may hold: from 1 to 4,294,967,295 (limit: this project's own).
     pub fn limit(&self) -> u64
         ensures value { result ≡ self.now.limit }
         ensures some { 1 ≤ result }
+        ensures most { result ≤ 4294967295 }
     {
         self.limit
     }
 
-    /// How many keys the array holds: at most its limit.
+    /// How many keys the array holds: at most its limit, so at most 4,294,967,295.
     pub fn len(&self) -> u64
         ensures count { result ≡ map.len self.now.map }
         ensures within { result ≤ self.now.limit }
+        ensures most { result ≤ 4294967295 }
     {
         self.count
     }

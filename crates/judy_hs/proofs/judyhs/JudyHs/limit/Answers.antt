@@ -6,3 +6,6 @@ returns-clause-value g c = search rules
 
 pub returns-clause-some : goal.returns-clause-some
 returns-clause-some g c = search rules
+
+pub returns-clause-most : goal.returns-clause-most
+returns-clause-most g c = search rules
