@@ -41,6 +41,9 @@ module _ (one other : Strings) where
       let same = len-turned in
       omega (arith, parts, same)
 
+  pub difference_most : len (difference one other) ≤ len one
+  difference_most = let parts = difference_counts byte_order_total byte_order_same one other in omega (arith, parts)
+
   pub count_difference : len one - len (intersection one other) ≡ len (difference one other)
   count_difference = let parts = difference_counts byte_order_total byte_order_same one other in omega (arith, parts)
 
@@ -101,6 +104,11 @@ kept_most which false one other =
     let few = picked_len which one other in
     let none = len-empty byte_order ℕ in
     omega (arith, long, few, none)
+
+-- No more than there are, whether they are wanted or not.
+pub shared_most : (wanted : Bool) (n : ℕ) → cond wanted n 0 ≤ n
+shared_most true n = omega arith
+shared_most false n = omega arith
 
 pub count_union : (one other : Strings) → len one + len (difference other one) ≡ len (union one other)
 count_union one other =

@@ -1,6 +1,6 @@
 //! How many keys two arrays have together.
 
-ghost use Rattle.std.specs.Prelude.{◌≡◌, min};
+ghost use Rattle.std.specs.Prelude.{◌≡◌};
 ghost use Rattle.std.specs.FinMap as map;
 ghost use Rattle.judy_model.specs.TwoMaps as two;
 ghost use Rattle.judy_string_sets.specs.Walks.{picked, rest_of, kept};
@@ -43,20 +43,20 @@ pub fn difference_count(one: &JudySl, other: &JudySl) -> u64
     one.len() - common_count(one, other)
 }
 
-/// How many keys the one or the other has: 2^64 - 1 at most.
+/// How many keys the one or the other has: never more than a word tells, as each has at most 4,294,967,295.
 pub fn union_count(one: &JudySl, other: &JudySl) -> u64
-    ensures { result ≡ min (map.len (two.union one.now.map other.now.map)) u64.MAX }
+    ensures { result ≡ map.len (two.union one.now.map other.now.map) }
 {
-    one.len().saturating_add(difference_count(other, one))
+    let _most = other.len();
+    one.len() + difference_count(other, one)
 }
 
-/// How many keys exactly one of them has: 2^64 - 1 at most.
+/// How many keys exactly one of them has.
 pub fn symmetric_difference_count(one: &JudySl, other: &JudySl) -> u64
-    ensures { result
-        ≡ min (map.len (two.symmetric_difference one.now.map other.now.map)) u64.MAX }
+    ensures { result ≡ map.len (two.symmetric_difference one.now.map other.now.map) }
 {
     let common = common_count(one, other);
-    (one.len() - common).saturating_add(other.len() - common)
+    (one.len() - common) + (other.len() - common)
 }
 
 // How many keys of the one are meant.
@@ -81,9 +81,11 @@ fn rest_count(rest: bool, one: &JudySl, other: &JudySl) -> u64
     }
 }
 
-// How many both are: 2^64 - 1 at most.
+// How many both are.
 pub fn kept_count(which: Which, rest: bool, one: &JudySl, other: &JudySl) -> u64
-    ensures { result ≡ min (map.len (kept which rest one.now.map other.now.map)) u64.MAX }
+    ensures { result ≡ map.len (kept which rest one.now.map other.now.map) }
 {
-    picked_count(which, one, other).saturating_add(rest_count(rest, one, other))
+    let _ours = one.len();
+    let _theirs = other.len();
+    picked_count(which, one, other) + rest_count(rest, one, other)
 }
