@@ -1,6 +1,6 @@
 //! One array as the dump of a store that has it alone, written to the front of a room.
 
-ghost use Rattle.std.specs.Prelude.{◌≡◌, ◌≢◌, ◌<◌, ◌≤◌, ◌+◌, ◌^◌, ◌++◌, length, true, nat_le, Err};
+ghost use Rattle.std.specs.Prelude.{◌≡◌, ◌≢◌, ◌<◌, ◌≤◌, ◌+◌, ◌^◌, ◌++◌, length, true, nat_le, Err, IsOk};
 ghost use Rattle.std.specs.FinMap as map;
 ghost use Rattle.std.specs.List.{flat_map, list_all};
 ghost use Rattle.judy_model.specs.Arrays.{judy1, judyl, judysl};
@@ -26,7 +26,7 @@ use thiserror::Error;
 /// Why an array isn't dumped. Nothing was written.
 #[derive(Clone, Copy, Debug, PartialEq, Eq, Error)]
 pub enum SaveError {
-    /// It has more than 4,294,967,295 keys, which no dump can say.
+    /// It is one of words, and has more than 4,294,967,295 keys, which no dump can say.
     #[error("too many keys for a dump")]
     TooMany,
     /// It is one of byte strings, and there is no memory to sort its keys.
@@ -105,8 +105,8 @@ pub fn dump_map(
 }
 
 /// Writes the dump of a map from strings under a name, as [`dump_set`] writes that of a set. Its size takes a walk
-/// through the keys, so two walks are made where it is written. `TooMany` never comes of a map whose limit is at most
-/// 4,294,967,295, as each map's is that `JudySl::new` makes.
+/// through the keys, so two walks are made where it is written. No error comes: no such map has more keys than a dump
+/// can say.
 ///
 /// The second format writes what two strings share once, so `a` and `ab` take a byte less for the shared one, and two
 /// more each to tell how many are shared:
@@ -124,11 +124,9 @@ pub fn dump_strings(
 ) -> Result<usize, SaveError>
     ensures dumped { IsDumped (strings_dump (format_of version) name.now strings.now.map) room.old
         result room.new }
-    ensures never { strings.now.limit ≤ 4294967295 → result ≢ Err TooMany }
+    ensures always { IsOk result }
 {
-    if strings.len() > MAX_LIMIT {
-        return Err(SaveError::TooMany);
-    }
+    let _most = strings.len();
     let mut none = [];
     let size = write_strings(version, name, strings, &mut none);
     if size > room.len() {
@@ -138,9 +136,9 @@ pub fn dump_strings(
 }
 
 /// Writes the dump of a map from byte strings under a name, as [`dump_set`] writes that of a set. The keys are sorted
-/// first, also where the size alone is asked for. The errors, in this order: `TooMany`, before the keys are sorted,
-/// which never comes of a map whose limit is at most 4,294,967,295; `NoMemory` where there is none to sort them;
-/// `LongKey` where one has more than 1,024 bytes. The room is as it was then.
+/// first, also where the size alone is asked for. The errors, in this order: `NoMemory` where there is none to sort
+/// them; `LongKey` where one has more than 1,024 bytes. The room is as it was then. `TooMany` never comes: no such map
+/// has more keys than a dump can say.
 ///
 /// ```
 /// // of the map from 1,025 bytes of 7 to 0
@@ -154,12 +152,9 @@ pub fn dump_byte_strings<H: ByteHash + Drop>(
 ) -> Result<usize, SaveError>
     ensures dumped { IsDumped (bytes_dump (format_of version) name.now bytes.now.map) room.old
         result room.new }
-    ensures never { bytes.now.limit ≤ 4294967295 → result ≢ Err TooMany }
+    ensures never { result ≢ Err TooMany }
 {
     let count = bytes.len();
-    if count > MAX_LIMIT {
-        return Err(SaveError::TooMany);
-    }
     let Ok(entries) = bytes.sorted() else {
         return Err(SaveError::NoMemory);
     };

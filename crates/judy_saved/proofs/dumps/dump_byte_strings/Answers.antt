@@ -13,7 +13,7 @@ use Rattle.judy_saved.proofs.dumps.dump_byte_strings.Goals as goal
 -- What the list says of the keys' lengths, the map says.
 pub returns-then-not-are_short-clause-dumped : goal.returns-then-not-are_short-clause-dumped
 returns-then-not-are_short-clause-dumped g c =
-    let few : len c.args.bytes.now.map ≤ most = omega arith in (
+    let few : len c.args.bytes.now.map ≤ most = omega (arith, c.len-count.ensures.count, c.len-count.ensures.most) in (
       (
         few,
         ap (list_all (λ (entry : List ℕ × ℕ). nat_le (length entry.0) LONGEST_KEY)) (sym (ap entries_in c.deref.ensures.value ∙ c.in-Ok.ensures)) ∙ sym c.are_short.ensures
@@ -28,7 +28,7 @@ returns-then-size-room-clause-dumped g c =
     let name = c.args.name.now in
     let m = c.args.bytes.now.map in
     let text = bytes_text version name m in
-    let few : len m ≤ most = omega arith in
+    let few : len m ≤ most = omega (arith, c.len-count.ensures.count, c.len-count.ensures.most) in
     let short : is_short m ≡ true =
     ap (list_all (λ (entry : List ℕ × ℕ). nat_le (length entry.0) LONGEST_KEY)) (sym (ap entries_in c.deref.ensures.value ∙ c.in-Ok.ensures)) ∙ sym c.are_short.ensures ∙ c.if-not-are_short.false in
     let asked = adds_listed version name m c.len-count.result c.len-count.ensures.count (entries_in c.deref-2.result.now) (ap entries_in c.deref-2.ensures.value ∙ c.in-Ok.ensures) _ _ _
@@ -42,7 +42,7 @@ returns-clause-dumped g c =
     let name = c.args.name.now in
     let m = c.args.bytes.now.map in
     let text = bytes_text version name m in
-    let few : len m ≤ most = omega arith in
+    let few : len m ≤ most = omega (arith, c.len-count.ensures.count, c.len-count.ensures.most) in
     let short : is_short m ≡ true =
     ap (list_all (λ (entry : List ℕ × ℕ). nat_le (length entry.0) LONGEST_KEY)) (sym (ap entries_in c.deref.ensures.value ∙ c.in-Ok.ensures)) ∙ sym c.are_short.ensures ∙ c.if-not-are_short.false in
     let asked = adds_listed version name m c.len-count.result c.len-count.ensures.count (entries_in c.deref-2.result.now) (ap entries_in c.deref-2.ensures.value ∙ c.in-Ok.ensures) _ _ _
@@ -55,9 +55,9 @@ returns-clause-dumped g c =
 pub write_byte_strings-size-requires-clause-few : goal.write_byte_strings-size-requires-clause-few
 write_byte_strings-size-requires-clause-few g c =
     let within = listed_within c.args.bytes.now.map c.deref-2.result.now (ap entries_in c.deref-2.ensures.value ∙ c.in-Ok.ensures) in
-    omega (arith, within)
+    omega (arith, within, c.len-count.ensures.count, c.len-count.ensures.most)
 
 pub write_byte_strings-requires-clause-few : goal.write_byte_strings-requires-clause-few
 write_byte_strings-requires-clause-few g c =
     let within = listed_within c.args.bytes.now.map c.deref-3.result.now (ap entries_in c.deref-3.ensures.value ∙ c.in-Ok.ensures) in
-    omega (arith, within)
+    omega (arith, within, c.len-count.ensures.count, c.len-count.ensures.most)

@@ -10,7 +10,7 @@ returns-then-size-room-clause-dumped c =
     let m = c.args.strings.now.map in
     let text = strings_text (format_of c.args.version) c.args.name.now m in
     let stands = from_front text _ _ _ c.write_strings-size.ensures in
-    let few : len m ≤ most = omega arith in
+    let few : len m ≤ most = omega (arith, c.len-most.ensures.count, c.len-most.ensures.most) in
     (few, refl, not_saved text c.args.room.now _ stands.ends c.if-size-room.true)
 
 pub returns-clause-dumped : goal.returns-clause-dumped
@@ -18,5 +18,5 @@ returns-clause-dumped c =
     let m = c.args.strings.now.map in
     let text = strings_text (format_of c.args.version) c.args.name.now m in
     let stands = from_front text _ _ _ c.write_strings-size.ensures in
-    let few : len m ≤ most = omega arith in
+    let few : len m ≤ most = omega (arith, c.len-most.ensures.count, c.len-most.ensures.most) in
     (few, refl, saved_again text c.args.room.now _ _ _ stands.ends c.if-size-room.false c.write_strings.ensures)
