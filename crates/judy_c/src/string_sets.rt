@@ -3,7 +3,7 @@
 //!
 //! Of two arrays neither changes. The two handles are two: C owes that they don't overlap, as for all calls.
 
-ghost use Rattle.std.specs.Prelude.{◌≡◌, ◌↔◌, IsTrue, min};
+ghost use Rattle.std.specs.Prelude.{◌≡◌, ◌↔◌, IsTrue};
 ghost use Rattle.std.specs.FinMap as map;
 ghost use Rattle.judy_model.specs.Arrays as array;
 ghost use Rattle.judy_model.specs.Counts as counts;
@@ -75,7 +75,7 @@ pub extern "C" fn sellumaq_judysl_intersection_count(
     of_both!(one, other, JudySl::empty(alloc); left, right => common_count(left, right))
 }
 
-/// How many keys the one or the other has: 2^64 - 1 at most.
+/// How many keys the one or the other has.
 #[unsafe(no_mangle)]
 pub extern "C" fn sellumaq_judysl_union_count(
     alloc: Global,
@@ -83,7 +83,7 @@ pub extern "C" fn sellumaq_judysl_union_count(
     other: &mut Strings,
 ) -> u64
     ensures answer { result
-        ≡ min (map.len (two.union (array_in one.old).map (array_in other.old).map)) u64.MAX }
+        ≡ map.len (two.union (array_in one.old).map (array_in other.old).map) }
     ensures one_stays { one.new ≡ one.old }
     ensures other_stays { other.new ≡ other.old }
 {
@@ -105,16 +105,15 @@ pub extern "C" fn sellumaq_judysl_difference_count(
     of_both!(one, other, JudySl::empty(alloc); left, right => difference_count(left, right))
 }
 
-/// How many keys exactly one of them has: 2^64 - 1 at most.
+/// How many keys exactly one of them has.
 #[unsafe(no_mangle)]
 pub extern "C" fn sellumaq_judysl_symmetric_difference_count(
     alloc: Global,
     one: &mut Strings,
     other: &mut Strings,
 ) -> u64
-    ensures answer { result ≡ min
-        (map.len (two.symmetric_difference (array_in one.old).map (array_in other.old).map))
-        u64.MAX }
+    ensures answer { result
+        ≡ map.len (two.symmetric_difference (array_in one.old).map (array_in other.old).map) }
     ensures one_stays { one.new ≡ one.old }
     ensures other_stays { other.new ≡ other.old }
 {
