@@ -6,6 +6,7 @@ pub mod LongLemmas
 pub mod LongChanges
 pub mod LongMoves
 pub mod LongPuts
+pub mod RelaidMoves
 pub mod MoveLemmas
 pub mod SharedLemmas
 pub mod GroupLemmas
@@ -16,6 +17,7 @@ pub mod GroupChanges
 pub mod KeyedSteps
 pub mod HsLemmas
 pub mod InnerLemmas
+pub mod RelaidLemmas
 pub mod ValueLemmas
 pub mod WalkLemmas
 pub mod SortLemmas

@@ -27,7 +27,7 @@ not-held key_length others (held value text) not = absurd (not tt)
 
 module _ (hashes : FinMap word_order ℕ) (key_length : ℕ) (chains : BTreeMap ℕ Pairs) (records : RecordList) (are : AreLongRecords hashes key_length chains records)
     (known : IsNext records.spots records.next) where
-  no-others : others_at chains records.next ≡ []
+  pub no-others : others_at chains records.next ≡ []
   no-others = elim (others_at chains records.next) as (λ (pairs : Pairs). others_at chains records.next ≡ pairs → pairs ≡ []) [
     | [] ↦ λ e. refl
     | pair ∷ rest ↦ λ e. absurd (known.is_free (are.beside records.next (λ none. absurd (let f : ◌≡◌ {A = Pairs} (pair ∷ rest) [] = sym e ∙ none in cc))))

@@ -20,3 +20,4 @@ pub mod InnerForm
 pub mod Listed
 pub mod Trials
 pub mod Found
+pub mod Relaid

@@ -30,7 +30,8 @@ pub enum GroupPlace {
 
 impl GroupPlace {
     ghost use Rattle.judy_hs.specs.Groups.{none, in_group, chain_in, words_of, IsInside, IsNewInside, IsOfLength, IsUsable, value_inside, group_with_key, group_without, CanTakeKey, IsEmptyGroup};
-    ghost use Rattle.judy_hs.specs.GroupPlaces.{group_of};
+    ghost use Rattle.judy_hs.specs.GroupPlaces.{group_of, link_of};
+    ghost use Rattle.judy_hs.specs.Relaid.{IsRelaidGroup};
     ghost use Rattle.judy_hs.specs.Trials.{IfAdded, UnlessAdded, UnlessOpen, IfOpen};
     ghost use Rattle.judy_hs.specs.GroupLends.{LendsInside};
     ghost use Rattle.judy_hs.specs.Listed.{CanList, group_list};
@@ -173,6 +174,18 @@ impl GroupPlace {
                 group.is_empty()
             }
             GroupPlace::Free(_) => true,
+        }
+    }
+
+    // Moves records of long keys out of pages with free places.
+    pub fn shrink(&mut self)
+        ensures keys { IsRelaidGroup (group_of self.old) (group_of self.new) }
+        ensures links { link_of self.new ≡ link_of self.old }
+    {
+        match self {
+            GroupPlace::Short(_) => {}
+            GroupPlace::Long(group) => group.shrink(),
+            GroupPlace::Free(_) => {}
         }
     }
 

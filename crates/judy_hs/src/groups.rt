@@ -9,6 +9,7 @@ ghost use Rattle.judy_hs.specs.LongGroups.{put_at};
 ghost use Rattle.judy_hs.specs.Groups.{one_group, one_inside};
 ghost use Rattle.judy_hs.specs.GroupPlaces.{group_of, groups_of, links_of};
 ghost use Rattle.judy_hs.specs.Keyed.{IsFreeGroup};
+ghost use Rattle.judy_hs.specs.Relaid.{AreRelaid};
 ghost use Rattle.judy_places.specs.Places.{NoneLost, IsNextPlace};
 
 use crate::entry::HsEntry;
@@ -79,6 +80,7 @@ impl Groups {
     ghost use Rattle.judy_hs.specs.Trials.{IfAdded, UnlessAdded, UnlessOpen, IfOpen};
     ghost use Rattle.judy_hs.specs.KeyedLends.{LendsSpot, LendsSpotOk};
     ghost use Rattle.judy_hs.specs.Listed.{CanList, entries_in, group_list, keyed_list};
+    ghost use Rattle.judy_hs.specs.Relaid.{IsRelaidKeyed};
     ghost use Rattle.judy_hs.specs.Values.{AreWords};
 
     // No groups.
@@ -282,6 +284,13 @@ impl Groups {
         }
     }
 
+    // Moves records of long keys out of pages with free places. It asks for no memory.
+    pub fn shrink(&mut self)
+        ensures { IsRelaidKeyed self.old self.new }
+    {
+        shrink_all(&mut self.groups);
+    }
+
     // The array of the lengths.
     pub fn lengths(&self) -> &WordMap
         ensures { result.now ≡ self.now.lengths }
@@ -338,6 +347,16 @@ impl Groups {
         for group in &self.groups {
             group.words_law();
         }
+    }
+}
+
+// Moves records of long keys out of pages with free places, group by group.
+fn shrink_all(groups: &mut [GroupPlace])
+    ensures keys { AreRelaid (groups_of groups.old) (groups_of groups.new) }
+    ensures links { links_of groups.new ≡ links_of groups.old }
+{
+    for place in 0..groups.len() {
+        groups[place].shrink();
     }
 }
 

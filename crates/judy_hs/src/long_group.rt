@@ -16,6 +16,7 @@ ghost use Rattle.judy_hs.specs.Listed.{entries_in};
 use crate::chain::{Chain, word_law};
 use crate::entry::{HsEntry, HsKey, sort_from};
 use crate::shared::{join, leave, take_first};
+use crate::spare::copy_of_spare;
 use crate::trial::Trial;
 use judy_records::{Record, Records, words_for};
 use judy_word::WordMap;
@@ -95,6 +96,7 @@ impl LongGroup {
     ghost use Rattle.judy_hs.specs.Chains.{AreApart};
     ghost use Rattle.judy_hs.specs.Listed.{chained, long_list, places_of, AreListed};
     ghost use Rattle.judy_hs.specs.Values.{AreWords};
+    ghost use Rattle.judy_hs.specs.Relaid.{IsRelaid};
 
     // The group of one key, with the value 0.
     pub fn of(alloc: Global, hash: u64, key: &[u8]) -> Result<LongGroup, AllocError>
@@ -246,6 +248,51 @@ impl LongGroup {
                 self.hashes.del(hash);
                 self.records.take_out(place);
             }
+        }
+    }
+
+    // Moves records out of pages that have a free place and aren't filled next, each once, by their hashes. Then at
+    // most one page has free places, but for records that stay (`copy_of_spare`). It asks for no memory.
+    pub fn shrink(&mut self)
+        ensures { IsRelaid self.old self.new }
+    {
+        let mut from = Some(0);
+        for _ in 0..self.hashes.len() {
+            let Some(hash) = from else {
+                return;
+            };
+            from = self.move_first(hash);
+        }
+    }
+
+    // Moves the record of the least hash from one on, where it is to be moved, and answers the hash behind it; none
+    // where no further one can be.
+    fn move_first(&mut self, from: u64) -> Option<u64>
+        ensures { IsRelaid self.old self.new }
+    {
+        let (hash, place) = self.hashes.array().first_entry(from)?;
+        self.move_record(hash, place as usize);
+        hash.checked_add(1)
+    }
+
+    // Moves the record to which a hash leads to the next place, where it can go there and its page isn't the one that
+    // is filled next. The hash is there, so that to lead it on isn't refused.
+    fn move_record(&mut self, hash: u64, place: usize)
+        requires { get self.old.hashes.map hash ≡ Some place }
+        ensures { IsRelaid self.old self.new }
+    {
+        let copy = copy_of_spare(&self.records, &self.chains, self.key_length, place);
+        let Some((value, key)) = copy else {
+            return;
+        };
+        self.records.law();
+        let next = self.records.next_place();
+        if self.hashes.put(hash, next as u64).is_err() {
+            return;
+        }
+        match self.records.put(value, &key) {
+            Ok(_) => self.records.take_out(place),
+            Err(_) => unreachable!(),
         }
     }
 

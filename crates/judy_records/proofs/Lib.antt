@@ -9,6 +9,7 @@ pub mod PagesHold
 pub mod PagesChange
 pub mod ListHolds
 pub mod ListGrows
+pub mod SpareLemmas
 pub mod OrderLemmas
 pub mod PadLemmas
 pub mod BackLemmas

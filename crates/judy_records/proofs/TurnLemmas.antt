@@ -6,7 +6,7 @@ use Rattle.std.proofs.lemmas.Option.{none-some, same_Some}
 use Rattle.std.proofs.lemmas.List.{length-set, length-map, length_push, get_or-map, get_or_past, get_or_push, get_or_append_left, get_or-set_same, get_or-set_other}
 use Rattle.judy_records.specs.declared.turns.Turn.{Turn}
 use Rattle.judy_records.specs.declared.turns.Turns.TheInside.{Inside}
-use Rattle.judy_records.specs.Kinds.{Kind, full, roomy, gone, Kinds, kind_of, IsNextOf, AreKnown, IsMoved, IsLonger}
+use Rattle.judy_records.specs.Kinds.{Kind, full, roomy, gone, Kinds, kind_of, IsNextOf, AreKnown, IsSpare, IsMoved, IsLonger}
 use Rattle.judy_records.specs.InTurns.{no_turn, turn_of, page_at, AreTurned, kind_at, kind_in, page_or_none, kinds_of, AreTurns}
 
 -- ---- one write
@@ -484,3 +484,39 @@ module _ (turns : Inside) (are : AreTurns turns) {seen : Kinds} (view_is : kinds
         absurd (omega (arith, behind, turn, some))
     | inr none ↦ omega (arith, none)
   ]
+
+-- Whether a page is spare shows by its turn.
+module _ (turns : Inside) (are : AreTurns turns) {seen : Kinds} (view_is : kinds_of turns ≡ seen) (page : ℕ) (within : page < length seen.kinds) where
+  abbrev turn : ℕ
+  turn = turn_of turns.row.items page
+
+  next-is : turns.full < turns.standing → seen.next_roomy ≡ Some (page_at turns.row.items turns.full)
+  next-is less =
+      sym (ap (λ (all : Kinds). all.next_roomy) view_is)
+      ∙ ap (λ b. if b then Some (page_at turns.row.items turns.full) else None) (lt-ltb turns.full turns.standing less)
+
+  pub spare-turn : IsSpare seen page → (turns.full < turn) × (turn < turns.standing)
+  spare-turn is =
+      let inside = seen-inside turns are view_is page within in
+      let there = roomy-turn turns.full turns.standing turn (seen-kind turns are view_is page within is.is_roomy) in
+      elim (cases_eq turn turns.full) [
+        | inl same ↦
+            absurd (is.later (next-is (omega (arith, there, same)) ∙ ap (λ n. Some (page_at turns.row.items n)) (sym same) ∙ ap (λ n. Some n) (are.row.turned page inside)))
+        | inr apart ↦ (omega (arith, there, apart), there.1)
+      ]
+
+  pub turn-spare : turns.full < turn → turn < turns.standing → IsSpare seen page
+  turn-spare past less =
+      let inside = seen-inside turns are view_is page within in record {
+        is_roomy =
+            sym (ap (λ (all : Kinds). kind_of all page) view_is)
+            ∙ kind-is turns are page inside
+            ∙ kind-roomy turns.full turns.standing turn (omega (arith, past)) less;
+        later = λ e.
+            let first : turns.full < turns.standing = omega (arith, past, less) in
+            let same = same_Some (page_at turns.row.items turns.full) page (sym (next-is first) ∙ e) in
+            let standings = are.standings in
+            let own = are.row.paged turns.full (omega (arith, first, standings)) in
+            let turned = ap (λ n. turn_of turns.row.items n) same in
+            omega (arith, past, own, turned);
+      }

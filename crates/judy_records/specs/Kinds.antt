@@ -29,6 +29,11 @@ pub record AreKnown (all : Kinds) : Type 0 where
   pub next_roomy : IsNextOf all all.next_roomy roomy
   pub next_gone : IsNextOf all all.next_gone gone
 
+-- A page is spare: it has a free place, and another one is filled before it.
+pub record IsSpare (all : Kinds) (number : ℕ) : Type 0 where
+  pub is_roomy : kind_of all number ≡ roomy
+  pub later : all.next_roomy ≢ Some number
+
 -- One page is of another kind then, and all others are what they were.
 pub record IsMoved (before after : Kinds) (number : ℕ) (kind : Kind) : Type 0 where
   pub known : AreKnown after

@@ -21,6 +21,14 @@ pub record HasFree (list : RecordList) : Type 0 where
   pub is_free : IsHeld (spot_at list place) → ⊥
   pub used : IsUsed list (page_of (per_of list.size) place)
 
+-- The page of a record is spare: it has a free place, and another page is filled before it.
+pub record IsSpare (list : RecordList) (place : ℕ) : Type 0 where
+  pub other : ℕ
+  pub within : other < length list.spots
+  pub is_free : IsHeld (spot_at list other) → ⊥
+  pub beside : page_of (per_of list.size) other ≡ page_of (per_of list.size) place
+  pub later : page_of (per_of list.size) list.next ≢ page_of (per_of list.size) place
+
 -- A record is removed: nothing stands at its place, and elsewhere what stood there.
 pub record IsRemoved (before after : RecordList) (place : ℕ) : Type 0 where
   pub size : after.size ≡ before.size

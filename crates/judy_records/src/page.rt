@@ -5,7 +5,7 @@ ghost use Rattle.std.specs.Prelude.{◌≡◌, ◌<◌, ◌≤◌, ◌+◌, ◌*
 ghost use Rattle.std.specs.Borrow.{sem};
 ghost use Rattle.judy_model.specs.Keys.{IsWord};
 ghost use Rattle.judy_records.specs.Texts.{words_of, words_for};
-ghost use Rattle.judy_records.specs.Spots.{free, held, IsHeld, IsNext, value_of, put_at};
+ghost use Rattle.judy_records.specs.Spots.{free, held, IsHeld, IsNext, value_of, text_of, put_at};
 ghost use Rattle.judy_records.specs.PageSpots.{spot_in, empty_page, with_spot_in, HasRoom, IsFull};
 
 use crate::record::Record;
@@ -66,6 +66,14 @@ impl Page {
             → IsWord (value_of (spot_in self.now place)) }
     {
         words::law(&self.words);
+    }
+
+    // Does nothing: it tells a proof that the text of a record takes as many words as each does.
+    pub fn text_law(&self, place: usize)
+        requires { IsHeld (spot_in self.now place) }
+        ensures { length (text_of (spot_in self.now place)) ≡ self.now.size }
+    {
+        let _size = self.size;
     }
 
     // The place that the next record takes: the first free one, or else the end.

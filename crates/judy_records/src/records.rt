@@ -1,11 +1,11 @@
 //! Records of one length, in pages.
 
-ghost use Rattle.std.specs.Prelude.{◌≡◌, ◌<◌, ◌≤◌, ◌+◌, ◌*◌, ◌^◌, ℕ, IsOk, IfOk, OnOk, OnErr, length, get_or, slice_set};
+ghost use Rattle.std.specs.Prelude.{◌≡◌, ◌<◌, ◌≤◌, ◌+◌, ◌*◌, ◌^◌, ◌↔◌, ℕ, IsTrue, IsOk, IfOk, OnOk, OnErr, length, get_or, slice_set};
 ghost use Rattle.std.specs.Borrow.{sem};
 ghost use Rattle.judy_model.specs.Keys.{IsWord};
 ghost use Rattle.judy_records.specs.Texts.{words_of, words_for, bytes_in};
 ghost use Rattle.judy_records.specs.Spots.{free, held, spot_at, IsHeld, IsNext, value_of, text_of, empty_list, with_spot, put_at};
-ghost use Rattle.judy_records.specs.Memory.{IsTight, HasFree, IsRemoved};
+ghost use Rattle.judy_records.specs.Memory.{IsTight, HasFree, IsSpare, IsRemoved};
 
 use crate::page::Page;
 use crate::page_steps::{begin, put_in, reopen, take_out_of};
@@ -83,6 +83,15 @@ impl Records {
         for page in &self.pages {
             page.values_law();
         }
+    }
+
+    /// Does nothing: it tells a caller's proof that the text of a record takes as many words as each does.
+    pub fn text_law(&self, place: usize)
+        requires { IsHeld (spot_at self.now place) }
+        ensures { length (text_of (spot_at self.now place)) ≡ self.now.size }
+    {
+        let (at, rest) = locate(self.shift, place);
+        self.pages[at].text_law(rest);
     }
 
     /// The value of the record at a place.
@@ -191,6 +200,18 @@ impl Records {
                 }
             },
         }
+    }
+
+    /// Whether the page of the record at a place is spare: it has a free place, and isn't the one that is filled next.
+    /// Then the record can go to another page, by `put` and `remove`, which asks for no memory. Where each record in a
+    /// spare page has gone so, one after another, at most one page has free places.
+    pub fn is_spare(&self, place: usize) -> bool
+        requires { IsHeld (spot_at self.now place) }
+        ensures spare { IsTrue result ↔ IsSpare self.now place }
+        ensures free { IsTrue result → HasFree self.now }
+    {
+        let (number, _) = locate(self.shift, place);
+        self.turns.is_spare(number)
     }
 
     /// Puts a record in the place of the one that stands there. Its text takes as many words as each does here. It asks

@@ -3,7 +3,7 @@
 //! the turn of the page that stands there. So each change is a few steps, and only a page that comes asks for memory.
 
 ghost use Rattle.std.specs.Prelude.{ℕ, ◌≡◌, ◌≢◌, ◌<◌, ◌≤◌, ◌+◌, None, Some, IsTrue, OnOk, OnErr, length, ◌↔◌};
-ghost use Rattle.judy_records.specs.Kinds.{full, roomy, gone, kind_of, first_of, no_kinds, AreKnown, IsMoved, IsLonger};
+ghost use Rattle.judy_records.specs.Kinds.{full, roomy, gone, kind_of, first_of, no_kinds, AreKnown, IsSpare, IsMoved, IsLonger};
 
 use std::alloc::{AllocError, Global};
 use std::marker::Model;
@@ -115,6 +115,15 @@ impl Turns {
             Some(page) => Some(page),
             None => self.next_gone(),
         }
+    }
+
+    // Whether a page is roomy, and isn't the one that is filled next.
+    pub fn is_spare(&self, page: usize) -> bool
+        requires { page < length self.now.kinds }
+        ensures { IsTrue result ↔ IsSpare self.now page }
+    {
+        let turn = self.row[page].turn;
+        self.full < turn && turn < self.standing
     }
 
     // A roomy page has become full.
