@@ -29,7 +29,8 @@ class Unbuilt(Exception):
 
 
 def find_text():
-    """The files of the library: of its compiled text the assembly, and in C what that asks of the system, what saves arrays, and what sorts lists."""
+    """The files of the library: of its compiled text the assembly, and in C what that asks of the system, what saves
+    arrays, and what sorts lists."""
     for folder, beside in (("compiled", "compiled"), ("../../compiled", "../c")):
         files = [os.path.join(HERE, path) for path in (f"{folder}/sellumaq.s", f"{folder}/system.c", f"{beside}/files.c", f"{beside}/unsorted.c")]
         if all(map(os.path.exists, files)):
@@ -104,7 +105,8 @@ def run(command):
 
 
 def objects_of(sources, room, compile_):
-    """The objects of sources, in a folder. The extension tells of them by their names, which are the same in each build."""
+    """The objects of sources, in a folder. The extension tells of them by their names, which are the same in each
+    build."""
     objects = [os.path.join(room, f"{os.path.basename(path)}.o") for path in sources]
     for path, made in zip(sources, objects):
         run([*compile_, "-c", path, "-o", made])

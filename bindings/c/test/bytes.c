@@ -1,4 +1,5 @@
-/* The arrays over byte strings by Sellumaq's own names, beside a table of keys: some zeros, and behind them a byte that isn't or none. */
+/* The arrays over byte strings by Sellumaq's own names, beside a table of keys: some zeros, and behind them a byte that
+ * isn't or none. */
 #include <string.h>
 
 #include "../sellumaq.h"

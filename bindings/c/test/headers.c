@@ -1,4 +1,5 @@
-/* Includes both headers as programs of any C and C++ do, those too that wrap all headers of C, and uses each form of a short form. */
+/* Includes both headers as programs of any C and C++ do, those too that wrap all headers of C, and uses each form of a
+ * short form. */
 #ifdef OWN
 static void told(const char *name, int number);
 #define JUDYERROR(file, line, name, number, place) { told(name, (int)(number)); (void)(file); (void)(line); (void)(place); }

@@ -1,4 +1,5 @@
-/* The arrays by HP's names. Compiled against either header, this project's or libJudy's own, it runs over Sellumaq's libJudy. */
+/* The arrays by HP's names. Compiled against either header, this project's or libJudy's own, it runs over Sellumaq's
+ * libJudy. */
 #include <Judy.h>
 
 #include <string.h>
@@ -135,8 +136,8 @@ static void byte_strings(void) {
     CHECK(JudyHSIns(&map, bytes, ~(Word_t)0, PJE0) == PPJERR && map == NULL);
 }
 
-/* Byte strings of any length: each key's bytes are the array's. What a delete leaves free is the next key's of that length; the last key of
- * a length gives all of it back, and so does the end of the array. */
+/* Byte strings of any length: each key's bytes are the array's. What a delete leaves free is the next key's of that
+ * length; the last key of a length gives all of it back, and so does the end of the array. */
 static void long_byte_strings(void) {
     enum { LONGEST = 100000 };
     static const Word_t lengths[] = {1024, 1025, 3542, LONGEST};

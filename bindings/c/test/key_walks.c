@@ -41,7 +41,8 @@ static void make_rows(uint8_t least, int (*order)(const void *, const void *)) {
         if (count == 0 || by_bytes(&rows[count - 1], &rows[place])) rows[count++] = rows[place];
 }
 
-/* What was told is what is listed from a place on, as much as the buffers have room for, and behind it nothing is written. */
+/* What was told is what is listed from a place on, as much as the buffers have room for, and behind it nothing is
+ * written. */
 static void compare(size_t place, const uint8_t *bytes, size_t room, const sellumaq_entry *entries, size_t capacity, size_t told) {
     size_t used = 0;
     for (size_t at = 0; at < told; at++, used += entries[at - 1].length) {

@@ -1,4 +1,5 @@
-/* The calls on strings and byte strings that put a value in or take a key out and tell the value that was there, beside a table of keys. */
+/* The calls on strings and byte strings that put a value in or take a key out and tell the value that was there, beside
+ * a table of keys. */
 #include <string.h>
 
 #include "../sellumaq.h"

@@ -1,5 +1,5 @@
-/* Dumps, loads, saves and opens that are refused memory, at each of their calls for it: the array and the file are as they were, and nothing is kept.
- * And texts that say large numbers, for which no memory is asked. */
+/* Dumps, loads, saves and opens that are refused memory, at each of their calls for it: the array and the file are as
+ * they were, and nothing is kept. And texts that say large numbers, for which no memory is asked. */
 #define _DEFAULT_SOURCE
 #include <errno.h>
 #include <unistd.h>
@@ -10,7 +10,8 @@ extern void *__libc_malloc(size_t size);
 extern void *__libc_realloc(void *block, size_t size);
 extern void __libc_free(void *block);
 
-/* The blocks that are held, the bytes that were asked for, and how many calls are answered before each later one is refused; none is for -1. */
+/* The blocks that are held, the bytes that were asked for, and how many calls are answered before each later one is
+ * refused; none is for -1. */
 static long held, answered = -1;
 static size_t asked;
 
@@ -83,7 +84,8 @@ static uint32_t measure(const kind *kind, handle *array, text whole, const char 
     return told;
 }
 
-/* Refuses one call for memory more late each time, until it is done; answers how often it was refused. The array holds `keys` keys before. */
+/* Refuses one call for memory more late each time, until it is done; answers how often it was refused. The array holds
+ * `keys` keys before. */
 static int refuse(call *made, const kind *kind, unsigned keys, text whole, const char *path) {
     for (int turn = 0;; turn++) {
         handle array = filled(kind, keys);

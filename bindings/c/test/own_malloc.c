@@ -1,5 +1,6 @@
-/* A program that has a malloc of its own, of the four functions that the C library asks for and no more, as programs with
- * an arena have. What stands before a block is none of the C library's, so a call that reads a size there goes astray. */
+/* A program that has a malloc of its own, of the four functions that the C library asks for and no more, as programs
+ * with an arena have. What stands before a block is none of the C library's, so a call that reads a size there goes
+ * astray. */
 #include <Judy.h>
 
 #include <string.h>

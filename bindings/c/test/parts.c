@@ -1,5 +1,5 @@
-/* Parts of sets and maps that are copied, moved, put in and turned, and lists in any order, beside lists that are sorted here: none, dense ones,
- * runs, and words far apart. Memory is refused at each call for it. */
+/* Parts of sets and maps that are copied, moved, put in and turned, and lists in any order, beside lists that are
+ * sorted here: none, dense ones, runs, and words far apart. Memory is refused at each call for it. */
 #include "../sellumaq.h"
 #include "check.h"
 #include "refusing.h"
@@ -134,7 +134,8 @@ static void change(enum call call, list *one, list *other, uint64_t from, uint64
     sort(other);
 }
 
-/* Makes a call over sets and over maps, with so many calls for memory answered; tells how many of the two were refused. */
+/* Makes a call over sets and over maps, with so many calls for memory answered; tells how many of the two were
+ * refused. */
 static int try_once(enum call call, const list old[2], const list made[2], uint64_t from, uint64_t to, size_t count, long calls) {
     sellumaq_judy1 sets[2];
     sellumaq_judyl maps[2];
@@ -158,7 +159,8 @@ static int try_once(enum call call, const list old[2], const list made[2], uint6
     return (of_set != SELLUMAQ_DONE) + (of_map != SELLUMAQ_DONE);
 }
 
-/* The same with no call for memory refused, and then with the first one and each later one, the second one, and so on. */
+/* The same with no call for memory refused, and then with the first one and each later one, the second one, and so
+ * on. */
 static void try_call(enum call call, const list old[2], uint64_t from, uint64_t to, size_t count, bool refuse) {
     static list made[2];
     for (int at = 0; at < 2; at++) made[at] = old[at];

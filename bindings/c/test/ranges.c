@@ -1,5 +1,5 @@
-/* Ranges of sets and maps: how many of their words are no keys, and keys taken out of copies, beside what a look-up of each key tells. Memory is
- * refused to some of the calls. */
+/* Ranges of sets and maps: how many of their words are no keys, and keys taken out of copies, beside what a look-up of
+ * each key tells. Memory is refused to some of the calls. */
 #include "../sellumaq.h"
 #include "check.h"
 #include "refusing.h"

@@ -1,4 +1,5 @@
-/* A first insert into a handle of zeros that is refused memory, at each of its calls for memory: the handle is zeros again, and nothing is kept. */
+/* A first insert into a handle of zeros that is refused memory, at each of its calls for memory: the handle is zeros
+ * again, and nothing is kept. */
 #include "../sellumaq.h"
 #include "check.h"
 #include "refusing.h"
@@ -66,7 +67,8 @@ static uint64_t judyl_free(void *handle) { return sellumaq_judyl_free(handle); }
 static uint64_t judysl_free(void *handle) { return sellumaq_judysl_free(handle); }
 static uint64_t judyhs_free(void *handle) { return sellumaq_judyhs_free(handle); }
 
-/* Strings that don't ascend are told as such where there is no memory for a list of them, and else that there is none. */
+/* Strings that don't ascend are told as such where there is no memory for a list of them, and else that there is
+ * none. */
 static void from_sorted(void) {
     sellumaq_judysl map = {0};
     sellumaq_entry entries[3] = {{1, 0}, {1, 0}, {1, 0}};

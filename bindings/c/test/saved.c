@@ -1,5 +1,5 @@
-/* Arrays as bytes and in files: what a dump is, what a load makes of each other text, and what a save leaves. `saved FOLDER` leaves dumps there,
- * KIND-COUNT.FORMAT, for judystore to read. */
+/* Arrays as bytes and in files: what a dump is, what a load makes of each other text, and what a save leaves. `saved
+ * FOLDER` leaves dumps there, KIND-COUNT.FORMAT, for judystore to read. */
 #define _DEFAULT_SOURCE
 #include <errno.h>
 #include <signal.h>
@@ -125,7 +125,8 @@ static void round_trips(const kind *kind, unsigned count) {
     kind->free(&other);
 }
 
-/* A text with a changed byte is another whole array, which is dumped to these very bytes, but for the limit; or it has a fault. */
+/* A text with a changed byte is another whole array, which is dumped to these very bytes, but for the limit; or it has
+ * a fault. */
 static void try_changed(const kind *kind, const uint8_t *bytes, size_t count, handle *other) {
     uint8_t again[1024];
     size_t name = bytes[8], limit = 8 + 1 + name + 1, size = 0;
@@ -161,8 +162,8 @@ static void changed_texts(const kind *kind, uint32_t format) {
 #define ONE "00000001 01 61 "
 #define LIMIT "00000000ffffffff "
 
-/* Texts with each fault, and the first in the order of their fields. What stands behind the kind is read of an array of that kind alone: `kind` is its
- * number, or 0 where the fault comes before. */
+/* Texts with each fault, and the first in the order of their fields. What stands behind the kind is read of an array of
+ * that kind alone: `kind` is its number, or 0 where the fault comes before. */
 static const struct {
     uint32_t fault;
     uint32_t kind;
@@ -313,7 +314,8 @@ static void opened_files(const kind *kind) {
     kind->free(&other);
 }
 
-/* A file that another process cuts and writes while it is loaded spoils the load at most: it is refused, or what was read is an array. */
+/* A file that another process cuts and writes while it is loaded spoils the load at most: it is refused, or what was
+ * read is an array. */
 static void cut_files(const kind *kind) {
     handle array = filled(kind, 20000), other = { NULL };
     text whole = dumped(kind, &array, 2);

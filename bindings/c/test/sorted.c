@@ -55,8 +55,8 @@ enum { STRINGS = 800, BYTES = STRINGS * 40 };
 static uint8_t bytes[BYTES], told_bytes[BYTES];
 static sellumaq_entry entries[STRINGS], told_entries[STRINGS + 1];
 
-/* Strings that ascend: numbers of eight digits with some bytes before and behind them, of which many begin alike. The answer is how many
- * bytes they have. */
+/* Strings that ascend: numbers of eight digits with some bytes before and behind them, of which many begin alike. The
+ * answer is how many bytes they have. */
 static size_t make_strings(int front, int behind) {
     size_t used = 0;
     for (size_t at = 0; at < STRINGS; at++) {

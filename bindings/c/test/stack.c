@@ -1,4 +1,5 @@
-/* How much stack the calls take: arrays of each kind are filled, read and emptied on a thread whose stack is painted first. What is no longer paint was used. */
+/* How much stack the calls take: arrays of each kind are filled, read and emptied on a thread whose stack is painted
+ * first. What is no longer paint was used. */
 #define _GNU_SOURCE
 #include "../sellumaq.h"
 #include "check.h"
@@ -56,7 +57,8 @@ static void *maps(void *dense) {
     return NULL;
 }
 
-/* Writes a string to the text: of up to 40 bytes, or as long as can be, which then begins as all others do. Answers how long it is. */
+/* Writes a string to the text: of up to 40 bytes, or as long as can be, which then begins as all others do. Answers how
+ * long it is. */
 static size_t string(const void *longest) {
     size_t length = longest ? LONGEST : 1 + any() % 40;
     for (size_t at = 0; at < length; at++) text[at] = longest && at < 1000 ? 'a' : 1 + any() % 255;

@@ -1,4 +1,5 @@
-/* Steps through the arrays of all kinds by HP's names, each told in a line: linked against HP's libJudy, it tells the same over Sellumaq's. */
+/* Steps through the arrays of all kinds by HP's names, each told in a line: linked against HP's libJudy, it tells the
+ * same over Sellumaq's. */
 #include <Judy.h>
 
 #include <string.h>

@@ -1,5 +1,5 @@
-/* What is told of two maps of strings, what is made of them, copies, and ranges and beginnings that go, beside what a look-up of each key tells.
- * Memory is refused at each call for it. */
+/* What is told of two maps of strings, what is made of them, copies, and ranges and beginnings that go, beside what a
+ * look-up of each key tells. Memory is refused at each call for it. */
 #include <string.h>
 
 #include "../sellumaq.h"
@@ -115,7 +115,8 @@ static void compare_made(keeps *keeps, const sellumaq_judysl *one, const selluma
     CHECK(sellumaq_judysl_len(made) == count);
 }
 
-/* Makes each result in place of what a map holds, with the first call for memory refused and each later one, then the second, and so on. */
+/* Makes each result in place of what a map holds, with the first call for memory refused and each later one, then the
+ * second, and so on. */
 static void make(const sellumaq_judysl *one, const sellumaq_judysl *other, bool refuse) {
     for (size_t at = 0; at < sizeof operations / sizeof *operations; at++) {
         uint32_t told = SELLUMAQ_NO_MEMORY;

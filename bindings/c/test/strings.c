@@ -35,7 +35,8 @@ static uint64_t count_held(void) { return held_between(0, STRINGS); }
 
 typedef uint32_t scan(const sellumaq_judysl *map, uint8_t *buffer, size_t capacity, size_t *length, uint64_t *value);
 
-/* Whether a scan from a string of the table answers another one, or, for -1, that there is none; and writes nothing but that. */
+/* Whether a scan from a string of the table answers another one, or, for -1, that there is none; and writes nothing but
+ * that. */
 static bool told(scan *call, sellumaq_judysl *map, int from, int place) {
     uint8_t buffer[LONGEST + 1];
     size_t length = length_of(from), found = place < 0 ? length : length_of(place);
@@ -51,8 +52,8 @@ static bool told(scan *call, sellumaq_judysl *map, int from, int place) {
     return call(map, buffer, found - 1, &length, &value) == SELLUMAQ_TOO_SMALL && length == length_of(from) && !memcmp(buffer, strings[from], length);
 }
 
-/* What stands in a buffer that any key fits: a string of the table, and behind it other bytes. A scan leaves the key that it finds, and behind that what
- * was there. */
+/* What stands in a buffer that any key fits: a string of the table, and behind it other bytes. A scan leaves the key
+ * that it finds, and behind that what was there. */
 static void begin_with(uint8_t *buffer, int place) {
     memset(buffer, '~', SELLUMAQ_KEY_BYTES);
     memcpy(buffer, strings[place], length_of(place));

@@ -4,7 +4,8 @@
 
 enum { MOST_KEYS = 3000 };
 
-/* Whether a set is part of another, apart from it or the same, by look-ups, with the number of the keys that both have. */
+/* Whether a set is part of another, apart from it or the same, by look-ups, with the number of the keys that both
+ * have. */
 typedef struct {
     uint64_t common;
     bool subset, disjoint, same;
@@ -58,7 +59,8 @@ static const struct {
     { sellumaq_judy1_symmetric_difference, sellumaq_judyl_symmetric_difference, in_symmetric_difference },
 };
 
-/* Compares the keys of one of two arrays with a result, and in a map their values: the one's, where it has the key. How many of them are kept. */
+/* Compares the keys of one of two arrays with a result, and in a map their values: the one's, where it has the key. How
+ * many of them are kept. */
 static uint64_t compare_kept(keeps *kept, bool first, const sellumaq_judy1 sets[2], const sellumaq_judyl maps[2], const sellumaq_judy1 *set, const sellumaq_judyl *map) {
     uint64_t key = 0, count = 0, value = 0, wanted = 0;
     const sellumaq_judy1 *walked = &sets[!first];

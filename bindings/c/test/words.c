@@ -1,5 +1,5 @@
-/* The arrays of words by Sellumaq's own names, beside a table of 256 places: keys are drawn from few words, so that each call meets keys
- * and gaps. */
+/* The arrays of words by Sellumaq's own names, beside a table of 256 places: keys are drawn from few words, so that
+ * each call meets keys and gaps. */
 #include <string.h>
 
 #include "../sellumaq.h"
@@ -51,7 +51,8 @@ static void walks(sellumaq_judy1 *set, sellumaq_judyl *map, int from, size_t cap
     for (size_t n = count; n <= WORDS; n++) CHECK(keys[n] == beyond && pairs[n].key == beyond && pairs[n].value == beyond);
 }
 
-/* Whether many keys from a place on, an odd number of them, are looked up as each by itself, and nothing is written behind them. */
+/* Whether many keys from a place on, an odd number of them, are looked up as each by itself, and nothing is written
+ * behind them. */
 static void looks(sellumaq_judy1 *set, sellumaq_judyl *map, int from, size_t count, size_t capacity) {
     uint64_t keys[WORDS] = {0};
     sellumaq_found found[WORDS + 1];

@@ -1,5 +1,5 @@
-"""Judy arrays: sets and dicts of 64-bit words, and dicts from strings and byte strings to words, kept by libsellumaq, whose every call is
-proved to answer as a plain finite set or map does.
+"""Judy arrays: sets and dicts of 64-bit words, and dicts from strings and byte strings to words, kept by libsellumaq,
+whose every call is proved to answer as a plain finite set or map does.
 
     >>> squares = JudyL({n * n: n for n in range(1, 6)})
     >>> squares[16]
@@ -10,13 +10,14 @@ proved to answer as a plain finite set or map does.
     >>> list(ages.range("B"))
     ['Grace']
 
-`Judy1` is used as a set is, `JudyL` as a dict is, whose keys and values are ints from 0 to 2**64 - 1; both hold their keys in order.
-`JudySL` is an ordered dict from strings to such ints: a key is a str without "\\0" of at most 1,024 bytes in UTF-8. `JudyHS` has no order,
-and its keys are any str. `JudySLBytes` and `JudyHSBytes` are the same with bytes as keys.
+`Judy1` is used as a set is, `JudyL` as a dict is, whose keys and values are ints from 0 to 2**64 - 1; both hold their
+keys in order. `JudySL` is an ordered dict from strings to such ints: a key is a str without "\\0" of at most 1,024
+bytes in UTF-8. `JudyHS` has no order, and its keys are any str. `JudySLBytes` and `JudyHSBytes` are the same with bytes
+as keys.
 
-`BINDING` says by what: `extension`, which has the library in it, or `ctypes`, where that wasn't built. Then the library is found as
-libsellumaq.so.1, or where the environment's SELLUMAQ_LIBRARY names its file; SELLUMAQ_BINDING names the one that is wanted. Threads may share
-an array: each call is whole before another begins.
+`BINDING` says by what: `extension`, which has the library in it, or `ctypes`, where that wasn't built. Then the library
+is found as libsellumaq.so.1, or where the environment's SELLUMAQ_LIBRARY names its file; SELLUMAQ_BINDING names the one
+that is wanted. Threads may share an array: each call is whole before another begins.
 """
 
 from ._core import BINDING, MAX, MAX_KEY

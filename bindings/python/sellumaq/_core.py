@@ -1,4 +1,5 @@
-"""Which types the arrays stand on: those of the extension, or, where it wasn't built or SELLUMAQ_BINDING is `ctypes`, those of the fallback."""
+"""Which types the arrays stand on: those of the extension, or, where it wasn't built or SELLUMAQ_BINDING is `ctypes`,
+those of the fallback."""
 
 import os
 from typing import TYPE_CHECKING

@@ -1,5 +1,5 @@
-"""The types of the extension over the shared library, by ctypes. Its calls are made under the GIL (`PyDLL`), so each is whole before another thread
-goes on, or a signal handler runs.
+"""The types of the extension over the shared library, by ctypes. Its calls are made under the GIL (`PyDLL`), so each is
+whole before another thread goes on, or a signal handler runs.
 """
 
 from __future__ import annotations
@@ -124,7 +124,8 @@ def _holds(view, items):
 
 
 def _lent(items, width):
-    """The words of a buffer of them, a list or a table of two columns, as ctypes has them; None where the object has no such buffer."""
+    """The words of a buffer of them, a list or a table of two columns, as ctypes has them; None where the object has no
+    such buffer."""
     try:
         with memoryview(items) as view:
             if _holds(view, _WORDS) and view.c_contiguous and view.ndim == width and view.shape[1:] in ((), (2,)):
@@ -230,7 +231,8 @@ class _Array:
         self._change("free")
 
     def tobytes(self, *, name="array", format=2):
-        """The dump of the array, in the format JDY2 or JDY1, as judystore, C and Rust read it too. ValueError where none can say it."""
+        """The dump of the array, in the format JDY2 or JDY1, as judystore, C and Rust read it too. ValueError where
+        none can say it."""
         form, size, told = whole(format), ctypes.c_size_t(), _TOO_SMALL
         if form not in (1, 2):
             raise _refused(_BAD_FORMAT)
@@ -244,8 +246,8 @@ class _Array:
         return ctypes.string_at(text, size.value)
 
     def frombytes(self, lent, /):
-        """Replaces what the array holds by that of a dump, of either format, which may be any buffer. ValueError names the fault of one that is none;
-        the array is as it was then."""
+        """Replaces what the array holds by that of a dump, of either format, which may be any buffer. ValueError names
+        the fault of one that is none; the array is as it was then."""
         with memoryview(lent) as view:
             if not view.c_contiguous:
                 raise BufferError("the bytes of the buffer don't stand in a row")
@@ -253,8 +255,8 @@ class _Array:
         self._load("load", dump, len(dump))
 
     def save(self, path, /):
-        """Saves the array to a file, as `tobytes` tells it, in place of an old one, at once: a file beside takes its name when the disk has it.
-        OSError where the system refuses that; the old file is as it was."""
+        """Saves the array to a file, as `tobytes` tells it, in place of an old one, at once: a file beside takes its
+        name when the disk has it. OSError where the system refuses that; the old file is as it was."""
         path = os.fspath(path)
         told = self._calls["save"](self._handle, _path(path))
         if told != _DONE:
@@ -288,7 +290,8 @@ class _Array:
         return all(getattr(other, name, None) is getattr(self, name, None) for name in ("_calls", "_objects"))
 
     def _become_of(self, call, *others):
-        """Makes the array what a call makes of others. What the array becomes it becomes by one call, so that no thread finds it half made."""
+        """Makes the array what a call makes of others. What the array becomes it becomes by one call, so that no thread
+        finds it half made."""
         if not all(map(self._is_like, others)):
             raise TypeError("not an array of this kind")
         handles, made = [other._handle for other in others], _Handle()
@@ -361,7 +364,8 @@ class _Words(_Array):
         return found.value if self._calls[name](self._handle, word, found) else None
 
     def _within(self, name, number):
-        """A search from a number on, or down; one past the words' end on its own side finds nothing, past the other one all."""
+        """A search from a number on, or down; one past the words' end on its own side finds nothing, past the other one
+        all."""
         word, down = whole(number), name.startswith("last")
         if (word < 0) if down else (word > MAX):
             return None
@@ -469,7 +473,8 @@ class WordSet(_Words):
             raise KeyError(key)
 
     def contains_many(self, keys, /, out=None):
-        """Whether each of the keys of an iterable is there, in a list; or in a buffer of bytes, and then how many are."""
+        """Whether each of the keys of an iterable is there, in a list; or in a buffer of bytes, and then how many
+        are."""
         if out is None:
             return [WordSet.__contains__(self, key) for key in keys]
         keys, out = _two_lists(keys, out, _BYTES, True)
@@ -574,7 +579,8 @@ class WordMap(_Words, _Map):
             self._become_of("union", other, self)
 
     def get_many(self, keys, /, out=None):
-        """The values of the keys of an iterable, in a list, with None where one isn't there; or in a buffer, and then how many are there."""
+        """The values of the keys of an iterable, in a list, with None where one isn't there; or in a buffer, and then
+        how many are there."""
         if out is None:
             return [WordMap.get(self, key) for key in keys]
         (keys, out), value, count = _two_lists(keys, out, _WORDS, True), _word(), 0
@@ -689,8 +695,8 @@ class _Bytes:
 
 
 def _could_be_key(string):
-    """The longest beginning of bytes that can be a key of a JudySL, and whether it is all of them. Where it isn't, no key lies between the
-    two: the bytes go on with a zero, or are more than a key has."""
+    """The longest beginning of bytes that can be a key of a JudySL, and whether it is all of them. Where it isn't, no
+    key lies between the two: the bytes go on with a zero, or are more than a key has."""
     key = string[:MAX_KEY].partition(b"\0")[0]
     return key, len(key) == len(string)
 
@@ -850,7 +856,8 @@ class _Hash(_Strings):
         self._ahead = _NONE
 
     def popitem(self):
-        """Takes out a pair, which may be any, and answers it; KeyError where the dict is empty. Keys are listed an eighth of them at a time."""
+        """Takes out a pair, which may be any, and answers it; KeyError where the dict is empty. Keys are listed an
+        eighth of them at a time."""
         while count := _Array.__len__(self):
             key = next(getattr(self, "_ahead", _NONE), _MISSING)
             if key is _MISSING:

@@ -21,7 +21,8 @@ def from_dump(kind: type, dump: bytes) -> Any:
 
 
 def reduced(array: Any, items: Callable[[Any], Any]) -> Any:
-    """What a pickle has of an array: its dump; or, where none can say it, as of byte strings of more than 1,024 bytes, its items."""
+    """What a pickle has of an array: its dump; or, where none can say it, as of byte strings of more than 1,024 bytes,
+    its items."""
     attributes = getattr(array, "__dict__", None) or None
     try:
         return from_dump, (type(array), array.tobytes()), attributes
@@ -136,7 +137,8 @@ class Copied:
 
 
 class Joined(Copied):
-    """The same of dicts in order, by the calls of C over two arrays of the type `_alike`; `_all` are the bounds of a walk through one."""
+    """The same of dicts in order, by the calls of C over two arrays of the type `_alike`; `_all` are the bounds of a
+    walk through one."""
 
     _alike: type[Any]
     _all: tuple[Any, Any]

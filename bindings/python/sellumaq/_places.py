@@ -10,7 +10,8 @@ from . import _views
 from ._core import ITEMS
 from ._maps import pairs_of
 
-# Of a slice that takes one key in so many, or more, each key is looked up by its place; of others those between are walked over.
+# Of a slice that takes one key in so many, or more, each key is looked up by its place; of others those between are
+# walked over.
 FAR = 16
 
 
@@ -58,7 +59,8 @@ class Placed:
         return self._at(n)
 
     def bisect(self, key: Any) -> int:
-        """How many keys there are up to a number or a string; `bisect_right` is the same, and `bisect_left` leaves that out.
+        """How many keys there are up to a number or a string; `bisect_right` is the same, and `bisect_left` leaves that
+        out.
 
         >>> from sellumaq import Judy1
         >>> some = Judy1([10, 20, 30])
@@ -99,7 +101,8 @@ class PlacedDict(Placed):
 
     @classmethod
     def from_sorted(cls, pairs: Iterable[Any], /) -> Any:
-        """A dict of pairs whose keys strictly ascend, made at once; ValueError at the first key that isn't above the one before it.
+        """A dict of pairs whose keys strictly ascend, made at once; ValueError at the first key that isn't above the
+        one before it.
 
         >>> from sellumaq import JudyL, JudySL
         >>> JudyL.from_sorted((n, n * n) for n in range(1, 4)), JudySL.from_sorted({"a": 1, "ab": 2})
@@ -162,7 +165,8 @@ class PlacedDict(Placed):
         return self._pair_at(place if last is None else -int(bool(last)))
 
     def popitem(self, place: int = -1, *, last: bool | None = None) -> tuple[Any, int]:
-        """Takes out the pair at a place, or the last or the first one; KeyError where the dict is empty, IndexError where there is none.
+        """Takes out the pair at a place, or the last or the first one; KeyError where the dict is empty, IndexError
+        where there is none.
 
         >>> from sellumaq import JudyL
         >>> pairs = JudyL({1: 2, 3: 4, 5: 6})

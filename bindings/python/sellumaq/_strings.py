@@ -13,7 +13,8 @@ from ._places import PlacedDict
 
 
 class _Text:
-    """Keys that are str. C sees them in UTF-8, surrogates too, so that each has bytes of its own and these are in the order of the strings."""
+    """Keys that are str. C sees them in UTF-8, surrogates too, so that each has bytes of its own and these are in the
+    order of the strings."""
 
     @staticmethod
     def _encoded(key: str) -> bytes:
@@ -94,7 +95,8 @@ class _Ordered(PlacedDict, Joined, _Strings):
         return (key for key in keys if key not in out) if out else keys
 
     def discard_range(self, start: Any = None, stop: Any = None) -> int:
-        """Takes the keys from start on and below stop out, and answers how many they were. It can't want memory, but for the two strings.
+        """Takes the keys from start on and below stop out, and answers how many they were. It can't want memory, but
+        for the two strings.
 
         >>> from sellumaq import JudySL
         >>> ages = JudySL(a=1, b=2, c=3)
@@ -181,8 +183,8 @@ class JudySLBytes(_core.BytesMap, _Bytes, _Ordered):
 
 
 class _Unordered(Copied, _Strings):
-    """What both kinds of JudyHS have alike. A walk lists all keys at its beginning, by their lengths, and those of one length by their
-    bytes; what becomes of the dict then is none of its concern."""
+    """What both kinds of JudyHS have alike. A walk lists all keys at its beginning, by their lengths, and those of one
+    length by their bytes; what becomes of the dict then is none of its concern."""
 
     def __iter__(self) -> Iterator[Any]:
         return iter(self._list(KEYS))

@@ -51,7 +51,8 @@ class _Ordered:
 
     @staticmethod
     def _bounds(start: SupportsIndex | None, stop: SupportsIndex | None) -> tuple[int, int]:
-        """The words from start on and below stop, as C takes them: from the first to the last. Where there are none the first is above the last."""
+        """The words from start on and below stop, as C takes them: from the first to the last. Where there are none the
+        first is above the last."""
         low = 0 if start is None else max(whole(start), 0)
         high = MAX if stop is None else min(whole(stop) - 1, MAX)
         return (low, high) if low <= high else (1, 0)
@@ -67,7 +68,8 @@ class _Ordered:
         return self._remove_range(*self._bounds(start, stop))
 
     def retain_range(self, start: SupportsIndex | None = None, stop: SupportsIndex | None = None) -> int:
-        """Takes all keys out but those from start on and below stop, and answers how many they were. It can't want memory.
+        """Takes all keys out but those from start on and below stop, and answers how many they were. It can't want
+        memory.
 
         >>> from sellumaq import Judy1
         >>> some = Judy1([10, 20, 30])
@@ -77,8 +79,8 @@ class _Ordered:
         return self._keep_range(*self._bounds(start, stop))
 
     def keys_array(self, out: Any = None) -> Any:
-        """All keys in order, as an array of 64-bit words; or written to the front of `out`, a buffer of such words, and then how many these are. It is
-        a ValueError where that hasn't room for all, and nothing is written.
+        """All keys in order, as an array of 64-bit words; or written to the front of `out`, a buffer of such words, and
+        then how many these are. It is a ValueError where that hasn't room for all, and nothing is written.
 
         >>> from sellumaq import Judy1
         >>> Judy1([30, 10, 20]).keys_array()
@@ -131,7 +133,8 @@ class Judy1(_core.WordSet, _Ordered, Placed, MutableSet, Sequence):
 
     @classmethod
     def from_sorted(cls, keys: Iterable[SupportsIndex], /) -> Judy1:
-        """A set of keys that strictly ascend, made at once; ValueError at the first one that isn't above the one before it.
+        """A set of keys that strictly ascend, made at once; ValueError at the first one that isn't above the one before
+        it.
 
         >>> Judy1.from_sorted(range(10, 40, 10))
         Judy1([10, 20, 30])
@@ -326,8 +329,8 @@ class Judy1(_core.WordSet, _Ordered, Placed, MutableSet, Sequence):
         return (low, high) if low <= high else (1, 0)
 
     def insert_range(self, start: SupportsIndex, stop: SupportsIndex) -> int:
-        """Puts the words from start on and below stop in, and answers how many were absent. MemoryError where there is no memory for them; the set
-        is as it was then.
+        """Puts the words from start on and below stop in, and answers how many were absent. MemoryError where there is
+        no memory for them; the set is as it was then.
 
         >>> some = Judy1([10])
         >>> some.insert_range(9, 12), some
@@ -336,7 +339,8 @@ class Judy1(_core.WordSet, _Ordered, Placed, MutableSet, Sequence):
         return self._put_range(*self._words(start, stop))
 
     def flip_range(self, start: SupportsIndex, stop: SupportsIndex) -> None:
-        """Takes the keys from start on and below stop out, and puts the other words in. MemoryError as of `insert_range`.
+        """Takes the keys from start on and below stop out, and puts the other words in. MemoryError as of
+        `insert_range`.
 
         >>> some = Judy1([10])
         >>> some.flip_range(9, 12); some
@@ -444,8 +448,9 @@ class JudyL(_core.WordMap, _Ordered, PlacedDict, Joined, Dict):
 
     @classmethod
     def from_sorted(cls, pairs: Any, values: Any = None, /) -> JudyL:
-        """A dict of pairs whose keys strictly ascend, made at once; ValueError at the first key that isn't above the one before it. The pairs are any
-        iterable, or a buffer of 64-bit words with two columns; or the keys are one buffer of such words, and the values another.
+        """A dict of pairs whose keys strictly ascend, made at once; ValueError at the first key that isn't above the
+        one before it. The pairs are any iterable, or a buffer of 64-bit words with two columns; or the keys are one
+        buffer of such words, and the values another.
 
         >>> from array import array
         >>> JudyL.from_sorted([(1, 10), (2, 20)]), JudyL.from_sorted(array("Q", [1, 2]), array("Q", [10, 20]))
@@ -458,7 +463,8 @@ class JudyL(_core.WordMap, _Ordered, PlacedDict, Joined, Dict):
         return made
 
     def update(self, other: Any = (), values: Any = None, /, **more: int) -> None:
-        """Puts pairs in, as dict's does; or those of a buffer of keys and one of values. An error leaves those before it.
+        """Puts pairs in, as dict's does; or those of a buffer of keys and one of values. An error leaves those before
+        it.
 
         >>> from array import array
         >>> squares = JudyL({1: 1})

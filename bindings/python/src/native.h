@@ -1,8 +1,8 @@
 /* What the files of the extension share.
  *
- * Each call of the library is made under the GIL, and between its first and its last instruction no Python code runs: what may run
- * some (`__index__`, a buffer, a collection of garbage) comes before the handle is touched or after. So a thread, a signal handler or a
- * finalizer finds each array between two calls.
+ * Each call of the library is made under the GIL, and between its first and its last instruction no Python code runs:
+ * what may run some (`__index__`, a buffer, a collection of garbage) comes before the handle is touched or after. So a
+ * thread, a signal handler or a finalizer finds each array between two calls.
  */
 #ifndef SELLUMAQ_NATIVE_H
 #define SELLUMAQ_NATIVE_H
@@ -29,7 +29,8 @@ typedef struct {
     uint64_t all;  /* how often that happened, or a value was replaced */
 } Changes;
 
-/* A method's docstring, which Python reads the signature from: what the call does, and an example, which the tests run. */
+/* A method's docstring, which Python reads the signature from: what the call does, and an example, which the tests
+ * run. */
 #define DOC(signature, text, example) signature "\n--\n\n" text "\n\n" example
 
 /* What a cursor gives of a key. */
@@ -42,8 +43,8 @@ typedef struct {
 
 /* module.c */
 
-/* The state of a type's module; NULL with an error set where a collection of garbage has taken that away, which may be before it frees the
- * last method of the type. */
+/* The state of a type's module; NULL with an error set where a collection of garbage has taken that away, which may be
+ * before it frees the last method of the type. */
 Module *state_of(PyTypeObject *type);
 
 /* convert.c */
@@ -87,14 +88,16 @@ bool has_default(const char *name, Py_ssize_t count, Py_ssize_t most);
 /* The one array that a method is given, of the type that has the method; NULL with an error set where it is none. */
 PyObject *read_array(PyTypeObject *type, PyObject *const *arguments, Py_ssize_t count, PyObject *keywords);
 
-/* A pair, which is any iterable of two objects, as a tuple; ValueError where it has another number of them, as of dict. */
+/* A pair, which is any iterable of two objects, as a tuple; ValueError where it has another number of them, as of
+ * dict. */
 PyObject *make_pair(PyObject *object);
 
-/* Whether an iterator is one of Python's own, or a cursor: a step of it runs no code of others, so nobody can see how far it is. A collection of
- * garbage may run some, which may as well come before the first step. */
+/* Whether an iterator is one of Python's own, or a cursor: a step of it runs no code of others, so nobody can see how
+ * far it is. A collection of garbage may run some, which may as well come before the first step. */
 bool is_plain_iterator(PyObject *each);
 
-/* A list with room for so many objects of a size, in the place of another, which may be NULL; NULL where there is no memory, and the list stays. */
+/* A list with room for so many objects of a size, in the place of another, which may be NULL; NULL where there is no
+ * memory, and the list stays. */
 void *make_room(void *list, size_t *room, size_t needed, size_t size);
 
 /* ValueError for the key at this place. */
@@ -120,7 +123,8 @@ PyObject *save_array(const Handle *handle, const SavedCalls *calls, PyObject *pa
 bool load_array(const SavedCalls *calls, PyObject *lent, Handle *made);
 bool open_array(const SavedCalls *calls, PyObject *path, Handle *made);
 
-/* The methods of sets and maps by these. An example's line `sample` makes `array`, whose dump has so many bytes in the format JDY1. */
+/* The methods of sets and maps by these. An example's line `sample` makes `array`, whose dump has so many bytes in the
+ * format JDY1. */
 #define SAVED_METHODS(type, sample, array, size) \
     {"tobytes", (PyCFunction)(void (*)(void))type##_tobytes, METH_VARARGS | METH_KEYWORDS, \
      DOC("tobytes($self, /, *, name='array', format=2)", \

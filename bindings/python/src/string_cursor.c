@@ -50,7 +50,8 @@ size_t could_be_key(const uint8_t *bytes, size_t length)
     return zero ? (size_t)(zero - bytes) : most;
 }
 
-/* Puts the cursor at the longest beginning of its bound that can be a key. Going up, where that isn't all of it, it is before the bound. */
+/* Puts the cursor at the longest beginning of its bound that can be a key. Going up, where that isn't all of it, it is
+ * before the bound. */
 static void begin(Cursor *self, PyObject *bound)
 {
     char *bytes = NULL;

@@ -48,7 +48,8 @@ static bool gather(Gathered *gathered, const Key *key, uint64_t value)
     return true;
 }
 
-/* Makes the map one of what was gathered, and answers as the library does; unless it is SELLUMAQ_ADDED the map is as it was. */
+/* Makes the map one of what was gathered, and answers as the library does; unless it is SELLUMAQ_ADDED the map is as it
+ * was. */
 static uint32_t make(Strings *self, const Gathered *gathered)
 {
     static const uint8_t no_bytes;
@@ -163,8 +164,8 @@ static bool gather_plain(const Strings *self, Gathered *gathered, PyObject *obje
     return gathers;
 }
 
-/* Puts in what was gathered: at once into an empty map, if there is memory for that, else one by one, up to a key that there is none for. False
- * with an error set then. */
+/* Puts in what was gathered: at once into an empty map, if there is memory for that, else one by one, up to a key that
+ * there is none for. False with an error set then. */
 static bool put_gathered(Strings *self, const Gathered *gathered)
 {
     if (gathered->count == 0 || (is_empty(self) && make(self, gathered) == SELLUMAQ_ADDED))

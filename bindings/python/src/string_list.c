@@ -9,7 +9,8 @@ PyObject *make_key(const Strings *map, const uint8_t *bytes, size_t length)
     return map->is_text ? PyUnicode_DecodeUTF8(text, (Py_ssize_t)length, "surrogatepass") : PyBytes_FromStringAndSize(text, (Py_ssize_t)length);
 }
 
-/* `popitem` is told one key in so many ahead, and these more, since each walk lists all keys of the map and sorts them. */
+/* `popitem` is told one key in so many ahead, and these more, since each walk lists all keys of the map and sorts
+ * them. */
 #define SHARE_AHEAD 8
 #define LEAST_AHEAD 64
 
@@ -42,7 +43,8 @@ bool tell_keys(const sellumaq_judyhs *map, size_t count, Told *told)
     return true;
 }
 
-/* The list is lengthened item by item, since an object that is made meanwhile may run a collection of garbage, by which others see the list. */
+/* The list is lengthened item by item, since an object that is made meanwhile may run a collection of garbage, by which
+ * others see the list. */
 static PyObject *make_list(const Strings *map, enum part part, const Told *told)
 {
     const uint8_t *bytes = told->bytes;

@@ -33,7 +33,8 @@ typedef struct {
     size_t begin; /* whose keys have so many bytes */
 } Strings;
 
-/* A key's bytes. Those of a bytes-like object are a copy, since what it lends may change below the call: in place where they are few. */
+/* A key's bytes. Those of a bytes-like object are a copy, since what it lends may change below the call: in place where
+ * they are few. */
 typedef struct {
     PyObject *owner; /* what keeps `bytes`, or NULL */
     const uint8_t *bytes;
@@ -59,8 +60,8 @@ bool is_put(uint32_t told);
 /* Whether a map's `__setitem__` is the extension's own. */
 bool puts_itself(const Strings *map);
 
-/* How many bytes the longest beginning of a string has that can be a key in order. Where that isn't all of it no key lies between the two: the
- * string goes on with a zero, or has more bytes than a key. */
+/* How many bytes the longest beginning of a string has that can be a key in order. Where that isn't all of it no key
+ * lies between the two: the string goes on with a zero, or has more bytes than a key. */
 size_t could_be_key(const uint8_t *bytes, size_t length);
 
 /* A key as Python has it. */
@@ -69,19 +70,20 @@ PyObject *make_key(const Strings *map, const uint8_t *bytes, size_t length);
 /* All that a map without order holds, as a list. */
 PyObject *list_of(Strings *map, enum part part);
 
-/* A key that a map without order may hold, unless it was taken out since this was told; NULL with an error set where there is no memory. The
- * map isn't empty. */
+/* A key that a map without order may hold, unless it was taken out since this was told; NULL with an error set where
+ * there is no memory. The map isn't empty. */
 PyObject *next_ahead(Strings *map);
 
 /* Gives the memory back of what was told ahead. */
 void forget_ahead(Strings *map);
 
-/* Asks for so many keys of a map without order before an object is made of one, so that the map can't change meanwhile. False where there is no
- * memory. */
+/* Asks for so many keys of a map without order before an object is made of one, so that the map can't change meanwhile.
+ * False where there is no memory. */
 bool tell_keys(const sellumaq_judyhs *map, size_t count, Told *told);
 void forget_told(Told *told);
 
-/* string_text.c: whether each key is a str. Of a map without order they are listed: -1 where there is no memory for that. */
+/* string_text.c: whether each key is a str. Of a map without order they are listed: -1 where there is no memory for
+ * that. */
 bool map_has_text(const sellumaq_judysl *map);
 int hash_has_text(const sellumaq_judyhs *map);
 
@@ -89,7 +91,8 @@ int hash_has_text(const sellumaq_judyhs *map);
 PyObject *strings_begin(PyObject *object, PyObject *pairs);
 PyObject *strings_make(PyObject *object, PyObject *pairs);
 
-/* `_copy` makes a map in order one of another's pairs, and `_join` puts another's pairs in, all or none. `maps` is the type of both. */
+/* `_copy` makes a map in order one of another's pairs, and `_join` puts another's pairs in, all or none. `maps` is the
+ * type of both. */
 PyObject *strings_copy(PyObject *object, PyTypeObject *maps, PyObject *const *arguments, Py_ssize_t count,
                        PyObject *keywords);
 PyObject *strings_join(PyObject *object, PyTypeObject *maps, PyObject *const *arguments, Py_ssize_t count,

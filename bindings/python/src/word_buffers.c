@@ -1,5 +1,5 @@
-/* Words that come in buffers of numbers, as of array and numpy, and go into such ones, without an object for each. While a buffer is lent
- * here its owner can't change its size, and no Python code runs. */
+/* Words that come in buffers of numbers, as of array and numpy, and go into such ones, without an object for each.
+ * While a buffer is lent here its owner can't change its size, and no Python code runs. */
 #include <string.h>
 
 #include "words.h"
@@ -9,7 +9,8 @@ enum { PAGE = 256 };
 
 static size_t width_of(const Words *self) { return self->is_map ? 2 : 1; }
 
-/* Whether a buffer's items are 64-bit words of this machine, as the module struct tells formats. A long has as many bits. */
+/* Whether a buffer's items are 64-bit words of this machine, as the module struct tells formats. A long has as many
+ * bits. */
 static bool holds_words(const Py_buffer *view)
 {
     const char *format = view->format ? view->format : "B";
@@ -50,7 +51,8 @@ bool lend_items(const Words *self, PyObject *object, Py_buffer *view) { return l
 
 bool lend_list_of_words(PyObject *object, Py_buffer *view) { return lend(object, 1, view); }
 
-/* Lends a list of words, or one of bytes, to be written or to be read; false with an error set where the object lends no such one. */
+/* Lends a list of words, or one of bytes, to be written or to be read; false with an error set where the object lends
+ * no such one. */
 static bool lend_list(PyObject *object, bool of_words, bool is_written, Py_buffer *view)
 {
     if (PyObject_GetBuffer(object, view, PyBUF_FULL_RO) < 0)
@@ -67,7 +69,8 @@ static bool lend_list(PyObject *object, bool of_words, bool is_written, Py_buffe
     return false;
 }
 
-/* Lends two lists, of which the second is one of words, or one of bytes, and may be written; false with an error set. */
+/* Lends two lists, of which the second is one of words, or one of bytes, and may be written; false with an error
+ * set. */
 static bool lend_two(PyObject *const *objects, bool of_words, bool is_written, Py_buffer *views)
 {
     if (!lend_list(objects[0], true, false, &views[0]))

@@ -1,5 +1,5 @@
-/* A walk through words. It takes many pairs at a time, and looks the next ones up anew where the array has changed since: each key that
- * comes is one that stands in the array then. */
+/* A walk through words. It takes many pairs at a time, and looks the next ones up anew where the array has changed
+ * since: each key that comes is one that stands in the array then. */
 #include "words.h"
 
 /* How many pairs are taken at most: a page of them. The first time it takes a few, for walks that are soon left. */

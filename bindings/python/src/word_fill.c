@@ -156,8 +156,8 @@ static bool gather_plain(const Words *self, Gathered *gathered, PyObject *object
     return false;
 }
 
-/* Puts in what was gathered: at once into an empty array, if there is memory for that, else one by one, up to an item that there is none for.
- * False with an error set then. */
+/* Puts in what was gathered: at once into an empty array, if there is memory for that, else one by one, up to an item
+ * that there is none for. False with an error set then. */
 static bool put_gathered(Words *self, const Gathered *gathered)
 {
     if (gathered->count == 0)
@@ -170,8 +170,9 @@ static bool put_gathered(Words *self, const Gathered *gathered)
     return put;
 }
 
-/* Puts the items that an iterator begins with into an empty array at once, sorted first where they don't ascend. Nobody can tell: no code but our
- * own and Python's runs from the first to the last. Answers the next item; NULL where none is left, or with an error set. */
+/* Puts the items that an iterator begins with into an empty array at once, sorted first where they don't ascend. Nobody
+ * can tell: no code but our own and Python's runs from the first to the last. Answers the next item; NULL where none is
+ * left, or with an error set. */
 static PyObject *begin(Words *self, PyObject *each)
 {
     Gathered gathered = {NULL, 0, 0};

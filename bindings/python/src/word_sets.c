@@ -1,5 +1,5 @@
-/* What two sets of words have together and alone, and sets made of that, by the calls of C; where one set has few keys these are looked up in the
- * other. No Python code runs meanwhile. */
+/* What two sets of words have together and alone, and sets made of that, by the calls of C; where one set has few keys
+ * these are looked up in the other. No Python code runs meanwhile. */
 #include "words.h"
 
 /* Whose a key is: the first set's alone, both sets', the second's alone. What an operation keeps is some of these. */
@@ -93,7 +93,8 @@ static uint32_t make_new(sellumaq_judy1 *made, const Words *first, const Words *
     }
 }
 
-/* Makes a set what is wanted of two, in place of what it held; false where there is no memory, and then it is as it was. */
+/* Makes a set what is wanted of two, in place of what it held; false where there is no memory, and then it is as it
+ * was. */
 static bool make_anew(Words *self, const Words *first, const Words *second, int wanted)
 {
     sellumaq_judy1 made = {0};

@@ -240,7 +240,8 @@ static PyObject *bisect(Words *self, PyObject *number, bool with_itself)
 static PyObject *bisect_left(PyObject *self, PyObject *number) { return bisect((Words *)self, number, false); }
 static PyObject *bisect_right(PyObject *self, PyObject *number) { return bisect((Words *)self, number, true); }
 
-/* Reads a place, which counts from the end where it is negative, as a number from 1 on; 0 with an error set where no key can stand there. */
+/* Reads a place, which counts from the end where it is negative, as a number from 1 on; 0 with an error set where no
+ * key can stand there. */
 static uint64_t read_place(Words *self, PyObject *place)
 {
     Py_ssize_t at = PyNumber_AsSsize_t(place, PyExc_IndexError);
@@ -417,7 +418,8 @@ static bool append_whether(Words *self, const Group *group, PyObject *told)
     return put;
 }
 
-/* Makes a change of the words of a range by a call of C, which may want memory, and answers how many keys more there are. */
+/* Makes a change of the words of a range by a call of C, which may want memory, and answers how many keys more there
+ * are. */
 static PyObject *change_range(PyObject *object, PyObject *const *arguments, Py_ssize_t count, uint32_t call(sellumaq_judy1 *, uint64_t, uint64_t))
 {
     Words *self = (Words *)object;

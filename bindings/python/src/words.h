@@ -61,7 +61,8 @@ bool make_unsorted(Words *self, const uint64_t *items, size_t count);
 PyObject *words_fill(PyObject *object, PyObject *items);
 PyObject *set_pick(PyObject *object, PyObject *items);
 
-/* `_copy` makes a map one of another's pairs, and `_join` puts another's pairs in, all or none. `maps` is the type of maps. */
+/* `_copy` makes a map one of another's pairs, and `_join` puts another's pairs in, all or none. `maps` is the type of
+ * maps. */
 PyObject *map_copy(PyObject *object, PyTypeObject *maps, PyObject *const *arguments, Py_ssize_t count,
                    PyObject *keywords);
 PyObject *map_join(PyObject *object, PyTypeObject *maps, PyObject *const *arguments, Py_ssize_t count,
@@ -70,8 +71,8 @@ PyObject *words_make(PyObject *object, PyObject *items);
 
 /* word_buffers.c */
 
-/* Lends the items of a buffer of words: those of a list, or the pairs of a table of two columns, as the array has them. False where the object has no
- * such buffer, and is an iterable as any other. */
+/* Lends the items of a buffer of words: those of a list, or the pairs of a table of two columns, as the array has them.
+ * False where the object has no such buffer, and is an iterable as any other. */
 bool lend_items(const Words *self, PyObject *object, Py_buffer *view);
 
 /* The same of a list of words, whatever the array has. */
@@ -83,7 +84,8 @@ bool make_of(Words *self, const uint64_t *items, size_t count);
 /* Puts items in, up to one that there is no memory for; false with an error set then. */
 bool put_all(Words *self, const uint64_t *items, size_t count);
 
-/* `_make_of` and `_fill_of` of a map take a buffer of keys and one of values; `_write` writes keys or values into a buffer. */
+/* `_make_of` and `_fill_of` of a map take a buffer of keys and one of values; `_write` writes keys or values into a
+ * buffer. */
 PyObject *map_make_of(PyObject *self, PyObject *const *arguments, Py_ssize_t count);
 PyObject *map_fill_of(PyObject *self, PyObject *const *arguments, Py_ssize_t count);
 PyObject *words_write(PyObject *self, PyObject *const *arguments, Py_ssize_t count);
@@ -112,8 +114,8 @@ bool append_new(PyObject *list, PyObject *object);
 /* What is told of the keys of an iterable, in a list; or into the buffer `out`, where one is given. */
 PyObject *look_up_many(PyObject *object, PyObject *const *arguments, Py_ssize_t count, PyObject *keywords, Append *append_told);
 
-/* word_sets.c: `_combine` makes a set what is wanted of two others, `_has_any` tells whether that is any key, and `_count_of` how many they are.
- * `sets` is the type of sets. */
+/* word_sets.c: `_combine` makes a set what is wanted of two others, `_has_any` tells whether that is any key, and
+ * `_count_of` how many they are. `sets` is the type of sets. */
 PyObject *set_combine(PyObject *object, PyTypeObject *sets, PyObject *const *arguments, Py_ssize_t count,
                       PyObject *keywords);
 PyObject *set_has_any(PyObject *object, PyTypeObject *sets, PyObject *const *arguments, Py_ssize_t count,

@@ -256,16 +256,16 @@ class Strings(unittest.TestCase):
         self.assertIsNone(longest.at_or_after(b"\xff" * (MAX_KEY + 1)))
 
 
-# Refuses this thread's calls for memory, from the n-th on, or none for 0, and answers how many it refused; there where tests/refuse_alloc.c
-# is preloaded, as `make check` does.
+# Refuses this thread's calls for memory, from the n-th on, or none for 0, and answers how many it refused; there where
+# tests/refuse_alloc.c is preloaded, as `make check` does.
 refuse_from = getattr(ctypes.CDLL(None), "refuse_from", None)
 
 
 @unittest.skipUnless(refuse_from, "nothing is preloaded that refuses memory")
 class WithoutMemory(unittest.TestCase):
     def refused_in_turn(self, change, key, held):
-        """Makes a change whose first call for memory is refused and each later one, then its second, and so on until it succeeds. Each
-        refusal must be a MemoryError and leave what is `held`. How often it was refused."""
+        """Makes a change whose first call for memory is refused and each later one, then its second, and so on until it
+        succeeds. Each refusal must be a MemoryError and leave what is `held`. How often it was refused."""
         failed, before = 0, held()
         while True:
             refuse_from(failed + 1)

@@ -301,8 +301,8 @@ refuse_from = getattr(ctypes.CDLL(None), "refuse_from", None)
 @unittest.skipUnless(refuse_from, "nothing is preloaded that refuses memory")
 class WithoutMemory(unittest.TestCase):
     def refused_in_turn(self, call, after):
-        """Makes a call whose first call for memory is refused and each later one, then its second, and so on until it succeeds. What it answers
-        then, and how often it was refused; `after` is called behind each refusal."""
+        """Makes a call whose first call for memory is refused and each later one, then its second, and so on until it
+        succeeds. What it answers then, and how often it was refused; `after` is called behind each refusal."""
         failed = 0
         while True:
             refuse_from(failed + 1)

@@ -80,8 +80,8 @@ class Counted(JudyL):
 assert_type(Counted().copy(), Counted)
 """
 
-# What mypy's comparison of hints with what is there passes over: the modules that `_native.pyi` and `__init__.pyi` stand
-# for, and overloads, whose arguments some versions take for others than positional.
+# What mypy's comparison of hints with what is there passes over: the modules that `_native.pyi` and `__init__.pyi`
+# stand for, and overloads, whose arguments some versions take for others than positional.
 PASSED_OVER = r"""
 sellumaq\._(core|fallback|maps|places|strings|views|words)(\..*)?
 .*\.(get|pop)

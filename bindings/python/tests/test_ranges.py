@@ -1,4 +1,5 @@
-"""Ranges of keys, and two arrays, beside Python's sets and dicts: without a key, dense, runs, and random words far apart."""
+"""Ranges of keys, and two arrays, beside Python's sets and dicts: without a key, dense, runs, and random words far
+apart."""
 
 import ctypes
 import random

@@ -301,7 +301,8 @@ class ReEntry(unittest.TestCase):
 
     @unittest.skipUnless(BINDING == "extension", "ctypes has no module whose state is taken away")
     def test_a_walk_that_begins_while_the_module_is_taken_away(self):
-        # A collection of garbage takes the module's state first, then frees the function, whose code's end is told; the method is still there.
+        # A collection of garbage takes the module's state first, then frees the function, whose code's end is told; the
+        # method is still there.
         program = (
             "import gc, sys, weakref\n"
             "told = []\n"

@@ -134,7 +134,8 @@ class Bytes(InARoom):
                 self.refused(other, told + b"\0", "trailing")
 
     def try_changed(self, made, told):
-        """A changed text is another whole array's, which is dumped to these very bytes, but for the limit; or the array is as it was."""
+        """A changed text is another whole array's, which is dumped to these very bytes, but for the limit; or the array
+        is as it was."""
         before = made.tobytes()
         try:
             made.frombytes(told)

@@ -1,4 +1,5 @@
-"""What sortedcontainers documents of SortedSet and SortedDict, as tables of cases: an expression and what it is. `DIFFERS` has what differs."""
+"""What sortedcontainers documents of SortedSet and SortedDict, as tables of cases: an expression and what it is.
+`DIFFERS` has what differs."""
 
 import unittest
 

@@ -13,8 +13,8 @@ from test_build import FOLDER, quiet, why_not
 sys.path.append(FOLDER)
 from platform_tag import platform_of  # noqa: E402
 
-# What a library of C calls, by which name and version of it (those of glibc for x86-64 are in its ABI for good), what it
-# is linked with, and the tag.
+# What a library of C calls, by which name and version of it (those of glibc for x86-64 are in its ABI for good), what
+# it is linked with, and the tag.
 CASES = [
     ("void *memcpy(void *, const void *, unsigned long)", "memcpy@GLIBC_2.2.5", [], "manylinux_2_5_x86_64"),
     ("void *memcpy(void *, const void *, unsigned long)", "memcpy@GLIBC_2.14", [], "manylinux_2_14_x86_64"),

@@ -1,6 +1,7 @@
-//! Measures the arrays beside std's sets and maps: `cargo run --release --example beside_std [KEYS ..]`. It prints a line for each figure,
-//! as the measuring programs in C do: ARRAY LIBRARY PATTERN KEYS CALL NUMBER, the number being nanoseconds of processor time a key, the
-//! least of 15 turns, or of three at a million keys. `by-calls` is a walk by the call of C that each step of an iterator makes, without the iterator.
+//! Measures the arrays beside std's sets and maps: `cargo run --release --example beside_std [KEYS ..]`. It prints a
+//! line for each figure, as the measuring programs in C do: ARRAY LIBRARY PATTERN KEYS CALL NUMBER, the number being
+//! nanoseconds of processor time a key, the least of 15 turns, or of three at a million keys. `by-calls` is a walk by
+//! the call of C that each step of an iterator makes, without the iterator.
 // One text measures std's types too, which want keys lent; and it may ask for a newer Rust than the crate.
 #![allow(
     clippy::needless_borrows_for_generic_args,

@@ -1,14 +1,15 @@
-//! Builds libsellumaq from its compiled text, `compiled/sellumaq.s` and `compiled/system.c`, and from `files.c`, which saves arrays, and `unsorted.c`,
-//! which sorts lists, and links it statically. A C compiler and binutils are all that it needs.
+//! Builds libsellumaq from its compiled text, `compiled/sellumaq.s` and `compiled/system.c`, and from `files.c`, which
+//! saves arrays, and `unsorted.c`, which sorts lists, and links it statically. A C compiler and binutils are all that
+//! it needs.
 //!
 //! What it reads of the environment:
 //!
 //! - `SELLUMAQ_LIB=FOLDER`: links the `libsellumaq.a` of that folder instead.
 //! - `SELLUMAQ_SHARED=1`: links the shared library that pkg-config finds instead. A program finds it by `ldconfig` or
 //!   `LD_LIBRARY_PATH` as it runs. `SELLUMAQ_LIB` goes before this.
-//! - `CC`, `LD`, `OBJCOPY`, `AR`: the tools that build it, where they aren't `cc`, `ld`, `objcopy` and `ar`. A variable may hold
-//!   arguments too, as in `CC="ccache gcc"`; and one that ends in the target's name, such as `CC_x86_64-unknown-linux-gnu`,
-//!   goes before the plain one.
+//! - `CC`, `LD`, `OBJCOPY`, `AR`: the tools that build it, where they aren't `cc`, `ld`, `objcopy` and `ar`. A variable
+//!   may hold arguments too, as in `CC="ccache gcc"`; and one that ends in the target's name, such as
+//!   `CC_x86_64-unknown-linux-gnu`, goes before the plain one.
 //!
 //! Where it can't go on it says why in one sentence, and leaves no library.
 use std::env;

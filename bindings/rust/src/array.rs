@@ -24,8 +24,8 @@ macro_rules! array {
         unsafe impl<$($param: $bound),+> Sync for $array<$($param),+> {}
 
         impl $array {
-            /// The empty array, which takes no memory. An array of other types than `u64` is made by [`empty`](Self::empty),
-            /// by `default` or by `collect`.
+            /// The empty array, which takes no memory. An array of other types than `u64` is made by
+            /// [`empty`](Self::empty), by `default` or by `collect`.
             ///
             /// ```
             #[doc = concat!("let array = sellumaq::", stringify!($array), "::new();")]

@@ -6,13 +6,13 @@ use std::ops::{Bound, RangeBounds};
 use std::ops::{Range, RangeFrom, RangeFull, RangeInclusive, RangeTo, RangeToInclusive};
 use std::slice::from_raw_parts;
 
-/// A scan of C from the string in a buffer of the capacity given, whose length and what is told of the key found, its value or
-/// its slot, stand behind pointers.
+/// A scan of C from the string in a buffer of the capacity given, whose length and what is told of the key found, its
+/// value or its slot, stand behind pointers.
 pub type Scan<T> =
     unsafe extern "C" fn(*const sys::sellumaq_judysl, *mut u8, usize, *mut usize, *mut T) -> u32;
 
-/// A range of strings, whose ends are anything that has bytes: `..`, `"a"..`, `.."b"`, `"a"..="b"` and so on, or a pair of
-/// [`Bound`]s.
+/// A range of strings, whose ends are anything that has bytes: `..`, `"a"..`, `.."b"`, `"a"..="b"` and so on, or a pair
+/// of [`Bound`]s.
 ///
 /// ```
 /// let map = sellumaq::JudySl::from([("a", 10), ("b", 20), ("c", 30)]);
@@ -135,7 +135,8 @@ impl Edge {
         self.included
     }
 
-    /// The next key, by a scan that begins with the edge's string and one that begins behind it, which tell of the key found.
+    /// The next key, by a scan that begins with the edge's string and one that begins behind it, which tell of the key
+    /// found.
     ///
     /// # Safety
     ///
@@ -171,8 +172,8 @@ impl Edge {
     }
 }
 
-// The longest beginning of a string that can be a key, and whether it is the whole string. Where it isn't, no key lies between the two: the
-// string goes on with a zero byte, or with more bytes than a key has.
+// The longest beginning of a string that can be a key, and whether it is the whole string. Where it isn't, no key lies
+// between the two: the string goes on with a zero byte, or with more bytes than a key has.
 fn could_be_key(string: &[u8]) -> (&[u8], bool) {
     let end = string
         .iter()

@@ -1,8 +1,8 @@
 //! Entries: the places of keys in maps, whether they are there or not.
 
-/// Writes the `Entry` of a `$map` with values of the type `V` and its two kinds, for a key held as `$held` and shown as `$shown` by `$show`.
-/// `$sample` is a line of an example that makes `map` with the keys `$a` and `$b` and the values 10 and 20, and `$c` is
-/// no key of it. `$error` is the error of an insert and `$end` what ends the program for it.
+/// Writes the `Entry` of a `$map` with values of the type `V` and its two kinds, for a key held as `$held` and shown as
+/// `$shown` by `$show`. `$sample` is a line of an example that makes `map` with the keys `$a` and `$b` and the values
+/// 10 and 20, and `$c` is no key of it. `$error` is the error of an insert and `$end` what ends the program for it.
 macro_rules! entries {
     (
         $map:ident<$($of:ident: $of_bound:path),+> with [$($k:ident: $k_bound:path)?],
@@ -59,8 +59,8 @@ macro_rules! entries {
         unsafe impl<$($param: $bound),+> Sync for OccupiedEntry<'_, $($param),+> where $held: Sync {}
 
         impl<$($of: $of_bound),+> $map<$($of),+> {
-            /// The place of a key, to be looked at and filled. A key that is there takes one way down the map, and an absent
-            /// one more when it is put in.
+            /// The place of a key, to be looked at and filled. A key that is there takes one way down the map, and an
+            /// absent one more when it is put in.
             ///
             /// ```
             #[doc = concat!($sample, "\nassert_eq!(*map.entry(", $c, ").or_default(), 0);")]
@@ -268,8 +268,8 @@ macro_rules! entries {
                 self.key
             }
 
-            /// Puts the key in with a value, and answers where that stands. It ends as an insert of the map does where there
-            /// is an error.
+            /// Puts the key in with a value, and answers where that stands. It ends as an insert of the map does where
+            /// there is an error.
             ///
             /// ```
             #[doc = concat!("use sellumaq::", stringify!($module), "::Entry;\n", $sample)]
@@ -296,8 +296,8 @@ macro_rules! entries {
             /// ```
             pub fn try_insert(self, value: V) -> Result<&'a mut V, $error> {
                 let slot = self.map.make_slot($show(&self.key))?;
-                // SAFETY: a slot lives until the map is changed, which stays borrowed as long as the reference. It has room for a value, and
-                // holds one before it is lent.
+                // SAFETY: a slot lives until the map is changed, which stays borrowed as long as the reference. It has
+                // room for a value, and holds one before it is lent.
                 Ok(unsafe {
                     slot.as_ptr().write(value);
                     &mut *slot.as_ptr()

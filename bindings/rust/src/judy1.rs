@@ -103,7 +103,8 @@ impl<K: Key> Judy1<K> {
 }
 
 impl<K: Key> Judy1<K> {
-    /// Puts a key in, and answers whether it was absent. It ends the program where there is no memory, as std's sets do.
+    /// Puts a key in, and answers whether it was absent. It ends the program where there is no memory, as std's sets
+    /// do.
     ///
     /// ```
     /// let mut set = sellumaq::Judy1::new();
@@ -154,9 +155,9 @@ impl<K: Key> Judy1<K> {
         unsafe { sys::sellumaq_judy1_test(&handle, key.borrow().word()) }
     }
 
-    /// Looks up many keys, as many as both slices have, and writes whether each is there to its place. Up to 16 keys go down the set side by
-    /// side and wait for memory together. In large sets of words far apart that takes less time than [`contains`](Self::contains) for each,
-    /// and in sets that stand in the caches more.
+    /// Looks up many keys, as many as both slices have, and writes whether each is there to its place. Up to 16 keys go
+    /// down the set side by side and wait for memory together. In large sets of words far apart that takes less time
+    /// than [`contains`](Self::contains) for each, and in sets that stand in the caches more.
     ///
     /// ```
     /// let set = sellumaq::Judy1::from([3, 5]);
@@ -170,8 +171,8 @@ impl<K: Key> Judy1<K> {
             for (word, key) in words.iter_mut().zip(keys) {
                 *word = key.word();
             }
-            // SAFETY: the handle is this set's, lent for this call alone, which only reads; as many words are there as are told, and room for
-            // as many answers. Each that is written is 0 or 1.
+            // SAFETY: the handle is this set's, lent for this call alone, which only reads; as many words are there as
+            // are told, and room for as many answers. Each that is written is 0 or 1.
             unsafe {
                 sys::sellumaq_judy1_test_many(
                     &handle,
@@ -289,7 +290,8 @@ impl<K: Key> Judy1<K> {
         self.last().and_then(|key| self.take(key))
     }
 
-    /// Takes out each key that isn't to be kept, by ascending key. Where `keep` panics, the keys that it didn't see stay.
+    /// Takes out each key that isn't to be kept, by ascending key. Where `keep` panics, the keys that it didn't see
+    /// stay.
     ///
     /// ```
     /// let mut set: sellumaq::Judy1 = (0..10).collect();

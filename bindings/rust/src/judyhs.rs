@@ -16,10 +16,12 @@ use std::ops::Index;
 use std::ptr::{null_mut, NonNull};
 
 array!(
-    /// A map from byte strings to words, or to other values that fit one, in no order. A key has any number of bytes, of any value.
+    /// A map from byte strings to words, or to other values that fit one, in no order. A key has any number of bytes,
+    /// of any value.
     ///
-    /// Its iterators list all pairs at first, by the lengths of the keys, and those of one length by their bytes. That takes the
-    /// time and the memory of a sorted `Vec` of them; where there is none it ends the program, as std's collections do.
+    /// Its iterators list all pairs at first, by the lengths of the keys, and those of one length by their bytes. That
+    /// takes the time and the memory of a sorted `Vec` of them; where there is none it ends the program, as std's
+    /// collections do.
     ///
     /// ```
     /// let mut seen = sellumaq::JudyHs::new();
@@ -194,8 +196,8 @@ impl<V: Value> JudyHs<V> {
         self.remove(key).map(|value| (key.to_vec(), value))
     }
 
-    /// Takes out each key that isn't to be kept; `keep` may change the values. Where it panics, that key and those that it didn't see
-    /// stay as they were.
+    /// Takes out each key that isn't to be kept; `keep` may change the values. Where it panics, that key and those that
+    /// it didn't see stay as they were.
     ///
     /// ```
     /// let mut map = sellumaq::JudyHs::from([("a", 10), ("b", 20)]);
@@ -207,8 +209,8 @@ impl<V: Value> JudyHs<V> {
             .for_each(drop);
     }
 
-    /// Takes those keys out that are chosen, one at each step of the iterator; `chosen` may change the values. Where the iterator is dropped,
-    /// the others stay.
+    /// Takes those keys out that are chosen, one at each step of the iterator; `chosen` may change the values. Where
+    /// the iterator is dropped, the others stay.
     ///
     /// ```
     /// let mut map = sellumaq::JudyHs::from([("a", 10), ("b", 20), ("c", 30)]);
@@ -332,8 +334,9 @@ pub struct IterMut<'a, V: Value = u64> {
 
 pairs!(IterMut<'a, V>; self, key, _value: {
     let slot = self.map.find_slot(key)?;
-    // SAFETY: the map is borrowed to be changed for as long as the slot is lent, and isn't changed meanwhile, so the slot stays. No
-    // key comes twice, so no slot is lent twice. To find the next slot the library decides by keys alone.
+    // SAFETY: the map is borrowed to be changed for as long as the slot is lent, and isn't changed meanwhile, so the
+    // slot stays. No key comes twice, so no slot is lent twice. To find the next slot the library decides by keys
+    // alone.
     Some((key.to_vec(), unsafe { &mut *slot.as_ptr() }))
 } => (Vec<u8>, &'a mut V));
 

@@ -22,8 +22,8 @@ use std::ops::{Index, RangeBounds, RangeInclusive};
 use std::ptr::{null_mut, NonNull};
 
 array!(
-    /// An ordered map from words to words, or to and from others that fit one: a `JudyL` has keys and values of `u64`, a
-    /// `JudyL<char>` values of `char`, and a `JudyL<char, i32>` keys of `i32` besides.
+    /// An ordered map from words to words, or to and from others that fit one: a `JudyL` has keys and values of `u64`,
+    /// a `JudyL<char>` values of `char`, and a `JudyL<char, i32>` keys of `i32` besides.
     ///
     /// ```
     /// use sellumaq::JudyL;
@@ -102,8 +102,8 @@ type EntrySearch =
 type SlotSearch =
     unsafe extern "C" fn(*const sys::sellumaq_judyl, u64, *mut u64, *mut *mut u64) -> bool;
 
-/// A map whose slots are lent by a way, as that way asks it: to bring its next keys no value beyond them is read, since such a one may be
-/// lent already.
+/// A map whose slots are lent by a way, as that way asks it: to bring its next keys no value beyond them is read, since
+/// such a one may be lent already.
 struct Lending<'a, V: Value, K: Key>(&'a JudyL<V, K>);
 
 impl<V: Value, K: Key> Lending<'_, V, K> {
@@ -194,8 +194,8 @@ impl<V: Value, K: Key> JudyL<V, K> {
 
     fn search_entry(&self, call: EntrySearch, from: u64) -> Option<(u64, u64)> {
         let (handle, mut key, mut value) = (self.handle, 0, 0);
-        // SAFETY: the call is one of `sellumaq_sys` for maps of words, which only reads; the handle is this map's, lent for
-        // this call alone, and the words this function's.
+        // SAFETY: the call is one of `sellumaq_sys` for maps of words, which only reads; the handle is this map's, lent
+        // for this call alone, and the words this function's.
         unsafe { call(&handle, from, &mut key, &mut value) }.then_some((key, value))
     }
 
@@ -273,8 +273,8 @@ impl<V: Value, K: Key> JudyL<V, K> {
         }
     }
 
-    /// Gives a key a value, and answers whether the key is new: one way down the map, also where it is absent. It ends the
-    /// program where there is no memory.
+    /// Gives a key a value, and answers whether the key is new: one way down the map, also where it is absent. It ends
+    /// the program where there is no memory.
     ///
     /// ```
     /// let mut map = sellumaq::JudyL::new();
@@ -303,8 +303,8 @@ impl<V: Value, K: Key> JudyL<V, K> {
         }
     }
 
-    /// The value of a key, to read and to change; the key is put in with the default value where it is absent. By this an absent
-    /// key takes a way down the map less than by [`entry`](Self::entry), and one that is there a way more.
+    /// The value of a key, to read and to change; the key is put in with the default value where it is absent. By this
+    /// an absent key takes a way down the map less than by [`entry`](Self::entry), and one that is there a way more.
     ///
     /// # Errors
     ///
@@ -320,8 +320,8 @@ impl<V: Value, K: Key> JudyL<V, K> {
         V: ZeroValue,
     {
         let slot = self.make_slot(&key)?;
-        // SAFETY: a slot lives until the map is changed, which stays borrowed as long as the reference. It holds a value, also where it is all
-        // zeros.
+        // SAFETY: a slot lives until the map is changed, which stays borrowed as long as the reference. It holds a
+        // value, also where it is all zeros.
         Ok(unsafe { &mut *slot.as_ptr() })
     }
 
@@ -338,9 +338,9 @@ impl<V: Value, K: Key> JudyL<V, K> {
         found.then(|| V::of_bits(value))
     }
 
-    /// Looks up many keys, as many as both slices have, and writes the value of each to its place; `None` where a key is absent. Up to
-    /// 16 keys go down the map side by side and wait for memory together. In large maps of words far apart that takes less time than
-    /// [`get`](Self::get) for each, and in maps that stand in the caches more.
+    /// Looks up many keys, as many as both slices have, and writes the value of each to its place; `None` where a key
+    /// is absent. Up to 16 keys go down the map side by side and wait for memory together. In large maps of words far
+    /// apart that takes less time than [`get`](Self::get) for each, and in maps that stand in the caches more.
     ///
     /// ```
     /// let map = sellumaq::JudyL::from([(3, 30), (5, 50)]);
@@ -355,8 +355,8 @@ impl<V: Value, K: Key> JudyL<V, K> {
             for (word, key) in words.iter_mut().zip(keys) {
                 *word = key.word();
             }
-            // SAFETY: the handle is this map's, lent for this call alone, which only reads; as many words are there as are told, and there
-            // is room for as many answers.
+            // SAFETY: the handle is this map's, lent for this call alone, which only reads; as many words are there as
+            // are told, and there is room for as many answers.
             let told = unsafe {
                 sys::sellumaq_judyl_get_many(
                     &handle,
@@ -381,8 +381,8 @@ impl<V: Value, K: Key> JudyL<V, K> {
     /// ```
     pub fn get_mut(&mut self, key: impl Borrow<K>) -> Option<&mut V> {
         let slot = self.find_slot(key.borrow())?;
-        // SAFETY: a slot lives until the map is changed, which stays borrowed as long as the reference. That of a key that is there holds a
-        // value.
+        // SAFETY: a slot lives until the map is changed, which stays borrowed as long as the reference. That of a key
+        // that is there holds a value.
         Some(unsafe { &mut *slot.as_ptr() })
     }
 
@@ -495,8 +495,8 @@ impl<V: Value, K: Key> JudyL<V, K> {
         RangeMut::of(self, SlotSteps(Way::of(Span::of(range))))
     }
 
-    /// Takes out each key that isn't to be kept, by ascending key; `keep` may change the values. Where it panics, that key and those
-    /// that it didn't see stay as they were.
+    /// Takes out each key that isn't to be kept, by ascending key; `keep` may change the values. Where it panics, that
+    /// key and those that it didn't see stay as they were.
     ///
     /// ```
     /// let mut map: sellumaq::JudyL = (0..10).map(|n| (n, n)).collect();
@@ -511,8 +511,8 @@ impl<V: Value, K: Key> JudyL<V, K> {
         extracted.for_each(drop);
     }
 
-    /// Takes those keys of a range out that are chosen, one at each step of the iterator, by ascending key; `chosen` may change the values. Where
-    /// the iterator is dropped, the others stay.
+    /// Takes those keys of a range out that are chosen, one at each step of the iterator, by ascending key; `chosen`
+    /// may change the values. Where the iterator is dropped, the others stay.
     ///
     /// ```
     /// let mut map: sellumaq::JudyL = (0..10).map(|n| (n, n * n)).collect();

@@ -27,9 +27,9 @@ use way::{SlotSteps, Steps, Way, DOWN, DOWN_TO_SLOTS, UP, UP_TO_SLOTS};
 pub use crate::edge::StringRange;
 
 array!(
-    /// An ordered map from strings to words, or to other values that fit one, as those of a `JudySl<char>` are. A key is a
-    /// string of at most [`MAX_KEY`] bytes, none of them zero; keys are ordered by their bytes, as text in UTF-8 is by its
-    /// characters.
+    /// An ordered map from strings to words, or to other values that fit one, as those of a `JudySl<char>` are. A key
+    /// is a string of at most [`MAX_KEY`] bytes, none of them zero; keys are ordered by their bytes, as text in UTF-8
+    /// is by its characters.
     ///
     /// ```
     /// let ages = sellumaq::JudySl::from([("Ada", 36), ("Alan", 41), ("Grace", 85)]);
@@ -251,8 +251,8 @@ impl<V: Value> JudySl<V> {
     ) -> Option<(&'b [u8], V)> {
         let (handle, bytes) = (self.handle, bytes.as_ref());
         let (mut length, mut bits) = (0, 0);
-        // SAFETY: the handle is this map's, lent for this call alone, which only reads; the bytes are a slice's, and the two
-        // words this function's.
+        // SAFETY: the handle is this map's, lent for this call alone, which only reads; the bytes are a slice's, and
+        // the two words this function's.
         let found = unsafe {
             sys::sellumaq_judysl_longest_prefix(
                 &handle,
@@ -326,16 +326,16 @@ impl<V: Value> JudySl<V> {
         let place = (n as u64).checked_add(1)?;
         let (handle, mut key, mut length, mut value) = (self.handle, [0; MAX_KEY], 0, 0);
         let buffer = key.as_mut_ptr();
-        // SAFETY: the handle is this map's, lent for this call alone, which only reads; the buffer has the bytes that it is said to have, and all
-        // that the call writes to is this function's.
+        // SAFETY: the handle is this map's, lent for this call alone, which only reads; the buffer has the bytes that
+        // it is said to have, and all that the call writes to is this function's.
         let told = unsafe {
             sys::sellumaq_judysl_by_count(&handle, place, buffer, MAX_KEY, &mut length, &mut value)
         };
         (told == sys::SELLUMAQ_FOUND).then(|| (key[..length].to_vec(), V::of_bits(value)))
     }
 
-    /// Takes out each key that isn't to be kept, by ascending key; `keep` may change the values. Where it panics, that key and those
-    /// that it didn't see stay as they were.
+    /// Takes out each key that isn't to be kept, by ascending key; `keep` may change the values. Where it panics, that
+    /// key and those that it didn't see stay as they were.
     ///
     /// ```
     /// let mut map = sellumaq::JudySl::from([("a", 10), ("b", 20)]);
@@ -347,8 +347,8 @@ impl<V: Value> JudySl<V> {
         extracted.for_each(drop);
     }
 
-    /// Takes those keys of a range out that are chosen, one at each step of the iterator, by ascending key; `chosen` may change the values. Where
-    /// the iterator is dropped, the others stay.
+    /// Takes those keys of a range out that are chosen, one at each step of the iterator, by ascending key; `chosen`
+    /// may change the values. Where the iterator is dropped, the others stay.
     ///
     /// ```
     /// let mut map = sellumaq::JudySl::from([("a", 10), ("b", 20), ("c", 30)]);
@@ -495,7 +495,8 @@ impl<V: Value, F: FnMut(&[u8], &mut V) -> bool> Iterator for ExtractIf<'_, V, F>
 impl<V: Value, F: FnMut(&[u8], &mut V) -> bool> FusedIterator for ExtractIf<'_, V, F> {}
 
 impl<V: Value> Range<'_, V> {
-    /// The next pair, its key lent until the next call. No memory is asked for, as it is for the keys that `next` gives away.
+    /// The next pair, its key lent until the next call. No memory is asked for, as it is for the keys that `next` gives
+    /// away.
     ///
     /// ```
     /// let map = sellumaq::JudySl::from([("a", 10)]);
@@ -519,7 +520,8 @@ impl<V: Value> Range<'_, V> {
 }
 
 impl<V: Value> Iter<'_, V> {
-    /// The next pair, its key lent until the next call. No memory is asked for, as it is for the keys that `next` gives away.
+    /// The next pair, its key lent until the next call. No memory is asked for, as it is for the keys that `next` gives
+    /// away.
     ///
     /// ```
     /// let map = sellumaq::JudySl::from([("a", 10)]);

@@ -3,7 +3,8 @@ use crate::{no_room, NoMemory};
 use sellumaq_sys as sys;
 use std::fmt;
 
-/// How many bytes a key of a [`JudySl`](crate::JudySl) has at most; one of a [`JudyHs`](crate::JudyHs) may have any number.
+/// How many bytes a key of a [`JudySl`](crate::JudySl) has at most; one of a [`JudyHs`](crate::JudyHs) may have any
+/// number.
 ///
 /// ```
 /// assert_eq!(sellumaq::MAX_KEY, 1024);
@@ -19,7 +20,8 @@ pub const MAX_KEY: usize = 1024;
 /// ```
 #[derive(Clone, Copy, PartialEq, Eq, Debug)]
 pub enum InsertError {
-    /// The map is a [`JudySl`](crate::JudySl) and the bytes are no key of it: they are more than [`MAX_KEY`], or one of them is zero.
+    /// The map is a [`JudySl`](crate::JudySl) and the bytes are no key of it: they are more than [`MAX_KEY`], or one of
+    /// them is zero.
     BadKey,
     /// The key is absent, and the map holds 4,294,967,295 keys.
     Full,
@@ -58,8 +60,8 @@ impl fmt::Display for InsertError {
 
 impl std::error::Error for InsertError {}
 
-/// Writes the calls of a `$map` with values of the type `V` that need no order of its keys, over the calls of C named. `$sample`
-/// is a line of an example that makes `map` with the key `"a"` of the value 10.
+/// Writes the calls of a `$map` with values of the type `V` that need no order of its keys, over the calls of C named.
+/// `$sample` is a line of an example that makes `map` with the key `"a"` of the value 10.
 macro_rules! keyed_map {
     ($map:ident; $ins:ident, $insert:ident, $get:ident, $slot:ident, $del:ident, $remove:ident; $sample:literal) => {
         // What takes the library's pointers.
@@ -72,7 +74,8 @@ macro_rules! keyed_map {
                 found.then_some(slot.cast()).and_then(NonNull::new)
             }
 
-            /// The slot of a key, which is put in where it is absent. Then the slot is all zeros, which need be no value.
+            /// The slot of a key, which is put in where it is absent. Then the slot is all zeros, which need be no
+            /// value.
             fn make_slot(&mut self, key: &[u8]) -> Result<NonNull<V>, InsertError> {
                 let mut slot = null_mut();
                 // SAFETY: the handle is this map's, lent for this call alone; the key is a slice's.
@@ -89,7 +92,8 @@ macro_rules! keyed_map {
         }
 
         impl<V: Value> $map<V> {
-            /// Gives a key a value, and answers the one it had. It ends the program where there is no memory, as std's maps do.
+            /// Gives a key a value, and answers the one it had. It ends the program where there is no memory, as std's
+            /// maps do.
             ///
             /// # Panics
             ///
@@ -107,8 +111,8 @@ macro_rules! keyed_map {
             ///
             /// # Errors
             ///
-            /// [`InsertError`](crate::InsertError) tells why the key can't be put in, and the map is as it was. A key that is there is
-            /// never refused.
+            /// [`InsertError`](crate::InsertError) tells why the key can't be put in, and the map is as it was. A key
+            /// that is there is never refused.
             ///
             /// ```
             #[doc = $sample]
@@ -129,8 +133,8 @@ macro_rules! keyed_map {
                 }
             }
 
-            /// The value of a key, to read and to change; the key is put in with the default value where it is absent. By this an
-            /// absent key takes a way down the map less than by [`entry`](Self::entry).
+            /// The value of a key, to read and to change; the key is put in with the default value where it is absent.
+            /// By this an absent key takes a way down the map less than by [`entry`](Self::entry).
             ///
             /// # Errors
             ///
@@ -146,8 +150,8 @@ macro_rules! keyed_map {
                 V: ZeroValue,
             {
                 let slot = self.make_slot(key.as_ref())?;
-                // SAFETY: a slot lives until the map is changed, which stays borrowed as long as the reference. It holds a value, also where it
-                // is all zeros.
+                // SAFETY: a slot lives until the map is changed, which stays borrowed as long as the reference. It
+                // holds a value, also where it is all zeros.
                 Ok(unsafe { &mut *slot.as_ptr() })
             }
 
@@ -173,8 +177,8 @@ macro_rules! keyed_map {
             /// ```
             pub fn get_mut(&mut self, key: impl AsRef<[u8]>) -> Option<&mut V> {
                 let slot = self.find_slot(key.as_ref())?;
-                // SAFETY: a slot lives until the map is changed, which stays borrowed as long as the reference. That of a key that is there
-                // holds a value.
+                // SAFETY: a slot lives until the map is changed, which stays borrowed as long as the reference. That of
+                // a key that is there holds a value.
                 Some(unsafe { &mut *slot.as_ptr() })
             }
 

@@ -19,9 +19,9 @@
 //! assert!(squares.range(10..).eq([(16, 4), (25, 5)]));
 //! ```
 //!
-//! [`Judy1<K>`](Judy1) and [`JudyL<V, K>`](JudyL) have keys of any integer type, in their own order, and the maps have values of any type
-//! that fits a word: see [`Key`] and [`Value`]. `new` and `from` make arrays of `u64`, so that numbers without a type are words; those of
-//! other types are made by `collect`, `from_sorted`, `default` or `empty`.
+//! [`Judy1<K>`](Judy1) and [`JudyL<V, K>`](JudyL) have keys of any integer type, in their own order, and the maps have
+//! values of any type that fits a word: see [`Key`] and [`Value`]. `new` and `from` make arrays of `u64`, so that
+//! numbers without a type are words; those of other types are made by `collect`, `from_sorted`, `default` or `empty`.
 //!
 //! ```
 //! use sellumaq::JudyL;
@@ -30,10 +30,12 @@
 //! assert!(letters.iter().eq([(-1, 'a'), (1, 'b')]));
 //! ```
 //!
-//! Arrays may be sent to other threads and be read by several at a time, which is read off the library's code and tested, and no part of
-//! its proofs. An insert without memory ends the program by `handle_alloc_error`; `try_insert` answers an error.
+//! Arrays may be sent to other threads and be read by several at a time, which is read off the library's code and
+//! tested, and no part of its proofs. An insert without memory ends the program by `handle_alloc_error`; `try_insert`
+//! answers an error.
 //!
-//! Arrays are saved to files and loaded, and turned to bytes and back, as C, Python and the program judystore read them too.
+//! Arrays are saved to files and loaded, and turned to bytes and back, as C, Python and the program judystore read them
+//! too.
 //!
 //! ```
 //! use sellumaq::JudyL;

@@ -4,12 +4,13 @@ use sellumaq_sys as sys;
 use std::fmt;
 use std::ops::Range;
 
-/// How many bytes of keys are asked for at least, and for each key: more than most keys have, since each call of C sorts all keys anew. The
-/// system gives pages to what is written alone.
+/// How many bytes of keys are asked for at least, and for each key: more than most keys have, since each call of C
+/// sorts all keys anew. The system gives pages to what is written alone.
 const LEAST_ROOM: usize = 1024;
 const ROOM: usize = 64;
 
-/// Pairs by the lengths of their keys, and those of one length by their bytes: those that are still to come, from both ends.
+/// Pairs by the lengths of their keys, and those of one length by their bytes: those that are still to come, from both
+/// ends.
 #[derive(Clone)]
 pub struct List {
     // The keys, one behind the other, and where those to come begin and end.
@@ -21,7 +22,8 @@ pub struct List {
 }
 
 impl List {
-    /// All pairs of a map, of which there are so many. It ends the program where there is no memory for the list, as std's collections do.
+    /// All pairs of a map, of which there are so many. It ends the program where there is no memory for the list, as
+    /// std's collections do.
     ///
     /// # Safety
     ///
@@ -60,7 +62,8 @@ impl List {
         Ok(list)
     }
 
-    // Takes the pairs behind those that it has, as many as there is room for: none where the next key has more bytes than that.
+    // Takes the pairs behind those that it has, as many as there is room for: none where the next key has more bytes
+    // than that.
     //
     // SAFETY: as of `of`.
     unsafe fn go_on(&mut self, handle: &sys::sellumaq_judyhs) -> Result<(), NoMemory> {
@@ -69,8 +72,8 @@ impl List {
         let entries = self.entries.spare_capacity_mut();
         let (room, capacity) = (bytes.len(), entries.len());
         let (to, told) = (bytes.as_mut_ptr().cast(), entries.as_mut_ptr().cast());
-        // SAFETY: the handle is as the caller says, and the call only reads it; both buffers have the room that they are said to have, and
-        // belong to this list alone.
+        // SAFETY: the handle is as the caller says, and the call only reads it; both buffers have the room that they
+        // are said to have, and belong to this list alone.
         if !unsafe {
             sys::sellumaq_judyhs_walk(handle, behind, to, room, told, capacity, &mut count)
         } {

@@ -1,8 +1,8 @@
 //! What ordered maps have alike.
 
-/// Writes the calls of a `$map` with values of the type `V` at the ends of its order, and its iterators over keys and values. Keys
-/// come as `$key` and are looked up by what is `$lookup`. `$sample` is a line of an example that makes `map` with the values 10 and 20 of the
-/// keys `$a` and `$b`; an `$owned` key is one that the map gives away.
+/// Writes the calls of a `$map` with values of the type `V` at the ends of its order, and its iterators over keys and
+/// values. Keys come as `$key` and are looked up by what is `$lookup`. `$sample` is a line of an example that makes
+/// `map` with the values 10 and 20 of the keys `$a` and `$b`; an `$owned` key is one that the map gives away.
 macro_rules! ordered_map {
     (
         $map:ident<$($param:ident: $bound:path = $default:ty),+>; $key:ty, $lookup:path;

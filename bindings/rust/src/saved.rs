@@ -258,20 +258,23 @@ pub(crate) fn dumped(
     Ok(bytes)
 }
 
-/// Writes how an `$array` is turned to bytes and made of them, over the calls of C named. `$sample` is a line of an example that makes `array`, and `$type` its type.
+/// Writes how an `$array` is turned to bytes and made of them, over the calls of C named. `$sample` is a line of an
+/// example that makes `array`, and `$type` its type.
 macro_rules! saved {
     (
         $array:ident<$($param:ident: $bound:path),+>; $dump:ident, $dump_size:ident, $load:ident, $save:ident, $open:ident;
         $sample:literal, $type:literal
     ) => {
         impl<$($param: $bound),+> $array<$($param),+> {
-            /// The array as bytes, which [`from_bytes`](Self::from_bytes) reads: its dump in the format `JDY2`, under the name `array`, as the program
-            /// judystore reads and writes it too. Arrays of the same keys and values have the same bytes, on each machine. Keys and values
-            /// are words there, as [`Key`](crate::Key) and [`Value`](crate::Value) tell; their types are no part of it.
+            /// The array as bytes, which [`from_bytes`](Self::from_bytes) reads: its dump in the format `JDY2`, under
+            /// the name `array`, as the program judystore reads and writes it too. Arrays of the same keys and values
+            /// have the same bytes, on each machine. Keys and values are words there, as [`Key`](crate::Key) and
+            /// [`Value`](crate::Value) tell; their types are no part of it.
             ///
             /// # Errors
             ///
-            /// [`DumpFault`](crate::DumpFault) tells why no dump can say the array, or that there is no memory for the bytes.
+            /// [`DumpFault`](crate::DumpFault) tells why no dump can say the array, or that there is no memory for the
+            /// bytes.
             ///
             /// ```
             #[doc = $sample]
@@ -282,7 +285,8 @@ macro_rules! saved {
                 use crate::saved::{FORMAT, NAME};
                 let (handle, name, length) = (self.handle, NAME.as_ptr(), NAME.len());
                 crate::saved::dumped(
-                    // SAFETY: the handle is this array's, lent for this call alone, which only reads; the name is a slice's.
+                    // SAFETY: the handle is this array's, lent for this call alone, which only reads; the name is a
+                    // slice's.
                     |size| unsafe { sellumaq_sys::$dump_size(&handle, FORMAT, name, length, size) },
                     // SAFETY: as above, and there is as much room as is told.
                     |bytes, room, size| unsafe {
@@ -291,9 +295,9 @@ macro_rules! saved {
                 )
             }
 
-            /// The array of which these bytes are the dump, in either format and under any name: those of [`to_bytes`](Self::to_bytes), of C and
-            /// Python, or of judystore. The bytes may be anything: memory is asked for by the keys that were read, and never by a number that
-            /// they say.
+            /// The array of which these bytes are the dump, in either format and under any name: those of
+            /// [`to_bytes`](Self::to_bytes), of C and Python, or of judystore. The bytes may be anything: memory is
+            /// asked for by the keys that were read, and never by a number that they say.
             ///
             /// # Errors
             ///
@@ -306,7 +310,8 @@ macro_rules! saved {
             pub fn from_bytes(bytes: impl AsRef<[u8]>) -> Result<Self, crate::LoadFault> {
                 let (mut array, bytes, mut fault) = (Self::empty(), bytes.as_ref(), 0);
                 let handle = &mut array.handle;
-                // SAFETY: the handle is a new array's, lent for this call alone; the bytes are a slice's, and the fault this function's.
+                // SAFETY: the handle is a new array's, lent for this call alone; the bytes are a slice's, and the fault
+                // this function's.
                 let told = unsafe {
                     sellumaq_sys::$load(handle, bytes.as_ptr(), bytes.len(), &mut fault)
                 };
@@ -318,7 +323,8 @@ macro_rules! saved {
             ///
             /// # Errors
             ///
-            /// [`SaveError`](crate::SaveError) tells why there are no bytes, or what the writer told; some may have been written then.
+            /// [`SaveError`](crate::SaveError) tells why there are no bytes, or what the writer told; some may have
+            /// been written then.
             ///
             /// ```
             #[doc = $sample]
@@ -347,12 +353,14 @@ macro_rules! saved {
                 Ok(Self::from_bytes(bytes)?)
             }
 
-            /// Saves the bytes of [`to_bytes`](Self::to_bytes) to a file, in place of an old one. They are written to a file beside, which takes the
-            /// old one's name and permissions when the disk has all of it. So whoever opens the path finds the one or the other, whole.
+            /// Saves the bytes of [`to_bytes`](Self::to_bytes) to a file, in place of an old one. They are written to a
+            /// file beside, which takes the old one's name and permissions when the disk has all of it. So whoever
+            /// opens the path finds the one or the other, whole.
             ///
             /// # Errors
             ///
-            /// [`SaveError`](crate::SaveError) tells why there are no bytes, or what the system told. The old file is as it was then.
+            /// [`SaveError`](crate::SaveError) tells why there are no bytes, or what the system told. The old file is
+            /// as it was then.
             ///
             /// ```
             #[doc = $sample]
@@ -364,14 +372,16 @@ macro_rules! saved {
             /// ```
             pub fn save(&self, path: impl AsRef<std::path::Path>) -> Result<(), crate::SaveError> {
                 let (handle, path) = (self.handle, crate::saved::path_of(path.as_ref())?);
-                // SAFETY: the handle is this array's, lent for this call alone, which only reads; the path is a string of C.
+                // SAFETY: the handle is this array's, lent for this call alone, which only reads; the path is a string
+                // of C.
                 match unsafe { sellumaq_sys::$save(&handle, path.as_ptr()) } {
                     sellumaq_sys::SELLUMAQ_SYSTEM => Err(std::io::Error::last_os_error().into()),
                     told => Ok(crate::DumpFault::check(told)?),
                 }
             }
 
-            /// The array that was saved to a file, by any of the languages or by judystore. The file is read into memory first.
+            /// The array that was saved to a file, by any of the languages or by judystore. The file is read into
+            /// memory first.
             ///
             /// # Errors
             ///
@@ -384,7 +394,8 @@ macro_rules! saved {
             pub fn load(path: impl AsRef<std::path::Path>) -> Result<Self, crate::LoadError> {
                 let (mut array, mut fault) = (Self::empty(), 0);
                 let path = crate::saved::path_of(path.as_ref())?;
-                // SAFETY: the handle is a new array's, lent for this call alone; the path is a string of C, and the fault this function's.
+                // SAFETY: the handle is a new array's, lent for this call alone; the path is a string of C, and the
+                // fault this function's.
                 match unsafe { sellumaq_sys::$open(&mut array.handle, path.as_ptr(), &mut fault) } {
                     sellumaq_sys::SELLUMAQ_SYSTEM => Err(std::io::Error::last_os_error().into()),
                     told => {

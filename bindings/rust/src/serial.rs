@@ -1,7 +1,8 @@
-//! Serde's two traits by the feature `serde`: a set as a sequence of words, a map as a map, and the keys of strings as bytes.
+//! Serde's two traits by the feature `serde`: a set as a sequence of words, a map as a map, and the keys of strings as
+//! bytes.
 //!
-//! What is read may be anything: no room is made for items that are only promised, a key comes again as of std's maps, with the
-//! last value, and bytes that are no key, a full map, and want of memory are errors.
+//! What is read may be anything: no room is made for items that are only promised, a key comes again as of std's maps,
+//! with the last value, and bytes that are no key, a full map, and want of memory are errors.
 use crate::{Judy1, JudyHs, JudyL, JudySl, Key, Value};
 use serde::de::{Deserialize, DeserializeSeed, Deserializer, Error, MapAccess, SeqAccess, Visitor};
 use serde::ser::{Serialize, SerializeMap, Serializer};

@@ -5,7 +5,8 @@ use crate::way::{Told, Walked, Way};
 use std::iter::Peekable;
 use std::ops::RangeBounds;
 
-/// A key that is taken out takes the time in which about so many are made an array at once, and a node of that the time of `NODE` keys.
+/// A key that is taken out takes the time in which about so many are made an array at once, and a node of that the time
+/// of `NODE` keys.
 const DELETE: usize = 16;
 const NODE: usize = 10;
 
@@ -20,19 +21,21 @@ pub trait Sifted: Walked + Sized {
     fn of_list(told: &[Self::Told]) -> Option<Self>;
 }
 
-/// What stays of the keys from one on, up to the last that was looked at; all are in the array still, and so many are to go.
+/// What stays of the keys from one on, up to the last that was looked at; all are in the array still, and so many are
+/// to go.
 struct List<T> {
     from: u64,
     stay: Vec<T>,
     go: usize,
 }
 
-/// A way through a range of an array, of which each key is said to stay or to go. Those that go are taken out one by one; where they are many,
-/// those that stay are listed, and an array is made of the list when the sieve is dropped.
+/// A way through a range of an array, of which each key is said to stay or to go. Those that go are taken out one by
+/// one; where they are many, those that stay are listed, and an array is made of the list when the sieve is dropped.
 pub struct Sieve<'a, A: Sifted> {
     array: &'a mut A,
     way: Way<A::Told>,
-    // The last key that was looked at, how many stayed and went, and how many stand in other 256 words than the one before.
+    // The last key that was looked at, how many stayed and went, and how many stand in other 256 words than the one
+    // before.
     last: Option<u64>,
     stayed: usize,
     went: usize,

@@ -1,7 +1,7 @@
 //! Iterators over an ordered map that lend its values to be changed.
 
-/// Writes `RangeMut` and `IterMut` of a `$map` with values of the type `V`, whose keys come as `$key`. `$sample` is a line of an example that
-/// makes `map` with the values 10 and 20.
+/// Writes `RangeMut` and `IterMut` of a `$map` with values of the type `V`, whose keys come as `$key`. `$sample` is a
+/// line of an example that makes `map` with the values 10 and 20.
 macro_rules! slot_walks {
     ($map:ident<$($param:ident: $bound:path = $default:ty),+> through $way:ty; $key:ty; $sample:literal) => {
         #[doc = concat!("Keys of a [`", stringify!($map), "`] in a range, each beside its value, to change, from both ends.")]
@@ -24,9 +24,9 @@ macro_rules! slot_walks {
             }
 
             fn lend((key, slot): ($key, std::ptr::NonNull<V>)) -> ($key, &'a mut V) {
-                // SAFETY: the map is borrowed to be changed for as long as the slot is lent, and isn't changed meanwhile,
-                // so the slot stays. No key comes twice, so no slot is lent twice. On the way to the next slot no value is
-                // read that may be lent.
+                // SAFETY: the map is borrowed to be changed for as long as the slot is lent, and isn't changed
+                // meanwhile, so the slot stays. No key comes twice, so no slot is lent twice. On the way to the next
+                // slot no value is read that may be lent.
                 (key, unsafe { &mut *slot.as_ptr() })
             }
         }

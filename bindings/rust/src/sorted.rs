@@ -52,7 +52,8 @@ impl fmt::Display for FromSortedError {
 
 impl std::error::Error for FromSortedError {}
 
-/// Writes how an array of words is made of many items at once, by the calls `$from_sorted` and `$from_unsorted` over a list of `$told`.
+/// Writes how an array of words is made of many items at once, by the calls `$from_sorted` and `$from_unsorted` over a
+/// list of `$told`.
 macro_rules! at_once {
     (
         $array:ident<$($param:ident: $bound:path),+>; $item:ty; $told:ty, $from_sorted:ident, $from_unsorted:ident;
@@ -62,7 +63,8 @@ macro_rules! at_once {
             /// The array of a list; of one that doesn't ascend the place is told.
             fn try_at_once(told: &[$told], place: &mut usize) -> Result<Self, crate::InsertError> {
                 let (keys, count) = (told.as_ptr(), told.len());
-                // SAFETY: the handle is a new array's, lent for this call alone, and the place the caller's; the list is as long as is told.
+                // SAFETY: the handle is a new array's, lent for this call alone, and the place the caller's; the list
+                // is as long as is told.
                 Self::made_by(|made| unsafe {
                     sellumaq_sys::$from_sorted(made, keys, count, place)
                 })
@@ -76,8 +78,8 @@ macro_rules! at_once {
                 }
             }
 
-            /// Makes an array of keys that strictly ascend, in a part of the time of an insert for each. It ends the program
-            /// where there is no memory, as std's collections do.
+            /// Makes an array of keys that strictly ascend, in a part of the time of an insert for each. It ends the
+            /// program where there is no memory, as std's collections do.
             ///
             /// # Errors
             ///
@@ -94,9 +96,9 @@ macro_rules! at_once {
                 Self::at_once(&Self::list(items))
             }
 
-            /// Makes an array of items in any order, of which the last with a key is kept; `collect` does the same. They are sorted
-            /// first, where they don't ascend, which takes a part of the time of an insert for each. It ends the program where there is no
-            /// memory.
+            /// Makes an array of items in any order, of which the last with a key is kept; `collect` does the same.
+            /// They are sorted first, where they don't ascend, which takes a part of the time of an insert for each. It
+            /// ends the program where there is no memory.
             ///
             /// ```
             #[doc = $unsorted]

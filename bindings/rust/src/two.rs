@@ -3,9 +3,10 @@
 /// An array with at most one key for so many of another's is looked up in that, key by key.
 pub const MANY: usize = 8;
 
-/// Writes how an ordered `$array` of `$item`s is copied, made of two by the signs `|`, `&`, `-` and `^`, and compared with another, by the calls
-/// of C over its `$handle`. `$has` tells whether a key is there, and `$get` the item of one; the key of an item is `$key`. `$sample` is a line of
-/// an example that makes `a` and `b` with two keys each, of which both have one.
+/// Writes how an ordered `$array` of `$item`s is copied, made of two by the signs `|`, `&`, `-` and `^`, and compared
+/// with another, by the calls of C over its `$handle`. `$has` tells whether a key is there, and `$get` the item of one;
+/// the key of an item is `$key`. `$sample` is a line of an example that makes `a` and `b` with two keys each, of which
+/// both have one.
 macro_rules! of_two {
     (
         $array:ident<$($param:ident: $bound:path),+>; $item:ty, |$it:ident| $key:expr; $has:ident, $get:ident; $handle:ident,
@@ -24,7 +25,8 @@ macro_rules! of_two {
                 }
             }
 
-            /// The array that a call of C makes of this one and another, which isn't the same. It ends the program where there is no memory.
+            /// The array that a call of C makes of this one and another, which isn't the same. It ends the program
+            /// where there is no memory.
             fn made_with(
                 &self,
                 other: &Self,
@@ -45,7 +47,8 @@ macro_rules! of_two {
                 std::ptr::eq(self, other)
             }
 
-            /// Whether its keys are so few that to look them up in the other array takes less time than a walk over that.
+            /// Whether its keys are so few that to look them up in the other array takes less time than a walk over
+            /// that.
             fn is_few_beside(&self, other: &Self) -> bool {
                 self.len() < other.len() / crate::two::MANY
             }

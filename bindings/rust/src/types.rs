@@ -1,5 +1,6 @@
 //! What keys and values may be: what fits a word of 64 bits.
-// Integers of all sizes are cast by the same lines. What a cast cuts off are zeros, and a sign that it turns is turned back.
+// Integers of all sizes are cast by the same lines. What a cast cuts off are zeros, and a sign that it turns is turned
+// back.
 #![allow(
     clippy::cast_lossless,
     clippy::cast_possible_wrap,
@@ -15,11 +16,11 @@ use std::num::{NonZeroU16, NonZeroU32, NonZeroU64, NonZeroU8, NonZeroUsize};
 #[cfg(not(all(target_endian = "little", target_pointer_width = "64")))]
 compile_error!("values that are less than a word stand in its first bytes: this needs a little-endian machine of 64 bits");
 
-/// What a key of a [`Judy1`](crate::Judy1) or a [`JudyL`](crate::JudyL) may be: an integer of any size. Keys are in their
-/// own order, negative ones before the others.
+/// What a key of a [`Judy1`](crate::Judy1) or a [`JudyL`](crate::JudyL) may be: an integer of any size. Keys are in
+/// their own order, negative ones before the others.
 ///
-/// The library's keys are words, in the order of unsigned numbers. A key is the word that tells how far it is above the least
-/// one of its type, so that a `u64` is itself.
+/// The library's keys are words, in the order of unsigned numbers. A key is the word that tells how far it is above the
+/// least one of its type, so that a `u64` is itself.
 ///
 /// ```
 /// let set: sellumaq::Judy1<i8> = [5, -128, 0, -1].into_iter().collect();
@@ -28,11 +29,11 @@ compile_error!("values that are less than a word stand in its first bytes: this 
 /// ```
 pub trait Key: sealed::Key + Copy + Ord + Hash + Debug + Send + Sync + 'static {}
 
-/// What a value of a map may be: an integer of any size, a `bool`, a `char`, an integer that is never zero, or an `Option` of
-/// such a one. It takes a word in the map.
+/// What a value of a map may be: an integer of any size, a `bool`, a `char`, an integer that is never zero, or an
+/// `Option` of such a one. It takes a word in the map.
 ///
-/// Other `Option`s are none, since the language doesn't say how they stand in memory; nor are floating point numbers, since
-/// they have no order, and so maps of them had none.
+/// Other `Option`s are none, since the language doesn't say how they stand in memory; nor are floating point numbers,
+/// since they have no order, and so maps of them had none.
 ///
 /// ```
 /// use std::num::NonZeroU32;
@@ -44,7 +45,8 @@ pub trait Key: sealed::Key + Copy + Ord + Hash + Debug + Send + Sync + 'static {
 /// ```
 pub trait Value: sealed::Value + Copy + Ord + Hash + Debug + Send + Sync + 'static {}
 
-/// A value whose default is all zeros, as that of a key is which the library puts in: each but the integers that are never zero.
+/// A value whose default is all zeros, as that of a key is which the library puts in: each but the integers that are
+/// never zero.
 ///
 /// ```
 /// let mut flags = sellumaq::JudyL::<bool>::empty();
@@ -67,8 +69,8 @@ mod sealed {
 
     /// # Safety
     ///
-    /// A value has at most the bytes and the alignment of a word, and no byte of it is padding. It stands in the first bytes of the word
-    /// that `bits` answers.
+    /// A value has at most the bytes and the alignment of a word, and no byte of it is padding. It stands in the first
+    /// bytes of the word that `bits` answers.
     pub unsafe trait Value {
         /// Whether each word holds a value.
         const EACH: bool = false;
@@ -93,8 +95,8 @@ macro_rules! value {
     ($type:ty; $value:ident => $to:expr; $bits:ident => $from:expr, if $held:expr $(, each $each:expr)?) => {
         const _: () = assert!(size_of::<$type>() <= 8 && align_of::<$type>() <= 8);
 
-        // SAFETY: that it fits is asserted above. It is an integer or stands in memory as one, which has no padding. On a little-endian machine
-        // the first bytes of a word are its lowest, which the integer fills by `bits`.
+        // SAFETY: that it fits is asserted above. It is an integer or stands in memory as one, which has no padding. On
+        // a little-endian machine the first bytes of a word are its lowest, which the integer fills by `bits`.
         unsafe impl sealed::Value for $type {
             $(const EACH: bool = $each;)?
 
@@ -121,7 +123,8 @@ macro_rules! value {
 
 macro_rules! zero_value {
     ($($type:ty),*) => { $(
-        // SAFETY: 0 is the number 0, false, the first character, or the `None` of an integer that is never zero, each the default.
+        // SAFETY: 0 is the number 0, false, the first character, or the `None` of an integer that is never zero, each
+        // the default.
         unsafe impl sealed::ZeroValue for $type {}
 
         impl ZeroValue for $type {}

@@ -1,8 +1,8 @@
 //! Iterators over an ordered array that change nothing in it.
 
 /// Writes the iterators `Range`, `Iter` and `IntoIter` of an `$array` over its way through a range, a `$way`, which has
-/// `next`, `next_back`, `fold` and `rfold`, each given the array. What these tell the array's `item` makes an `$item` of. `$sample`
-/// is a line of an example that makes `array` with three keys.
+/// `next`, `next_back`, `fold` and `rfold`, each given the array. What these tell the array's `item` makes an `$item`
+/// of. `$sample` is a line of an example that makes `array` with three keys.
 macro_rules! walks {
     ($array:ident<$($param:ident: $bound:path = $default:ty),+> through $way:ty; $item:ty; $sample:literal) => {
         #[doc = concat!("What a [`", stringify!($array), "`] holds in a range, by ascending key, from both ends.")]

@@ -64,8 +64,8 @@ pub type Room<T> = [MaybeUninit<T>];
 pub trait Walked {
     type Told: Told;
 
-    /// Writes the keys from one word up to another to the beginning of some room, in ascending order, as many as there is room for, and
-    /// answers how many these are. Keys above these words may come behind them.
+    /// Writes the keys from one word up to another to the beginning of some room, in ascending order, as many as there
+    /// is room for, and answers how many these are. Keys above these words may come behind them.
     fn walk(&self, from: u64, to: u64, room: &mut Room<Self::Told>) -> usize;
 
     /// The same of the greatest keys from one word up to another, and of no others.
@@ -75,8 +75,9 @@ pub trait Walked {
     fn count_between(&self, from: u64, to: u64) -> u64;
 }
 
-/// What is still to come of a range: the keys that were brought, which lie below the words left where the way goes up, and
-/// above them where it goes down. In a set they may be a run of keys without a gap, which a count tells, and so none is brought.
+/// What is still to come of a range: the keys that were brought, which lie below the words left where the way goes up,
+/// and above them where it goes down. In a set they may be a run of keys without a gap, which a count tells, and so
+/// none is brought.
 #[derive(Clone)]
 pub struct Way<T: Told> {
     words: Span,

@@ -1,6 +1,7 @@
 //! What sets and maps of words have alike.
 
-/// So many items are made an array at once, where they are no fewer than those that are there, and fewer are put in one by one.
+/// So many items are made an array at once, where they are no fewer than those that are there, and fewer are put in one
+/// by one.
 pub const MANY: usize = 64;
 
 /// Writes what a set and a map of words have alike: the calls that count, and the traits of std that go through what
@@ -15,8 +16,8 @@ macro_rules! word_array {
         impl<$($param: $bound),+> $array<$($param),+> {
             fn search(&self, call: Search, from: u64) -> Option<u64> {
                 let (handle, mut word) = (self.handle, 0);
-                // SAFETY: the call is one of `sellumaq_sys` for this kind, which only reads; the handle is this array's,
-                // lent for this call alone, and the word this function's.
+                // SAFETY: the call is one of `sellumaq_sys` for this kind, which only reads; the handle is this
+                // array's, lent for this call alone, and the word this function's.
                 unsafe { call(&handle, from, &mut word) }.then_some(word)
             }
 
@@ -238,13 +239,13 @@ macro_rules! word_array {
     };
 }
 
-/// Writes what sets and maps of words have alike in taking what others hold, by the call of C `$append_call`, and those of std's traits
-/// that build one of items.
+/// Writes what sets and maps of words have alike in taking what others hold, by the call of C `$append_call`, and those
+/// of std's traits that build one of items.
 macro_rules! collected {
     ($array:ident<$($param:ident: $bound:path),+>; $item:ty, $of_words:ty; $append_call:ident; $sample:literal) => {
         impl<$($param: $bound),+> $array<$($param),+> {
-            /// Moves all that another holds into this one. A key of both has the other's value then. It ends the program where there is no
-            /// memory.
+            /// Moves all that another holds into this one. A key of both has the other's value then. It ends the
+            /// program where there is no memory.
             ///
             /// ```
             #[doc = concat!($sample, "\nlet (mut array, mut all) = (array, sellumaq::", stringify!($array), "::new());")]

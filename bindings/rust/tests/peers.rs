@@ -1,5 +1,5 @@
-//! The same steps on an array and on std's: what std's documentation shows of `BTreeSet` and `BTreeMap`, written anew. What differs is
-//! listed in README.md.
+//! The same steps on an array and on std's: what std's documentation shows of `BTreeSet` and `BTreeMap`, written anew.
+//! What differs is listed in README.md.
 // Both forms of a key are tried, by itself and lent, and each form of a loop.
 #![allow(clippy::needless_borrows_for_generic_args, clippy::for_kv_map)]
 use sellumaq::{judyl, judysl, Judy1, JudyHs, JudyL, JudySl};

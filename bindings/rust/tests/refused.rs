@@ -1,5 +1,5 @@
-//! Inserts that are refused for want of memory: each says so and leaves the array as it was. Memory is refused by tests/refuse_alloc.c where
-//! that is preloaded, as `make check` does; where it isn't, nothing is tried.
+//! Inserts that are refused for want of memory: each says so and leaves the array as it was. Memory is refused by
+//! tests/refuse_alloc.c where that is preloaded, as `make check` does; where it isn't, nothing is tried.
 use sellumaq::judyl::Entry;
 use sellumaq::{DumpFault, InsertError, Judy1, JudyHs, JudyL, JudySl, LoadFault, NoMemory};
 use std::collections::{BTreeMap, BTreeSet};
@@ -243,7 +243,8 @@ fn a_map_of_byte_strings_without_memory() {
     });
 }
 
-/// Arrays that are turned to bytes and made of them: each refusal is told, and the bytes and arrays are those of the plenty.
+/// Arrays that are turned to bytes and made of them: each refusal is told, and the bytes and arrays are those of the
+/// plenty.
 macro_rules! saved_without_memory {
     ($($type:ty, $array:expr, $least:literal;)*) => { $(
         let refuser = match Refuser::find() {

@@ -1,4 +1,5 @@
-//! What no safe program may break: iterators that are left or forgotten, closures that panic, keys that change, and threads.
+//! What no safe program may break: iterators that are left or forgotten, closures that panic, keys that change, and
+//! threads.
 use sellumaq::{Judy1, JudyHs, JudyL, JudySl};
 use std::cell::Cell;
 use std::mem::forget;

@@ -14,7 +14,8 @@ impl Strings {
         self.0
     }
 
-    /// A string over a few bytes, so that keys come again, begin one another, and are cut anywhere in their pieces of eight bytes.
+    /// A string over a few bytes, so that keys come again, begin one another, and are cut anywhere in their pieces of
+    /// eight bytes.
     fn of(&mut self, bytes: &[u8]) -> Vec<u8> {
         let shared = [0, 0, 7, 8, 9, 40][self.any() as usize % 6];
         let own = self.any() % 4;

@@ -1,4 +1,5 @@
-//! What is taken out of arrays while they are gone through, few keys and many, beside std's; and walks over strings from both ends.
+//! What is taken out of arrays while they are gone through, few keys and many, beside std's; and walks over strings
+//! from both ends.
 use sellumaq::{Judy1, JudyHs, JudyL, JudySl};
 use std::cell::Cell;
 use std::collections::{BTreeMap, BTreeSet, HashMap};

@@ -6,8 +6,8 @@ use std::mem::replace;
 use std::num::*;
 use std::ops::Bound::{Excluded, Included, Unbounded};
 
-/// The steps of a map that the three kinds name alike, beside those of a std map of the same keys: each value is put in, read, changed in place
-/// to each other one, and taken out.
+/// The steps of a map that the three kinds name alike, beside those of a std map of the same keys: each value is put
+/// in, read, changed in place to each other one, and taken out.
 macro_rules! holds {
     ($map:ty, $key:expr, $edges:expr) => {
         let (mut map, edges) = (<$map>::empty(), $edges);
@@ -151,8 +151,8 @@ fn same<T: PartialEq + Debug>(
     );
 }
 
-/// Random changes of a set and of a map of keys of a type, beside std's, and what both tell after each. Keys lie at both ends of the type, about
-/// zero, and anywhere.
+/// Random changes of a set and of a map of keys of a type, beside std's, and what both tell after each. Keys lie at
+/// both ends of the type, about zero, and anywhere.
 macro_rules! keys {
     ($($test:ident: $key:ident;)*) => { $(
         #[test]

@@ -1,12 +1,12 @@
-//! The calls of the C library libsellumaq, by the names of `sellumaq.h`, which says what each answers and what it asks of its caller.
-//! The crate `sellumaq` has safe types over them.
+//! The calls of the C library libsellumaq, by the names of `sellumaq.h`, which says what each answers and what it asks
+//! of its caller. The crate `sellumaq` has safe types over them.
 //!
-//! The crate carries the library as assembly for x86-64, Linux and glibc, which its build script assembles with a C compiler and links
-//! statically. A library that was built before takes its place where `SELLUMAQ_LIB` names the folder of a `libsellumaq.a`, or where
-//! `SELLUMAQ_SHARED=1` asks for the shared one that pkg-config finds.
+//! The crate carries the library as assembly for x86-64, Linux and glibc, which its build script assembles with a C
+//! compiler and links statically. A library that was built before takes its place where `SELLUMAQ_LIB` names the folder
+//! of a `libsellumaq.a`, or where `SELLUMAQ_SHARED=1` asks for the shared one that pkg-config finds.
 //!
-//! A handle of zeros is the array without keys. Calls that only read take the handle as `*const`: they leave it, and all that it leads
-//! to, as it is.
+//! A handle of zeros is the array without keys. Calls that only read take the handle as `*const`: they leave it, and
+//! all that it leads to, as it is.
 #![no_std]
 #![allow(non_camel_case_types)]
 
@@ -78,7 +78,8 @@ pub const SELLUMAQ_NO_MEMORY: u32 = 2;
 pub const SELLUMAQ_NONE: u32 = 0;
 /// The key is there, and what was asked of it is told.
 pub const SELLUMAQ_FOUND: u32 = 1;
-/// Of strings and byte strings: the key is absent, and the map holds 4,294,967,295 keys; of `from_sorted`: the keys are more than that.
+/// Of strings and byte strings: the key is absent, and the map holds 4,294,967,295 keys; of `from_sorted`: the keys are
+/// more than that.
 pub const SELLUMAQ_FULL: u32 = 3;
 /// Of strings and byte strings: the bytes are no key; of `from_sorted` also: a key isn't above the one before it.
 pub const SELLUMAQ_BAD_KEY: u32 = 4;

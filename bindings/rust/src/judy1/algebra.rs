@@ -15,8 +15,8 @@ impl<K: Key> Judy1<K> {
         Union(Both::of(self, other))
     }
 
-    /// The keys of both sets, by ascending key. It leaps to the next key of the one set and then of the other, so that it
-    /// takes a time in which the lesser of the two could be gone through.
+    /// The keys of both sets, by ascending key. It leaps to the next key of the one set and then of the other, so that
+    /// it takes a time in which the lesser of the two could be gone through.
     ///
     /// ```
     /// let (a, b) = (sellumaq::Judy1::from([1, 2]), sellumaq::Judy1::from([2, 3]));

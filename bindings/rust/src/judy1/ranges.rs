@@ -46,8 +46,8 @@ impl<K: Key> Judy1<K> {
         })
     }
 
-    /// Puts each number of a range in, and answers how many were absent. It ends the program where there is no memory, as there is none for
-    /// all words.
+    /// Puts each number of a range in, and answers how many were absent. It ends the program where there is no memory,
+    /// as there is none for all words.
     ///
     /// ```
     /// let mut set = sellumaq::Judy1::from([3]);
@@ -99,8 +99,8 @@ impl<K: Key> Judy1<K> {
         self.change_range(range, sys::sellumaq_judy1_flip)
     }
 
-    /// Takes those keys of a range out that are chosen, one at each step of the iterator, by ascending key. Where that is dropped, the others
-    /// stay.
+    /// Takes those keys of a range out that are chosen, one at each step of the iterator, by ascending key. Where that
+    /// is dropped, the others stay.
     ///
     /// ```
     /// let mut set: sellumaq::Judy1 = (0..10).collect();

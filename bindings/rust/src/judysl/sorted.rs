@@ -39,7 +39,8 @@ impl List {
         let (mut map, mut place) = (JudySl::empty(), 0);
         let (bytes, room) = (self.bytes.as_ptr(), self.bytes.len());
         let (entries, count) = (self.entries.as_ptr(), self.entries.len());
-        // SAFETY: the handle is this map's, lent for this call alone, and the place this function's; both lists are as long as is told.
+        // SAFETY: the handle is this map's, lent for this call alone, and the place this function's; both lists are as
+        // long as is told.
         let answer = unsafe {
             let handle = &mut map.handle;
             sys::sellumaq_judysl_from_sorted(handle, bytes, room, entries, count, &mut place)
@@ -54,8 +55,8 @@ impl List {
 }
 
 impl<V: Value> JudySl<V> {
-    /// Makes a map at once of strings that strictly ascend, which are copied to one list first. It ends the program where there is no
-    /// memory, as std's collections do.
+    /// Makes a map at once of strings that strictly ascend, which are copied to one list first. It ends the program
+    /// where there is no memory, as std's collections do.
     ///
     /// # Errors
     ///

@@ -89,8 +89,8 @@ impl Steps {
     }
 }
 
-/// The same way from slot to slot. It knows how many keys are left, and so asks for none beyond the last one: the library would
-/// read that key's value, which may be lent already.
+/// The same way from slot to slot. It knows how many keys are left, and so asks for none beyond the last one: the
+/// library would read that key's value, which may be lent already.
 #[derive(Clone)]
 pub struct SlotSteps {
     steps: Steps,
@@ -181,7 +181,8 @@ impl Page {
         most
     }
 
-    // Brings pairs of a map from a string on behind those that are there, up to so many, and answers whether there are any more.
+    // Brings pairs of a map from a string on behind those that are there, up to so many, and answers whether there are
+    // any more.
     fn fill<V: Value>(&mut self, map: &JudySl<V>, from: &[u8], itself: bool, up_to: usize) -> bool {
         let (handle, begin, had) = (map.handle, self.bytes.len(), self.entries.len());
         self.bytes.reserve(if up_to == 1 { MAX_KEY } else { ROOM });
@@ -190,8 +191,8 @@ impl Page {
         let (to, room) = (bytes.as_mut_ptr().cast(), bytes.len());
         let entries = self.entries.spare_capacity_mut().as_mut_ptr().cast();
         let (start, length) = (from.as_ptr(), from.len());
-        // SAFETY: the map is borrowed, and the call only reads it; the string is a slice's, and both buffers have the room that they are
-        // said to have, and belong to this page alone.
+        // SAFETY: the map is borrowed, and the call only reads it; the string is a slice's, and both buffers have the
+        // room that they are said to have, and belong to this page alone.
         let count = unsafe {
             sys::sellumaq_judysl_walk(
                 &handle,
@@ -225,7 +226,8 @@ impl Page {
     }
 }
 
-/// A way that brings many pairs a call of C, from both ends. An end of the way is the one that its last page was brought from.
+/// A way that brings many pairs a call of C, from both ends. An end of the way is the one that its last page was
+/// brought from.
 #[derive(Clone)]
 pub struct Way {
     ends: Steps,
@@ -254,8 +256,8 @@ impl Way {
         self.page.fill(map, front.key(), front.is_included(), most)
     }
 
-    // Brings the greatest pairs that are left: one by a scan, for a way that is soon left, and then those at some places up to the one
-    // before. False where none is left.
+    // Brings the greatest pairs that are left: one by a scan, for a way that is soon left, and then those at some
+    // places up to the one before. False where none is left.
     fn bring_back<V: Value>(&mut self, map: &JudySl<V>) -> bool {
         if self.back.most == 1 {
             self.back.most = 8;

@@ -35,8 +35,9 @@ impl Refuser {
         (told, unsafe { self.0(0) })
     }
 
-    /// Makes a call whose first call for memory is refused and each later one, then its second, and so on until it succeeds. Each refusal
-    /// must be told as the error and leave the array the `same`. What it answers in the end, and how often it failed.
+    /// Makes a call whose first call for memory is refused and each later one, then its second, and so on until it
+    /// succeeds. Each refusal must be told as the error and leave the array the `same`. What it answers in the end, and
+    /// how often it failed.
     pub fn in_turn<A, T, E>(
         self,
         array: &mut A,
