@@ -487,6 +487,11 @@ uint64_t sellumaq_judysl_remove_range(sellumaq_judysl *map, const uint8_t *from,
  * all where it is empty. It can't fail. */
 uint64_t sellumaq_judysl_remove_prefix(sellumaq_judysl *map, const uint8_t *prefix, size_t length);
 
+/* Moves keys together, so that memory which deletes left free within the map's pages goes back: one walk over the map,
+ * of use after many deletes. It asks for no memory and can't fail; no key and no value changes, but slots that were
+ * handed out are no longer theirs. */
+void sellumaq_judysl_shrink(sellumaq_judysl *map);
+
 /* Makes `made` a copy, in place of what it held: SELLUMAQ_ADDED. Else it is as it was: SELLUMAQ_NO_MEMORY. The two
  * handles are two. */
 uint32_t sellumaq_judysl_copy(sellumaq_judysl *made, const sellumaq_judysl *map);
@@ -559,6 +564,10 @@ bool sellumaq_judyhs_walk(const sellumaq_judyhs *map, size_t behind, uint8_t *by
 
 /* How many keys there are. */
 uint64_t sellumaq_judyhs_len(const sellumaq_judyhs *map);
+
+/* Moves keys together, as sellumaq_judysl_shrink does. A key of at most 8 bytes or of more than 1,024, and one that
+ * shares its hash with another, stays where it is. */
+void sellumaq_judyhs_shrink(sellumaq_judyhs *map);
 
 /* Gives all memory back, and answers how many keys there were. The handle is the empty array then. */
 uint64_t sellumaq_judyhs_free(sellumaq_judyhs *map);

@@ -111,6 +111,7 @@ def _word_calls(kind, **calls):
 
 def _string_calls(kind, *scans):
     found = _calls(kind, ctypes.c_bool, **dict.fromkeys(("get", "remove"), (*_key, _slot)))
+    found["shrink"] = _call(f"{kind}_shrink", None)
     return found | _calls(kind, ctypes.c_uint32, put=(*_key, _word), **dict.fromkeys(scans, _buffer))
 
 
@@ -643,6 +644,10 @@ class _Strings(_Map):
             raise OverflowError("the dict is full")
         if told not in _PUT:
             raise MemoryError
+
+    def shrink(self):
+        """Moves keys together, so that memory which deletes left free goes back. It asks for none."""
+        self._calls["shrink"](self._handle)
 
 
 def _cut(text, ends):

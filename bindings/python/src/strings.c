@@ -20,9 +20,10 @@ static int judyhs_has_text(const Handle *handle) { return hash_has_text(&handle-
         return sellumaq_##kind##_remove(&handle->member, key, length, value);                                        \
     }                                                                                                                \
     static uint64_t kind##_len(Handle *handle) { return sellumaq_##kind##_len(&handle->member); }                    \
+    static void kind##_shrink(Handle *handle) { sellumaq_##kind##_shrink(&handle->member); }                         \
     static uint64_t kind##_free(Handle *handle) { return sellumaq_##kind##_free(&handle->member); }                  \
-    static const StringCalls kind##_calls = {kind##_put,  kind##_get,     kind##_remove, kind##_len,                  \
-                                             kind##_free, &kind##_saved, kind##_has_text};
+    static const StringCalls kind##_calls = {kind##_put,    kind##_get,  kind##_remove, kind##_len,                   \
+                                             kind##_shrink, kind##_free, &kind##_saved, kind##_has_text};
 
 STRING_CALLS(judysl, strings)
 STRING_CALLS(judyhs, hashed)
@@ -213,6 +214,13 @@ static PyObject *strings_clear(PyObject *object, PyObject *Py_UNUSED(none))
     forget_ahead(self);
     note_change(self, true);
     self->calls->free(&self->handle);
+    Py_RETURN_NONE;
+}
+
+static PyObject *strings_shrink(PyObject *object, PyObject *Py_UNUSED(none))
+{
+    Strings *self = (Strings *)object;
+    self->calls->shrink(&self->handle);
     Py_RETURN_NONE;
 }
 
@@ -441,6 +449,9 @@ static PyObject *hash_popitem(PyObject *object, PyObject *Py_UNUSED(none))
 #define STRING_METHODS \
     {"clear", strings_clear, METH_NOARGS, \
      DOC("clear($self, /)", "Takes every key out and gives the memory back.", AGES ">>> ages.clear(); ages\nJudyHS({})")}, \
+    {"shrink", strings_shrink, METH_NOARGS, \
+     DOC("shrink($self, /)", "Moves keys together, so that memory which deletes left free goes back. It asks for none.", \
+         AGES ">>> del ages['Ada']; ages.shrink(); ages\nJudyHS({'Alan': 41})")}, \
     {"get", (PyCFunction)(void (*)(void))strings_get, METH_FASTCALL, \
      DOC("get($self, key, default=None, /)", "The value of a key, or the default where it isn't there.", \
          AGES ">>> ages.get('Ada'), ages.get('Bob', 7)\n(36, 7)")}, \

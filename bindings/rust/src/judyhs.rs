@@ -209,6 +209,20 @@ impl<V: Value> JudyHs<V> {
             .for_each(drop);
     }
 
+    /// Moves keys together, so that memory which deletes left free within the map's pages goes back: one walk over the
+    /// map. It asks for no memory. A key of at most 8 bytes or of more than 1,024 stays where it is.
+    ///
+    /// ```
+    /// let mut map: sellumaq::JudyHs = (0..10_000).map(|n| (format!("key {n:05}"), n)).collect();
+    /// map.retain(|_, n| *n % 100 == 0);
+    /// map.shrink_to_fit();
+    /// assert_eq!((map.len(), map["key 00300"]), (100, 300));
+    /// ```
+    pub fn shrink_to_fit(&mut self) {
+        // SAFETY: the handle is this map's, lent for this call alone.
+        unsafe { sys::sellumaq_judyhs_shrink(&mut self.handle) };
+    }
+
     /// Takes those keys out that are chosen, one at each step of the iterator; `chosen` may change the values. Where
     /// the iterator is dropped, the others stay.
     ///

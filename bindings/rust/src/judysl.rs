@@ -403,6 +403,20 @@ impl<V: Value> JudySl<V> {
         keys as usize
     }
 
+    /// Moves keys together, so that memory which deletes left free within the map's pages goes back: one walk over the
+    /// map. It asks for no memory.
+    ///
+    /// ```
+    /// let mut map: sellumaq::JudySl = (0..10_000).map(|n| (format!("key {n:05}"), n)).collect();
+    /// map.retain(|_, n| *n % 100 == 0);
+    /// map.shrink_to_fit();
+    /// assert_eq!((map.len(), map["key 00300"]), (100, 300));
+    /// ```
+    pub fn shrink_to_fit(&mut self) {
+        // SAFETY: the handle is this map's, lent for this call alone.
+        unsafe { sys::sellumaq_judysl_shrink(&mut self.handle) };
+    }
+
     /// Moves all that another holds into this one. A key of both has the other's value then.
     ///
     /// ```

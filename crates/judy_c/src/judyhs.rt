@@ -88,6 +88,18 @@ pub extern "C" fn sellumaq_judyhs_len(alloc: Global, handle: &mut Bytes) -> u64
     handle.ask(alloc, |array| array.len())
 }
 
+/// Moves keys together, so that memory which deletes left free within the map's pages goes back. It asks for no memory
+/// and can't fail, and changes no key and no value; slots that were handed out are no longer theirs. (This project's
+/// own.)
+#[unsafe(no_mangle)]
+pub extern "C" fn sellumaq_judyhs_shrink(handle: &mut Bytes)
+    ensures { handle.new ≡ handle.old }
+{
+    if let Some(array) = handle.array() {
+        array.shrink();
+    }
+}
+
 /// Takes every key out, gives all memory back, and answers how many keys there were. (Manual: JHSFA, JudyHSFreeArray,
 /// which answers the bytes freed.)
 #[unsafe(no_mangle)]

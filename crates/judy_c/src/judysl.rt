@@ -166,6 +166,18 @@ pub extern "C" fn sellumaq_judysl_len(alloc: Global, handle: &mut Strings) -> u6
     handle.ask(alloc, |array| array.len())
 }
 
+/// Moves keys together, so that memory which deletes left free within the map's pages goes back. It asks for no memory
+/// and can't fail, and changes no key and no value; slots that were handed out are no longer theirs. (This project's
+/// own.)
+#[unsafe(no_mangle)]
+pub extern "C" fn sellumaq_judysl_shrink(handle: &mut Strings)
+    ensures { handle.new ≡ handle.old }
+{
+    if let Some(array) = handle.array() {
+        array.shrink();
+    }
+}
+
 /// Takes every key out, gives all memory back, and answers how many keys there were. (Manual: JSLFA, JudySLFreeArray,
 /// which answers the bytes freed.)
 #[unsafe(no_mangle)]

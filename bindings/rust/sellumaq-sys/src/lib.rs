@@ -616,6 +616,7 @@ extern "C" {
         prefix: *const u8,
         length: usize,
     ) -> u64;
+    pub fn sellumaq_judysl_shrink(map: *mut sellumaq_judysl);
     pub fn sellumaq_judysl_copy(made: *mut sellumaq_judysl, map: *const sellumaq_judysl) -> u32;
     pub fn sellumaq_judysl_free(map: *mut sellumaq_judysl) -> u64;
 }
@@ -670,6 +671,7 @@ extern "C" {
         count: *mut usize,
     ) -> bool;
     pub fn sellumaq_judyhs_len(map: *const sellumaq_judyhs) -> u64;
+    pub fn sellumaq_judyhs_shrink(map: *mut sellumaq_judyhs);
     pub fn sellumaq_judyhs_free(map: *mut sellumaq_judyhs) -> u64;
 }
 

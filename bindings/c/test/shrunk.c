@@ -1,0 +1,131 @@
+/* What shrink leaves of maps of strings from which most keys went: the same keys, in little more memory than a map that
+ * never had others. No call for memory is answered meanwhile. */
+#include <malloc.h>
+#include <string.h>
+
+#include "../sellumaq.h"
+#include "check.h"
+#include "refusing.h"
+
+enum { MOST = 40000, LONGEST = 1100 };
+
+typedef struct {
+    const char *name;
+    uint32_t (*put)(void *map, const uint8_t *key, size_t length, uint64_t value);
+    bool (*get)(const void *map, const uint8_t *key, size_t length, uint64_t *value);
+    bool (*del)(void *map, const uint8_t *key, size_t length);
+    uint64_t (*len)(const void *map);
+    void (*shrink)(void *map);
+    uint64_t (*free)(void *map);
+} Kind;
+
+#define KIND(kind)                                                                                            \
+    static uint32_t kind##_put(void *map, const uint8_t *key, size_t length, uint64_t value) {                \
+        return sellumaq_##kind##_put(map, key, length, value);                                                \
+    }                                                                                                         \
+    static bool kind##_get(const void *map, const uint8_t *key, size_t length, uint64_t *value) {             \
+        return sellumaq_##kind##_get(map, key, length, value);                                                \
+    }                                                                                                         \
+    static bool kind##_del(void *map, const uint8_t *key, size_t length) {                                    \
+        return sellumaq_##kind##_del(map, key, length);                                                       \
+    }                                                                                                         \
+    static uint64_t kind##_len(const void *map) { return sellumaq_##kind##_len(map); }                        \
+    static void kind##_shrink(void *map) { sellumaq_##kind##_shrink(map); }                                   \
+    static uint64_t kind##_free(void *map) { return sellumaq_##kind##_free(map); }                            \
+    static const Kind kind = {#kind,        kind##_put,    kind##_get, kind##_del,                            \
+                              kind##_len, kind##_shrink, kind##_free};
+
+KIND(judysl)
+KIND(judyhs)
+
+/* The key of a number. */
+typedef size_t Spell(unsigned n, uint8_t *key);
+
+static size_t digits(unsigned n, uint8_t *key) { return (size_t)sprintf((char *)key, "%016llu", 0x9E3779B97F4A7C15ull * n >> 12); }
+
+/* Keys of 64 lengths. */
+static size_t lengths(unsigned n, uint8_t *key) {
+    size_t length = 8 + sprintf((char *)key, "%08x", n * 2654435761u);
+    memset(key + 8, 'k', 8);
+    for (size_t more = n % 64; more > 0; more--) key[length++] = 'x';
+    return length;
+}
+
+/* Pairs of keys that share a piece, and some that are longer than what is copied to the stack. */
+static size_t pairs(unsigned n, uint8_t *key) {
+    size_t length = (size_t)sprintf((char *)key, "/home/u/%08u.%c", n / 2, n % 2 ? 'c' : 'o');
+    for (size_t more = n % 1000 == 0 ? 900 : n % 7; more > 0; more--) key[length++] = 'y';
+    return length;
+}
+
+static bool stays(unsigned n, unsigned one_of) { return n % one_of == 1; }
+
+static void fill(const Kind *kind, Spell *spell, void *map, unsigned one_of, bool all) {
+    uint8_t key[LONGEST];
+    for (unsigned n = 0; n < MOST; n++)
+        if (all || stays(n, one_of)) {
+            size_t length = spell(n, key);
+            CHECK(kind->put(map, key, length, n) == SELLUMAQ_ADDED);
+        }
+}
+
+static void check(const Kind *kind, Spell *spell, const void *map, unsigned one_of) {
+    uint8_t key[LONGEST];
+    uint64_t value, keys = 0;
+    for (unsigned n = 0; n < MOST; n++) {
+        size_t length = spell(n, key);
+        bool there = kind->get(map, key, length, &value);
+        CHECK(there == stays(n, one_of) && (!there || value == n));
+        keys += there;
+    }
+    CHECK(kind->len(map) == keys);
+}
+
+/* One of so many keys stays. How much more memory than a new map of the same keys the shrunk one has, in tenths. */
+static size_t shrunk(const Kind *kind, Spell *spell, unsigned one_of) {
+    void *map[1] = {NULL}, *fresh[1] = {NULL};
+    uint8_t key[LONGEST];
+    size_t before = mallinfo2().uordblks;
+    fill(kind, spell, map, one_of, true);
+    for (unsigned n = 0; n < MOST; n++)
+        if (!stays(n, one_of)) {
+            size_t length = spell(n, key);
+            CHECK(kind->del(map, key, length));
+        }
+    answered = 0;
+    kind->shrink(map);
+    answered = -1;
+    check(kind, spell, map, one_of);
+    size_t left = mallinfo2().uordblks - before;
+    fill(kind, spell, fresh, one_of, false);
+    size_t copy = mallinfo2().uordblks - before - left;
+    printf("%s, one of %u: %zu bytes, of a new map %zu\n", kind->name, one_of, left, copy);
+    /* It takes keys and loses them as before. */
+    for (unsigned n = 0; n < MOST; n += 3) {
+        size_t length = spell(n, key);
+        CHECK(kind->put(map, key, length, n) == (stays(n, one_of) ? SELLUMAQ_PRESENT : SELLUMAQ_ADDED));
+        if (!stays(n, one_of)) CHECK(kind->del(map, key, length));
+    }
+    check(kind, spell, map, one_of);
+    kind->free(map);
+    kind->free(fresh);
+    CHECK(mallinfo2().uordblks == before);
+    return left * 10 / copy;
+}
+
+int main(void) {
+    static Spell *const spells[] = {digits, lengths, pairs};
+    static const Kind *const kinds[] = {&judysl, &judyhs};
+    void *none = NULL;
+    sellumaq_judysl_shrink((sellumaq_judysl *)&none);
+    sellumaq_judyhs_shrink((sellumaq_judyhs *)&none);
+    CHECK(!none);
+    for (size_t kind = 0; kind < 2; kind++)
+        for (size_t spell = 0; spell < 3; spell++)
+            for (unsigned one_of = 3; one_of <= 60; one_of += 19) {
+                size_t tenths = shrunk(kinds[kind], spells[spell], one_of);
+                /* Levels of strings that went keep their places in the list of levels. */
+                if (spells[spell] != pairs) CHECK(tenths <= 13);
+            }
+    return 0;
+}
