@@ -2,6 +2,7 @@ pub mod pieces
 pub mod seats
 pub mod inserts
 pub mod removals
+pub mod moves
 pub mod counts
 pub mod places
 pub mod scans

@@ -27,3 +27,4 @@ pub mod Stepped
 pub mod Sorted
 pub mod Planted
 pub mod Listed
+pub mod Settled

@@ -33,7 +33,7 @@ use judy_word::WordMap;
 use std::alloc::AllocError;
 
 // The most levels, so that each place is a word.
-const MOST: usize = 36_028_797_018_963_968;
+pub const MOST: usize = 36_028_797_018_963_968;
 
 // Lets an entry of a level lead to the child at a place.
 fn link(level: &mut WordMap, piece: u64, place: u64)
@@ -240,7 +240,7 @@ impl Arena {
     }
 
     // Lets the entry at a place lead elsewhere.
-    fn lead(&mut self, from: Place, to: u64)
+    pub fn lead(&mut self, from: Place, to: u64)
         requires { IsSome (place_value self.old from) }
         ensures { self.new ≡ place_with self.old from to }
     {
@@ -274,7 +274,7 @@ impl Arena {
 
     // Writes the bytes of the tail at a place to the front of a buffer where they find room, and answers its value and
     // how many bytes they are.
-    fn read_tail(&self, at: u64, buffer: &mut [u8]) -> (u64, usize)
+    pub fn read_tail(&self, at: u64, buffer: &mut [u8]) -> (u64, usize)
         requires tail { (rest : List ℕ × ℕ) × (child_at self.now at ≡ Tail rest)
             × (length rest.0 ≤ LONGEST_STRING) }
         ensures tail { (bytes : List ℕ) × (child_at self.now at ≡ Tail ((bytes, result.0)))

@@ -2,7 +2,7 @@
 //! it. So a way down reads the first list alone, and a count, which asks many levels for their numbers, finds these
 //! close together.
 
-ghost use Rattle.std.specs.Prelude.{◌≡◌, ◌+◌, ◌<◌, ◌≤◌, ℕ, [], Some, None, IsOk, OnOk, slice_index_or, vec_len};
+ghost use Rattle.std.specs.Prelude.{◌≡◌, ◌+◌, ◌<◌, ◌≤◌, ◌↔◌, ℕ, [], Some, None, IsTrue, IsOk, OnOk, slice_index_or, vec_len};
 ghost use Rattle.std.specs.Borrow.{sem};
 ghost use Rattle.slab.specs.Slab as slab;
 ghost use Rattle.judy_model.specs.Keys.{IsWord, word_order};
@@ -82,6 +82,20 @@ impl LevelList {
         ensures { self.new ≡ with_keys self.old index keys }
     {
         self.numbers[index] = keys;
+    }
+
+    // An index above that of each level.
+    pub fn places(&self) -> usize
+        ensures { (index : ℕ) → slab.ContainsKey self.now index → index < result }
+    {
+        self.words.capacity()
+    }
+
+    // Whether a level stands under an index.
+    pub fn has(&self, index: usize) -> bool
+        ensures { IsTrue result ↔ slab.ContainsKey self.now index }
+    {
+        self.words.contains(index)
     }
 
     // How many levels both lists have places for: no more than there are, where the numbers lack some, as where memory

@@ -11,13 +11,13 @@
 //!
 //! judysl.rt has the array, and error.rt why an insert is refused. arena.rt has the way of a key, child.rt what stands
 //! behind a piece of it, level_list.rt the levels below the first, level.rt a level as seen from outside, grow.rt and
-//! branches.rt how a key comes in, shrink.rt how one goes, scans.rt the neighbours, and nearest_slots.rt the nearest
-//! key with its slot; cursor.rt and runs.rt have walks that go from key to key by what a level and the one above it
-//! still have, some of which is read ahead (ahead.rt). counted.rt has how levels come to tell how many keys stand
-//! behind them, by those that a way passes (passed.rt), counts.rt what is counted by that, firsts.rt how many keys
-//! begin with each first piece, lists.rt the same behind wide levels, and nth.rt which key stands at a place. sorted.rt
-//! and planting.rt have arrays made at once of strings that ascend, kept.rt what every array keeps, and laws.rt laws of
-//! pieces.
+//! branches.rt how a key comes in, shrink.rt how one goes, moves.rt how tails go to other pages, scans.rt the
+//! neighbours, and nearest_slots.rt the nearest key with its slot; cursor.rt and runs.rt have walks that go from key
+//! to key by what a level and the one above it still have, some of which is read ahead (ahead.rt). counted.rt has how
+//! levels come to tell how many keys stand behind them, by those that a way passes (passed.rt), counts.rt what is
+//! counted by that, firsts.rt how many keys begin with each first piece, lists.rt the same behind wide levels, and
+//! nth.rt which key stands at a place. sorted.rt and planting.rt have arrays made at once of strings that ascend,
+//! kept.rt what every array keeps, and laws.rt laws of pieces.
 #![tactic(auto)]
 
 mod ahead;
@@ -37,6 +37,7 @@ pub mod laws;
 mod level;
 mod level_list;
 mod lists;
+mod moves;
 mod nearest_slots;
 mod nth;
 mod passed;

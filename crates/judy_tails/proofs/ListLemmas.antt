@@ -28,7 +28,7 @@ held-tail : (spot : Spot) → IsSome (tail_of spot) → IsHeld spot
 held-tail (free next) some = absurd (cc)
 held-tail (held value words) some = tt
 
-tail-held : (spot : Spot) → IsHeld spot → tail_of spot ≡ Some (text_in (text_of spot), value_of spot)
+pub tail-held : (spot : Spot) → IsHeld spot → tail_of spot ≡ Some (text_in (text_of spot), value_of spot)
 tail-held (free next) is = absurd is
 tail-held (held value words) is = refl
 
@@ -159,7 +159,7 @@ module _ (lists : List RecordList) (place : ℕ) (some : IsSome (tail_at (lists_
 
 -- ---- a record that goes
 
-not-held : (spot : Spot) → (IsHeld spot → ⊥) → tail_of spot ≡ None
+pub not-held : (spot : Spot) → (IsHeld spot → ⊥) → tail_of spot ≡ None
 not-held (free next) not = refl
 not-held (held value words) not = absurd (not tt)
 

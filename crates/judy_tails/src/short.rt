@@ -1,6 +1,6 @@
 //! The tails of at most 1,024 bytes, in lists, one for each number of words that some tail took.
 
-ghost use Rattle.std.specs.Prelude.{◌≡◌, ◌<◌, ◌≤◌, ◌%◌, ℕ, List, Some, None, IsSome, IsOk, IfOk, OnOk, OnErr, length, slice_get};
+ghost use Rattle.std.specs.Prelude.{◌≡◌, ◌<◌, ◌≤◌, ◌%◌, ℕ, List, Some, None, IsSome, IsTrue, IsOk, IfOk, OnOk, OnErr, length, slice_get};
 ghost use Rattle.std.specs.Borrow.{sem};
 ghost use Rattle.judy_model.specs.Keys.{IsWord};
 ghost use Rattle.judy_model.specs.declared.keys.TheConstants.{LONGEST_KEY};
@@ -69,6 +69,19 @@ impl ShortTails {
             ≡ Some (text_of (tail_at self.old place), result.now) }
     {
         self.lists[(place % 256) as usize].slot((place / 256) as usize)
+    }
+
+    // Whether the page of the tail at a place is spare: it has a free place, and isn't the one that is filled next. So
+    // a place for a text of that length is free.
+    pub fn is_spare(&self, place: u64) -> bool
+        requires { IsSome (tail_at self.now place) }
+        ensures short { length (text_of (tail_at self.now place)) ≤ LONGEST_KEY }
+        ensures free { IsTrue result
+            → HasFree self.now (length (text_of (tail_at self.now place))) }
+    {
+        let list = &self.lists[(place % 256) as usize];
+        list.text_law((place / 256) as usize);
+        list.is_spare((place / 256) as usize)
     }
 
     // The place that the next text of so many bytes takes.

@@ -1,6 +1,6 @@
 //! Tails of any length.
 
-ghost use Rattle.std.specs.Prelude.{◌≡◌, ◌<◌, ◌≤◌, ◌%◌, ℕ, List, Some, None, IsSome, IsOk, IfOk, OnOk, OnErr, length};
+ghost use Rattle.std.specs.Prelude.{◌≡◌, ◌<◌, ◌≤◌, ◌%◌, ℕ, List, Some, None, IsSome, IsTrue, IsOk, IfOk, OnOk, OnErr, length};
 ghost use Rattle.std.specs.Borrow.{sem};
 ghost use Rattle.judy_model.specs.Keys.{IsWord};
 ghost use Rattle.judy_model.specs.declared.keys.TheConstants.{LONGEST_STRING};
@@ -90,6 +90,20 @@ impl Tails {
         } else {
             self.short.slot(place)
         }
+    }
+
+    /// Whether the page of the tail at a place is spare: it has a free place, and isn't the one that is filled next.
+    /// Then the tail can go to another page, by `put` and `remove`, which asks for no memory. A tail of more than 1,024
+    /// bytes stands in no page.
+    pub fn is_spare(&self, place: u64) -> bool
+        requires { IsSome (tail_at self.now place) }
+        ensures { IsTrue result
+            → HasFree self.now (length (text_of (tail_at self.now place))) }
+    {
+        if is_long(place) {
+            return false;
+        }
+        self.short.is_spare(place)
     }
 
     /// The place that the next text of so many bytes takes.

@@ -20,7 +20,7 @@ keys-parts : (keys : ℕ) (slot : Option (ArrayOf word_order)) → IsSome slot �
 keys-parts keys None some = absurd (cc)
 keys-parts keys (Some words) some = refl
 
-some-parts : (keys : ℕ) (slot : Option (ArrayOf word_order)) → is_some (parts_of keys slot) ≡ is_some slot
+pub some-parts : (keys : ℕ) (slot : Option (ArrayOf word_order)) → is_some (parts_of keys slot) ≡ is_some slot
 some-parts keys None = refl
 some-parts keys (Some words) = refl
 

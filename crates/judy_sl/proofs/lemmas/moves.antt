@@ -1,0 +1,3 @@
+-- Tails that go to other places.
+pub mod Moved
+pub mod Settled

@@ -1,0 +1,107 @@
+//! How tails go from pages with free places to other such pages, so that the memory of pages that are left goes back.
+
+ghost use Rattle.std.specs.Prelude.{◌≡◌};
+ghost use Rattle.judy_sl.specs.World.{level};
+ghost use Rattle.judy_sl.specs.Arenas.{world_of};
+ghost use Rattle.judy_sl.specs.Places.{IsLevelPlace};
+ghost use Rattle.judy_sl.specs.Ways.{seat_in, place_in};
+ghost use Rattle.judy_sl.specs.Settled.{IsEntry, HasFreeFor, IsKept, IsSettled};
+
+use crate::arena::{Arena, Place, place_in};
+use crate::child::{LEVEL, is_level};
+use crate::grow::MOST;
+use crate::judysl::JudySl;
+use judy_model::keys::LONGEST_KEY;
+use judy_word::WordMap;
+
+impl Arena {
+    // Puts the tail at a place in once more, leads its entry there, and gives the old place back. A place is free for
+    // it, so this asks for no memory.
+    fn move_tail(&mut self, from: Place, at: u64)
+        requires kept { IsKept self.old }
+        requires entry { IsEntry self.old from at }
+        requires free { HasFreeFor self.old at }
+        ensures { IsSettled self.old self.new }
+    {
+        let mut buffer = [0; LONGEST_KEY];
+        let (value, len) = self.read_tail(at, &mut buffer);
+        match self.put_tail(&buffer[..len], value) {
+            Ok(to) => {
+                self.lead(from, to);
+                self.vacate(at);
+            }
+            Err(_) => unreachable!(),
+        }
+    }
+
+    // Moves what stands at a place, to which an entry leads, where it is a tail in a spare page.
+    fn settle(&mut self, from: Place, at: u64)
+        requires kept { IsKept self.old }
+        requires entry { IsEntry self.old from at }
+        ensures { IsSettled self.old self.new }
+    {
+        if is_level(at) {
+            return;
+        }
+        if self.tails.is_spare(at) {
+            self.move_tail(from, at);
+        }
+    }
+
+    // The entries of the first level, or of the level of a child.
+    fn entries_of(&self, child: Option<u64>) -> &WordMap
+        requires { IsLevelPlace self.now (place_in child 0) }
+        ensures { world_of self.now (seat_in child) ≡ level result.now.map }
+    {
+        match child {
+            None => &self.root,
+            Some(at) => self.levels.words((at / 256) as usize),
+        }
+    }
+
+    // Settles what the entries of a level lead to, one after another: that of the first, or of a child.
+    fn settle_level(&mut self, child: Option<u64>)
+        requires kept { IsKept self.old }
+        requires there { IsLevelPlace self.old (place_in child 0) }
+        ensures { IsSettled self.old self.new }
+    {
+        let entries = self.entries_of(child);
+        let count = entries.len();
+        let mut next = entries.array().first_entry(0);
+        'entries: for _turn in 0..count {
+            let Some((piece, at)) = next else {
+                return;
+            };
+            if piece % 256 != 0 {
+                self.settle(place_in(child, piece), at);
+            }
+            next = self.entries_of(child).array().next_entry(piece);
+        }
+    }
+
+    // Settles the tails of all levels: a loop over the levels, and in each over its entries.
+    fn settle_all(&mut self)
+        requires kept { IsKept self.old }
+        ensures { IsSettled self.old self.new }
+    {
+        self.settle_level(None);
+        let end = self.levels.places().min(MOST);
+        'levels: for index in 0..end {
+            if self.levels.has(index) {
+                self.settle_level(Some(index as u64 * 256 + LEVEL));
+            }
+        }
+    }
+}
+
+impl JudySl {
+    /// Gives back memory that deletes have left unused: what is left of keys moves together, so that pages become empty
+    /// and go. It reads each entry of each level once, asks for no memory and can't fail; each key keeps its value. Of
+    /// each length of what is left of keys at most one page has free places then. The list of the levels keeps its
+    /// memory until the last key goes. (This project's own.)
+    pub fn shrink(&mut self)
+        ensures { self.new ≡ self.old }
+    {
+        self.arena.settle_all();
+    }
+}
