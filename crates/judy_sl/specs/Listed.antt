@@ -1,20 +1,20 @@
 -- Lists of how many keys begin with each piece behind levels below the first.
 use Rattle.std.specs.Prelude.{◌≡◌, ℕ, suc, ◌+◌, ◌*◌, ◌/◌, ◌-◌, ◌<◌, ◌≤◌, Bool, true, false, nat_lt, if◌then◌else◌, List, [], ◌∷◌, ◌++◌, length, take, drop, Option, None, Some}
-use Rattle.std.specs.FinMap.{FinMap, get, insert, find}
+use Rattle.std.specs.FinMap.{FinMap, get, insert, find, len}
 use Rattle.judy_model.specs.Keys.{word_order, byte_order}
 use Rattle.judy_model.specs.Arrays.{ArrayOf}
 use Rattle.judy_sums.specs.Pairs.{Pairs, number_at}
 use Rattle.judy_sums.specs.Levels.{part_of}
 use Rattle.judy_sums.specs.Listed.{list_at}
-use Rattle.judy_sl.specs.Children.{Level, IsLevelChild}
+use Rattle.judy_sl.specs.Children.{Child, Free, Tail, Level, IsLevelChild}
 use Rattle.judy_sl.specs.declared.arena.Arena.{Arena}
-use Rattle.judy_sl.specs.Pieces.{pieces, AreInner}
+use Rattle.judy_sl.specs.Pieces.{pieces, piece_of, AreInner}
 use Rattle.judy_sl.specs.World.{World, level, walk}
 use Rattle.judy_sl.specs.Arenas.{world_of, child_at}
 use Rattle.judy_sl.specs.Ways.{levels_passed}
 use Rattle.judy_sl.specs.Behind.{map_behind, entry_keys}
 use Rattle.judy_sl.specs.Counted.{keys_behind, IsAmong, AreOnce}
-use Rattle.judy_sl.specs.Firsts.{AreFirsts}
+use Rattle.judy_sl.specs.Firsts.{beginning, AreFirsts}
 
 -- The place of the level at an index.
 abbrev pub place_of : ℕ → ℕ
@@ -87,6 +87,28 @@ pub record AreListedBut (comes : Bool) (arena : Arena) (lists : Lists) (places :
   pub once : AreOnce places
   pub off : AreOff comes arena lists places rest
   pub others : (index : ℕ) (list : FinMap word_order ℕ) → list_at lists index ≡ Some list → (IsAmong places (place_of index) → ⊥) → IsListed (world_of arena) (place_of index) list
+
+-- ---- which lists are raised
+
+-- Whether others begin with the next piece of a key behind a level on its way: they do where the way passes so many more levels, and behind the last one as is told.
+abbrev pub others_begin : ℕ → Bool → Bool
+others_begin left beside = if nat_lt 0 left then true else beside
+
+-- It is so of the next piece behind the level at a place, now that the key has come in.
+abbrev pub IsBegun : World → ℕ → List ℕ → Bool → Type 0
+IsBegun world at rest true = 2 ≤ beginning (map_behind world (suc at)) (piece_of rest)
+IsBegun world at rest false = beginning (map_behind world (suc at)) (piece_of rest) ≤ 1
+
+-- And behind each of some levels, one a piece.
+abbrev pub AreBegun : World → List ℕ → List ℕ → Bool → Type 0
+AreBegun world [] rest beside = Unit {0}
+AreBegun world (at ∷ places) rest beside = IsBegun world at (drop 8 rest) (others_begin (length places) beside) × AreBegun world places (drop 8 rest) beside
+
+-- A level is to get a list with a new entry: it has more than 64 and at most 128.
+abbrev pub GetsList : Child → Type 0
+GetsList Free = ⊥
+GetsList (Tail rest) = ⊥
+GetsList (Level keys words) = (64 < len words.map) × (len words.map ≤ 128)
 
 -- ---- what a change of the arena leaves
 

@@ -131,6 +131,12 @@ ends_first (At place) = false
 ends_first (Gap place left) = ends_at_first place
 ends_first (Clash from at left) = false
 
+-- It ends at a tail of another key.
+abbrev pub clashes : Way → Bool
+clashes (At place) = false
+clashes (Gap place left) = false
+clashes (Clash from at left) = true
+
 -- The way ends without the key's value.
 abbrev pub IsNew : Way → Type 0
 IsNew (At place) = ⊥

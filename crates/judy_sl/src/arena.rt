@@ -11,7 +11,7 @@ ghost use Rattle.judy_sl.specs.Arenas.{world_of, child_at, map_of, IsArena};
 ghost use Rattle.judy_sl.specs.Places.{place_value, place_with, IsPlace, IsLevelPlace, LendsPlace, LendsHere};
 ghost use Rattle.judy_tails.specs.Tails.{no_tails};
 ghost use Rattle.judy_sl.specs.declared.arena.Way.TheVariants.{At};
-ghost use Rattle.judy_sl.specs.Ways.{is_below, place_in, seat_in, left_of, ends_first, passed_from, levels_passed, IsOnWay, IsWay};
+ghost use Rattle.judy_sl.specs.Ways.{is_below, place_in, seat_in, left_of, ends_first, clashes, passed_from, levels_passed, IsOnWay, IsWay};
 ghost use Rattle.judy_sl.specs.Strings.{IsString};
 
 use crate::child::{ChildRef, is_level, put_in};
@@ -64,6 +64,13 @@ impl Way {
         ensures { result ≡ ends_first self }
     {
         matches!(self, Way::Gap(Place::Root(_), _))
+    }
+
+    // Whether it ends at a tail of another key.
+    pub fn clashes(self) -> bool
+        ensures { result ≡ clashes self }
+    {
+        matches!(self, Way::Clash(_, _, _))
     }
 }
 

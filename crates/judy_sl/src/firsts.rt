@@ -90,7 +90,7 @@ pub fn insert_counted(
     ensures listed { AreListed (world_of arena.new) lists.new }
 {
     let made = insert_first(arena, firsts, key, way, passed)?;
-    arena.list_places(lists, passed, key, true);
+    arena.list_places(lists, passed, key, true, way.clashes());
     Ok(made)
 }
 
@@ -150,7 +150,7 @@ fn del_noted<const N: usize>(
     let mut passed = Passed::<N>::new();
     let found = del_first(arena, firsts, key, &mut passed);
     if found {
-        arena.list_places(lists, passed.as_slice(), key, false);
+        arena.list_places(lists, passed.as_slice(), key, false, false);
     }
     found
 }

@@ -1,7 +1,7 @@
 //! How many keys begin with each piece behind wide levels below the first, kept in a list for each as firsts.rt keeps
-//! it of the first level. A level gets its list once it has some entries, and loses it with most of its keys.
+//! it of the first level. A level gets its list with the entry that makes it wide, and loses it with most of its keys.
 
-ghost use Rattle.std.specs.Prelude.{◌≡◌, ◌+◌, ◌<◌, ◌≤◌, ◌^◌, ◌/◌, ℕ, suc, true, false, Some, None, OnOk, IfOk, IfSome, All, length};
+ghost use Rattle.std.specs.Prelude.{◌≡◌, ◌+◌, ◌<◌, ◌≤◌, ◌^◌, ◌/◌, ◌↔◌, ℕ, suc, true, false, Some, None, OnOk, IfOk, IsSome, IsTrue, All, length};
 ghost use Rattle.std.specs.FinMap as map;
 ghost use Rattle.std.specs.FinMap.{FinMap};
 ghost use Rattle.judy_model.specs.Keys.{word_order};
@@ -13,8 +13,8 @@ ghost use Rattle.judy_sl.specs.World as world;
 ghost use Rattle.judy_sl.specs.Arenas.{world_of, child_at, IsArena};
 ghost use Rattle.judy_sl.specs.Behind.{map_behind};
 ghost use Rattle.judy_sl.specs.Counted.{LeadsOn, keys_behind, keys_behind_all, AreCounted};
-ghost use Rattle.judy_sl.specs.Firsts.{beginning, AreFirsts};
-ghost use Rattle.judy_sl.specs.Listed.{with_entry, IsPageList, IsListed, AreListed, IsOff, AreListedBut};
+ghost use Rattle.judy_sl.specs.Firsts.{AreFirsts};
+ghost use Rattle.judy_sl.specs.Listed.{with_entry, others_begin, IsPageList, IsListed, AreListed, IsOff, AreListedBut, IsBegun, AreBegun, GetsList};
 
 use crate::arena::Arena;
 use crate::child::ChildRef;
@@ -31,6 +31,21 @@ const NARROW: u64 = 64;
 
 // and no more than this, which are read for it.
 const READ: u64 = 128;
+
+// Whether a level with so many entries gets a list.
+fn is_wide(entries: u64) -> bool
+    ensures { IsTrue result ↔ ((64 < entries) × (entries ≤ 128)) }
+{
+    entries > NARROW && entries <= READ
+}
+
+// Whether others begin with the next piece of a key that has come in, behind a level on its way: they do where the way
+// passes more levels, and behind the last one as is told.
+fn others_begin(left: usize, beside: bool) -> bool
+    ensures { result ≡ others_begin left beside }
+{
+    if left > 0 { true } else { beside }
+}
 
 // Brings the piece of an entry into a list, where more than one key stands behind it. The error is want of memory.
 fn list_entry(list: &mut Sums, piece: u64, keys: u64) -> Result<(), AllocError>
@@ -55,22 +70,6 @@ impl Arena {
         match self.child(at) {
             ChildRef::Level(level) => level,
             ChildRef::Tail(_) => unreachable!(),
-        }
-    }
-
-    // Whether more than one key begins with a piece behind the level at a place.
-    fn begins_more(&self, at: u64, piece: u64) -> bool
-        requires is_arena { IsArena self.now }
-        requires counted { AreCounted self.now }
-        requires level { IsLevelChild (child_at self.now at) }
-        ensures more { result ≡ true
-            → 2 ≤ beginning (map_behind (world_of self.now) (suc at)) piece }
-        ensures none { result ≡ false
-            → beginning (map_behind (world_of self.now) (suc at)) piece ≤ 1 }
-    {
-        match self.level_at(at).get(piece) {
-            Some(value) => self.keys_at(piece, value) > 1,
-            None => false,
         }
     }
 
@@ -112,49 +111,60 @@ impl Arena {
         self.list_page(next)
     }
 
-    // A list for the level at a place, where it is to have one and there is memory.
-    fn list_for(&self, at: u64) -> Option<Sums>
+    // Gives the level at a place, which has no list, one where it is wide. The error is want of memory.
+    fn list_wide(&self, lists: &mut LevelSums, at: u64) -> Result<(), AllocError>
         requires is_arena { IsArena self.now }
         requires counted { AreCounted self.now }
         requires level { IsLevelChild (child_at self.now at) }
         requires fits { keys_behind (world_of self.now) (suc at) < 2 ^ 64 }
-        ensures { IfSome result (AreFirsts (map_behind (world_of self.now) (suc at))) }
+        requires bare { list_at lists.old (at / 256) ≡ None }
+        ensures right { (list : FinMap word_order ℕ) → list_at lists.new (at / 256) ≡ Some list
+            → AreFirsts (map_behind (world_of self.now) (suc at)) list }
+        ensures wide { OnOk result
+            (GetsList (child_at self.now at) → IsSome (list_at lists.new (at / 256))) }
+        ensures others { AreOthers (at / 256) lists.old lists.new }
     {
         let level = self.level_at(at);
         let entries = level.len();
-        if entries <= NARROW || entries > READ {
-            return None;
+        if !is_wide(entries) {
+            return Ok(());
         }
-        match self.read_list(level, entries) {
-            Ok(list) => Some(list),
-            Err(_) => None,
-        }
+        let list = self.read_list(level, entries)?;
+        lists.put((at / 256) as usize, list)
     }
 
-    // Counts a key that has come in behind the level at a place in the level's list. One without a list may get it.
-    fn list_more(&self, lists: &mut LevelSums, at: u64, rest: &[u8])
+    // Counts a key that has come in behind the level at a place in the level's list. Where others begin with its next
+    // piece the list is raised there; else that is a new entry, and a level without a list may get it. The error is
+    // want of memory, and then the level has none.
+    fn list_more(
+        &self,
+        lists: &mut LevelSums,
+        at: u64,
+        rest: &[u8],
+        beside: bool,
+    ) -> Result<(), AllocError>
         requires is_arena { IsArena self.now }
         requires counted { AreCounted self.now }
         requires off { IsOff true self.now lists.old at rest.now }
+        requires begun { IsBegun (world_of self.now) at rest.now beside }
         ensures here { (list : FinMap word_order ℕ) → list_at lists.new (at / 256) ≡ Some list
             → IsListed (world_of self.now) at list }
+        ensures wide { OnOk result (beside ≡ false → 32 < keys_told (child_at self.now at)
+            → GetsList (child_at self.now at) → IsSome (list_at lists.new (at / 256))) }
         ensures others { AreOthers (at / 256) lists.old lists.new }
     {
         let keys = self.keys_told(at);
         if keys <= FEW {
-            return;
+            return Ok(());
         }
         let index = (at / 256) as usize;
-        if lists.get(index).is_none() {
-            if let Some(list) = self.list_for(at) {
-                lists.put(index, list);
-            }
-            return;
+        if beside {
+            return lists.raise(index, first_piece(rest));
         }
-        let piece = first_piece(rest);
-        if self.begins_more(at, piece) {
-            lists.raise(index, piece);
+        if lists.get(index).is_some() {
+            return Ok(());
         }
+        self.list_wide(lists, at)
     }
 
     // Counts a key that has gone no more. Where few keys are left, the list goes too.
@@ -177,33 +187,46 @@ impl Arena {
         }
     }
 
-    // Counts a key in at the list of a level on its way, or out.
-    fn list_key(&self, lists: &mut LevelSums, at: u64, rest: &[u8], comes: bool)
+    // Counts a key in at the list of a level on its way, or out. Where memory is refused the level has no list. Of a
+    // key that comes it is told whether others begin with its next piece.
+    fn list_key(&self, lists: &mut LevelSums, at: u64, rest: &[u8], comes: bool, beside: bool)
         requires is_arena { IsArena self.now }
         requires counted { AreCounted self.now }
         requires off { IsOff comes self.now lists.old at rest.now }
+        requires begun { comes ≡ true → IsBegun (world_of self.now) at rest.now beside }
         ensures here { (list : FinMap word_order ℕ) → list_at lists.new (at / 256) ≡ Some list
             → IsListed (world_of self.now) at list }
         ensures others { AreOthers (at / 256) lists.old lists.new }
     {
         if comes {
-            self.list_more(lists, at, rest);
+            let _ = self.list_more(lists, at, rest, beside);
         } else {
             self.list_less(lists, at, rest);
         }
     }
 
-    // The same at the lists of all levels that its way passed, by their places.
-    pub fn list_places(&self, lists: &mut LevelSums, places: &[u64], key: &[u8], comes: bool)
+    // The same at the lists of all levels that its way passed, by their places. Behind all but the last one others
+    // begin with its next piece, and of the last one it is told.
+    pub fn list_places(
+        &self,
+        lists: &mut LevelSums,
+        places: &[u64],
+        key: &[u8],
+        comes: bool,
+        beside: bool,
+    )
         requires is_arena { IsArena self.now }
         requires counted { AreCounted self.now }
         requires but { AreListedBut comes self.now lists.old places.now key.now }
+        requires begun { comes ≡ true → AreBegun (world_of self.now) places.now key.now beside }
         ensures { AreListed (world_of self.now) lists.new }
     {
         let mut rest = key;
+        let mut left = places.len();
         'places: for at in places {
             rest = &rest[8..];
-            self.list_key(lists, *at, rest, comes);
+            left -= 1;
+            self.list_key(lists, *at, rest, comes, others_begin(left, beside));
         }
     }
 }

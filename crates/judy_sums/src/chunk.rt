@@ -49,6 +49,34 @@ fn place(entries: &[Entry], word: u64) -> usize
     low
 }
 
+// A chunk without room gets room for so many entries more. So a chunk of 64, which is then parted, wastes little.
+const MORE: usize = 16;
+
+// Puts an entry in at a place. The error is want of memory.
+fn insert_at(entries: &mut Vec<Entry>, at: usize, entry: Entry) -> Result<(), AllocError>
+    requires { at ≤ length entries.old.items }
+    ensures items { OnOk result (entries.new.items ≡ insert entries.old.items at entry) }
+    ensures unchanged { OnErr result (entries.new.items ≡ entries.old.items) }
+{
+    if entries.len() == entries.capacity() {
+        entries.reserve_exact(MORE)?;
+    }
+    entries.insert(at, entry)?;
+    Ok(())
+}
+
+// Cuts off what stands from a place on, and gives back the memory of that. The error is want of memory.
+fn cut_off(entries: &mut Vec<Entry>, at: usize) -> Result<Vec<Entry>, AllocError>
+    requires { at ≤ length entries.old.items }
+    ensures tail { IfOk result (λ upper. upper.items ≡ drop at entries.old.items) }
+    ensures items { OnOk result (entries.new.items ≡ take at entries.old.items) }
+    ensures unchanged { OnErr result (entries.new.items ≡ entries.old.items) }
+{
+    let upper = entries.split_off(at)?;
+    entries.shrink_to_fit();
+    Ok(upper)
+}
+
 // The entries, with the sum of the numbers and the first word beside, so that a search over chunks and a sum of them
 // take no look at entries.
 #[derive(Drop)]
@@ -174,7 +202,7 @@ impl Chunk {
     {
         let number = entry.number();
         let word = entry.word();
-        self.entries.insert(at, entry)?;
+        insert_at(&mut self.entries, at, entry)?;
         self.total += number;
         if at == 0 {
             self.first = word;
@@ -202,7 +230,7 @@ impl Chunk {
         ensures unchanged { OnErr result (self.new ≡ self.old) }
     {
         let half = self.entries.len() / 2;
-        let entries = self.entries.split_off(half)?;
+        let entries = cut_off(&mut self.entries, half)?;
         let total = sum(&entries);
         self.total -= total;
         let first = first_word(&entries);

@@ -1,19 +1,18 @@
 //! Lists of sums under indices.
 
-ghost use Rattle.std.specs.Prelude.{◌≡◌, ◌<◌, ◌≤◌, ◌+◌, ◌^◌, ℕ, [], Some, None};
+ghost use Rattle.std.specs.Prelude.{◌≡◌, ◌<◌, ◌≤◌, ◌+◌, ◌^◌, ℕ, [], Some, None, OnOk, OnErr, length};
 ghost use Rattle.std.specs.Option.{option_copied};
 ghost use Rattle.std.specs.FinMap as map;
 ghost use Rattle.std.specs.FinMap.{FinMap, len, entries};
 ghost use Rattle.judy_model.specs.Keys.{word_order};
-ghost use Rattle.judy_sums.specs.Pairs.{sum_of, raised};
-ghost use Rattle.judy_sums.specs.Listed.{list_at, less_at, AreOthers};
+ghost use Rattle.judy_sums.specs.Pairs.{sum_of};
+ghost use Rattle.judy_sums.specs.Listed.{list_at, more_of, less_of, AreOthers};
 
 use crate::sums::Sums;
 use std::alloc::{AllocError, Global};
 use std::marker::Model;
 
-/// A list of sums for each of some indices. To contracts it is the row of them, with `None` where there is none. What
-/// memory is refused for is forgotten, so no call answers want of memory.
+/// A list of sums for each of some indices. To contracts it is the row of them, with `None` where there is none.
 #[derive(Drop)]
 pub struct LevelSums {
     lists: Vec<Option<Sums>>,
@@ -32,13 +31,35 @@ impl Model for LevelSums {
     ghost view = { λ sums. sums.lists.items };
 }
 
-// Takes one from the number of a word that a list may have.
-fn lower_held(list: &mut Sums, word: u64)
-    requires some { (number : ℕ) → map.get list.old word ≡ Some number → 1 ≤ number }
-    ensures { list.new ≡ less_at list.old word }
+// Adds one to the number of a word in a list, where there is one. The error is want of memory: then there is none.
+fn raise_list(list: &mut Option<Sums>, word: u64) -> Result<(), AllocError>
+    requires few { (some : FinMap word_order ℕ) → list.old ≡ Some some → len some + 1 < 2 ^ 64 }
+    requires fits { (some : FinMap word_order ℕ) → list.old ≡ Some some
+        → sum_of (entries some) + 1 < 2 ^ 64 }
+    ensures raised { OnOk result (list.new ≡ more_of list.old word) }
+    ensures forgotten { OnErr result (list.new ≡ None) }
 {
-    if list.holds(word) {
-        list.lower(word);
+    let Some(sums) = list else {
+        return Ok(());
+    };
+    let answer = sums.raise(word);
+    if answer.is_err() {
+        *list = None;
+    }
+    answer
+}
+
+// Takes one from the number of a word in a list, where there is one with that word.
+fn lower_list(list: &mut Option<Sums>, word: u64)
+    requires { (some : FinMap word_order ℕ) (number : ℕ) → list.old ≡ Some some
+        → map.get some word ≡ Some number → 1 ≤ number }
+    ensures { list.new ≡ less_of list.old word }
+{
+    let Some(sums) = list else {
+        return;
+    };
+    if sums.holds(word) {
+        sums.lower(word);
     }
 }
 
@@ -62,59 +83,34 @@ impl LevelSums {
         }
     }
 
-    // Gives an index of the row a list, or none, in place of what it has.
-    fn set(&mut self, index: usize, list: Option<Sums>)
-        ensures set { (found : FinMap word_order ℕ) → list_at self.new index ≡ Some found
-            → list ≡ Some found }
-        ensures others { AreOthers index self.old self.new }
-    {
-        if let Some(place) = self.lists.get_mut(index) {
-            *place = list;
-        }
-    }
-
-    // Takes the list of an index out, and answers it.
-    fn take(&mut self, index: usize) -> Option<Sums>
-        ensures taken { result ≡ list_at self.old index }
-        ensures gone { list_at self.new index ≡ None }
-        ensures others { AreOthers index self.old self.new }
-    {
-        match self.lists.get_mut(index) {
-            Some(list) => list.take(),
-            None => None,
-        }
-    }
-
-    /// Adds one to the number of a word in the list of an index, where it has one.
-    pub fn raise(&mut self, index: usize, word: u64)
+    /// Adds one to the number of a word in the list of an index, where it has one. The error is want of memory: the
+    /// list is then forgotten. All others stay.
+    pub fn raise(&mut self, index: usize, word: u64) -> Result<(), AllocError>
         requires few { (list : FinMap word_order ℕ) → list_at self.old index ≡ Some list
             → len list + 1 < 2 ^ 64 }
         requires fits { (list : FinMap word_order ℕ) → list_at self.old index ≡ Some list
             → sum_of (entries list) + 1 < 2 ^ 64 }
-        ensures raised { (list : FinMap word_order ℕ) → list_at self.new index ≡ Some list
-            → (was : FinMap word_order ℕ) × (list_at self.old index ≡ Some was)
-            × (list ≡ raised was word) }
+        ensures raised { OnOk result
+            (list_at self.new index ≡ more_of (list_at self.old index) word) }
+        ensures forgotten { OnErr result (list_at self.new index ≡ None) }
         ensures others { AreOthers index self.old self.new }
     {
-        if let Some(mut list) = self.take(index) {
-            if list.raise(word).is_ok() {
-                self.set(index, Some(list));
-            }
+        match self.lists.get_mut(index) {
+            Some(list) => raise_list(list, word),
+            None => Ok(()),
         }
     }
 
-    /// Takes one from the number of a word in the list of an index, where it has one with that word.
+    /// Takes one from the number of a word in the list of an index, where it has one with that word. All others stay.
+    /// It asks for no memory.
     pub fn lower(&mut self, index: usize, word: u64)
         requires some { (list : FinMap word_order ℕ) (number : ℕ)
             → list_at self.old index ≡ Some list → map.get list word ≡ Some number → 1 ≤ number }
-        ensures lowered { (list : FinMap word_order ℕ) → list_at self.new index ≡ Some list
-            → (was : FinMap word_order ℕ) × (list_at self.old index ≡ Some was)
-            × (list ≡ less_at was word) }
+        ensures lowered { list_at self.new index ≡ less_of (list_at self.old index) word }
         ensures others { AreOthers index self.old self.new }
     {
-        if let Some(mut list) = self.take(index) {
-            lower_held(&mut list, word);
-            self.set(index, Some(list));
+        if let Some(list) = self.lists.get_mut(index) {
+            lower_list(list, word);
         }
     }
 
@@ -123,12 +119,16 @@ impl LevelSums {
         ensures gone { list_at self.new index ≡ None }
         ensures others { AreOthers index self.old self.new }
     {
-        let _ = self.take(index);
+        if let Some(list) = self.lists.get_mut(index) {
+            *list = None;
+        }
     }
 
     // Makes the row so long that it has a place for an index. The error is want of memory.
     fn lengthen(&mut self, index: usize) -> Result<(), AllocError>
-        ensures { (other : ℕ) → list_at self.new other ≡ list_at self.old other }
+        ensures same { (other : ℕ) → list_at self.new other ≡ list_at self.old other }
+        ensures long { OnOk result (index < length self.new) }
+        ensures absent { OnErr result (list_at self.new index ≡ None) }
     {
         'row: while self.lists.len() <= index {
             self.lists.push(None)?;
@@ -136,13 +136,15 @@ impl LevelSums {
         Ok(())
     }
 
-    /// Gives an index a list, in place of the one that it may have. Where memory for that is refused it gets none.
-    pub fn put(&mut self, index: usize, list: Sums)
-        ensures put { (found : FinMap word_order ℕ) → list_at self.new index ≡ Some found
-            → found ≡ list }
+    /// Gives an index a list, in place of the one that it may have. The error is want of memory, for an index that has
+    /// no list: it has none then. All others stay.
+    pub fn put(&mut self, index: usize, list: Sums) -> Result<(), AllocError>
+        ensures put { OnOk result (list_at self.new index ≡ Some list) }
+        ensures absent { OnErr result (list_at self.new index ≡ None) }
         ensures others { AreOthers index self.old self.new }
     {
-        let _ = self.lengthen(index);
-        self.set(index, Some(list));
+        self.lengthen(index)?;
+        self.lists[index] = Some(list);
+        Ok(())
     }
 }

@@ -34,6 +34,10 @@ list_places-requires-clause-but g c =
     left.stays c.args.lists.now c.requires.listed left.count
     (λ at map front rest is_level inner way parts. subst (λ places. IsAmong places at) left.are (left.among at map front rest is_level inner way parts)))
 
+-- Which list is raised is asked only where a key comes in.
+pub list_places-requires-clause-begun : goal.list_places-requires-clause-begun
+list_places-requires-clause-begun g c comes = absurd (true≢false (sym comes))
+
 pub list_places-requires-clause-is_arena : goal.list_places-requires-clause-is_arena
 list_places-requires-clause-is_arena g c = c.del_first-found.ensures.shrunk.is_arena
 

@@ -196,7 +196,7 @@ module _ (before after : Arena) (is : IsArena before) (is_after : IsArena after)
   off_front : (count : ℕ) (places rest : List ℕ) → AreAll (world_of before) key (IsOff false after lists) lost_each places rest → AreOff false after lists (take count places) rest
   off_front zero places rest all = tt
   off_front (suc count) [] rest all = tt
-  off_front (suc count) (at ∷ places) rest all = (all.0, all.1, off_front count places (drop 8 rest) all.2)
+  off_front (suc count) (at ∷ places) rest all = (all.0, all.2, off_front count places (drop 8 rest) all.3)
 
   pub lost_but : (count : ℕ) → ((at : ℕ) (map : FinMap word_order ℕ) (front rest : List ℕ) → world_of after (suc at) ≡ level map → AreInner front → walk (world_of after) 0 front ≡ Some (suc at) →
       pieces key ≡ front ++ rest → IsAmong (take count (levels_passed (world_of before) key)) at) → AreListedBut false after lists (take count (levels_passed (world_of before) key)) key

@@ -1,12 +1,12 @@
 -- One list of a level after the other is set right.
 use Rattle.std.proofs.Common.{◌≡◌, ◌≢◌, ℕ, suc, ◌+◌, ◌-◌, ◌<◌, ◌≤◌, ◌/◌, Bool, true, false, List, [], ◌∷◌, length, drop, Option, None, Some, unwrap_or, inl, inr, refl, sym, ap, subst, ◌∙◌, arith}
-use Rattle.std.proofs.Common.{⊎_elim}
+use Rattle.std.proofs.Common.{⊎_elim, is_some, IsSome, Result, Ok, Err, OnOk, OnErr}
 use Rattle.std.proofs.lemmas.Bool.{cases_eq, cases_lt}
-use Rattle.std.proofs.lemmas.Option.{none-some}
+use Rattle.std.proofs.lemmas.Option.{none-some, same_Some}
 use Rattle.std.specs.FinMap.{FinMap, get, insert, len}
 use Rattle.judy_model.specs.Keys.{word_order, byte_order}
 use Rattle.judy_sums.specs.Pairs.{number_at, raised}
-use Rattle.judy_sums.specs.Listed.{list_at, less_in, less_at, AreOthers}
+use Rattle.judy_sums.specs.Listed.{list_at, less_in, less_at, more_of, less_of, AreOthers}
 use Rattle.judy_sl.specs.declared.arena.Arena.{Arena}
 use Rattle.judy_sl.specs.Pieces.{piece_of}
 use Rattle.judy_sl.specs.Arenas.{world_of, child_at}
@@ -16,6 +16,38 @@ use Rattle.judy_sl.specs.Counted.{keys_behind, IsAmong, AreOnce}
 use Rattle.judy_sl.specs.Firsts.{beginning, AreFirsts}
 use Rattle.judy_sl.specs.Listed.{place_of, Lists, IsListed, AreListed, LacksKey, KeepsKey, IsThere, IsOff, AreOff, AreListedBut}
 use Rattle.judy_sl.proofs.lemmas.counts.Beginnings.{beginning_itself, firsts_first, firsts_more, firsts_last, firsts_less}
+
+-- ---- what a row answers
+
+-- What is left of a list is what it was, raised or lowered.
+pub was_raised : {E : Type 0} (result : Result (Unit {0}) E) (old new : Option (FinMap word_order ℕ)) (word : ℕ) → OnOk result (new ≡ more_of old word) → OnErr result (new ≡ None) →
+    (list : FinMap word_order ℕ) → new ≡ Some list → (was : FinMap word_order ℕ) × (old ≡ Some was) × (list ≡ raised was word)
+was_raised (Ok value) None new word more none list some = absurd (none-some list (sym more ∙ some))
+was_raised (Ok value) (Some was) new word more none list some = (was, refl, same_Some list (raised was word) (sym some ∙ more))
+was_raised (Err error) old new word more none list some = absurd (none-some list (sym none ∙ some))
+
+pub was_lowered : (old : Option (FinMap word_order ℕ)) (word : ℕ) (list : FinMap word_order ℕ) → less_of old word ≡ Some list →
+    (was : FinMap word_order ℕ) × (old ≡ Some was) × (list ≡ less_at was word)
+was_lowered None word list some = absurd (none-some list some)
+was_lowered (Some was) word list some = (was, refl, sym (same_Some (less_at was word) list some))
+
+-- A list that is there is the one that was put.
+pub was_put : {E : Type 0} (result : Result (Unit {0}) E) (new : Option (FinMap word_order ℕ)) (list : FinMap word_order ℕ) → OnOk result (new ≡ Some list) → OnErr result (new ≡ None) →
+    (found : FinMap word_order ℕ) → new ≡ Some found → list ≡ found
+was_put (Ok value) new list put none found some = same_Some list found (sym put ∙ some)
+was_put (Err error) new list put none found some = absurd (none-some found (sym none ∙ some))
+
+pub put_some : {new : Option (FinMap word_order ℕ)} {list : FinMap word_order ℕ} → new ≡ Some list → IsSome new
+put_some put = ap (λ (found : Option (FinMap word_order ℕ)). is_some found) put
+
+-- What follows from what holds at `Ok` holds there too.
+pub on_ok : {E P Q : Type 0} (result : Result (Unit {0}) E) → (P → Q) → OnOk result P → OnOk result Q
+on_ok (Ok value) goes holds = goes holds
+on_ok (Err error) goes holds = tt
+
+pub always_ok : {E P : Type 0} (result : Result (Unit {0}) E) → P → OnOk result P
+always_ok (Ok value) holds = holds
+always_ok (Err error) holds = tt
 
 -- ---- one list
 

@@ -70,7 +70,7 @@ module _ (world : World) (key : List ℕ) (Holds : ℕ → List ℕ → Type 0)
     pieces key ≡ front ++ pieces rest → Holds at rest) where
   abbrev pub AreAll : List ℕ → List ℕ → Type 0
   AreAll [] rest = Unit {0}
-  AreAll (at ∷ places) rest = (8 ≤ length rest) × Holds at (drop 8 rest) × AreAll places (drop 8 rest)
+  AreAll (at ∷ places) rest = (8 ≤ length rest) × (places ≡ passed_from world (suc at) (pieces (drop 8 rest))) × Holds at (drop 8 rest) × AreAll places (drop 8 rest)
 
   -- None is where the rest ends.
   along_end : (seat : ℕ) (rest : List ℕ) → length rest < 8 → AreAll (passed_from world seat (pieces rest)) rest
@@ -98,6 +98,7 @@ module _ (world : World) (key : List ℕ) (Holds : ℕ → List ℕ → Type 0)
         let cut : pieces key ≡ (front ++ piece_of rest ∷ []) ++ pieces (drop 8 rest) = parts ∙ ap (λ ps. front ++ ps) (pieces_long rest long) ∙
         sym (append_assoc front (piece_of rest ∷ []) (pieces (drop 8 rest))) in (
           long,
+          ap (passed_from world (suc at)) (sym head.1),
           each at map e (front ++ piece_of rest ∷ []) (drop 8 rest) its goes key_rest cut,
           subst (λ ps. AreAll (passed_from world (suc at) ps) (drop 8 rest)) head.1 (go at its goes key_rest cut),
         )
@@ -151,7 +152,7 @@ module _ (before after : Arena) (is : IsArena before) (led : AllLed (world_of be
     where
       off_from : (places rest : List ℕ) → AreAll (world_of before) key (IsOff true after lists) come_each places rest → AreOff true after lists places rest
       off_from [] rest all = tt
-      off_from (at ∷ places) rest all = (all.0, all.1, off_from places (drop 8 rest) all.2)
+      off_from (at ∷ places) rest all = (all.0, all.2, off_from places (drop 8 rest) all.3)
 
       other : (index : ℕ) (list : FinMap word_order ℕ) → IsListed (world_of before) (place_of index) list → (IsAmong (levels_passed (world_of before) key) (place_of index) → ⊥) →
           IsListed (world_of after) (place_of index) list

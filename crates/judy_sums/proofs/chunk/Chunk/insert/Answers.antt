@@ -17,11 +17,11 @@ invariant_of-self-else-at-eq0 c =
     let within : c.args.at ≤ length pairs = let long = ap length c.self.view_is in let in_it = c.requires.within in omega arith in
     let apart = c.if-at-eq0.false in
     let more = sum_by-insert (λ (pair : ℕ × ℕ). pair.1) pairs c.args.at c.args.entry in
-    let is = ap sum_of c.in_ok-insert.ensures.items in
+    let is = ap sum_of c.in_ok-insert_at.ensures.items in
     let total = c.self.invariant.sums in
     record {
       sums = omega arith;
       begins =
-          subst (λ (pairs : Pairs). IsFirst pairs c.self.inside.first) (sym c.in_ok-insert.ensures.items)
+          subst (λ (pairs : Pairs). IsFirst pairs c.self.inside.first) (sym c.in_ok-insert_at.ensures.items)
           (first_kept pairs c.args.at c.self.inside.first c.args.entry (omega arith) within c.self.invariant.begins);
     }
