@@ -17,7 +17,7 @@ use crate::child::ChildRef;
 use crate::judysl::JudySl;
 use crate::keys::KeyBuf;
 use crate::pieces::{first_piece, fresh_piece, push_piece};
-use judy_tails::{KeyEnd, KeyFront, KeyWriter, Tail};
+use judy_tails::{KeyEnd, KeyFront, KeyHolder, KeyWriter, Tail};
 use judy_word::WordMap;
 use std::cmp::Ordering;
 

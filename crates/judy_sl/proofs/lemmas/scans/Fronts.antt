@@ -11,10 +11,10 @@ use Rattle.judy_sl.specs.declared.scans.Look.{Look}
 use Rattle.judy_sl.specs.declared.arena.Arena.{Arena}
 use Rattle.judy_sl.specs.Arenas.{world_of, map_of, AreWithin, AreShort}
 use Rattle.judy_tails.specs.Writers.{WasGiven}
-use Rattle.judy_sl.specs.declared.runs.Run.{Run}
+use Rattle.judy_sl.specs.declared.runs.LastRun.{LastRun}
 use Rattle.judy_sl.specs.Scans.{upward, IsFront, IsNeighbour}
 use Rattle.judy_sl.proofs.lemmas.pieces.Strings.{within-found}
-use Rattle.judy_sl.specs.Runs.{Levels, IsAbove, IsClimbed, Stands}
+use Rattle.judy_sl.specs.Runs.{Levels, IsAbove, IsClimbed, RunLeads, last_run}
 
 -- The buffer ends with the key in front, and what was behind its place is there still.
 pub is_front : (key before after : List ℕ) (len : ℕ) → len ≤ length after → take len after ≡ key → drop len after ≡ drop len before → IsFront key before len after
@@ -70,21 +70,16 @@ few count all = ⊎_elim (λ less. let same = ap length (take_all count all (ome
 room-short : (room : KeyRoom) → IsWhole room → length (bytes_in room) ≤ LONGEST_KEY
 room-short room whole = let most = few room.len room.bytes in omega (arith, whole, most)
 
--- A key cut off there.
-pub room-begun : (key : List ℕ) (room : KeyRoom) (depth : ℕ) → room.len ≡ depth → bytes_in room ≡ take depth key → depth ≤ length key →
-    (room.len ≡ length (take depth key)) × (length (take depth key) ≤ LONGEST_KEY → take room.len room.bytes ≡ take depth key)
-room-begun key room depth long are within = (long ∙ sym (length-take-le depth key within), λ fits. are)
-
--- And the key to which a walk goes on.
-pub room-climbed : (itself : Bool) (arena : Arena) → AreShort (map_of arena) → (before : KeyRoom) → IsWhole before → (above : Levels) (run : Run) (found : Option ℕ) (room : KeyRoom) →
+-- The key to which a walk goes on finds room.
+pub room-climbed : (itself : Bool) (arena : Arena) → AreShort (map_of arena) → (before : KeyRoom) → IsWhole before → (above : Levels) (last : LastRun) (found : Option ℕ) (room : KeyRoom) →
     WasGiven (λ (key : KeyRoom) bytes. (key.len ≡ length bytes) × (length bytes ≤ LONGEST_KEY → take key.len key.bytes ≡ bytes)) room
-    (IsClimbed itself (world_of arena) (bytes_in before) above run found) →
-    IsWhole room × IsAbove itself (world_of arena) (bytes_in before) (bytes_in room) found × Stands (world_of arena) (bytes_in room) above run
-room-climbed itself arena short before whole above run found room got =
+    (IsClimbed itself (world_of arena) (bytes_in before) above last found) →
+    IsWhole room × IsAbove itself (world_of arena) (bytes_in before) (bytes_in room) found × RunLeads (world_of arena) (bytes_in room) above (last_run last)
+room-climbed itself arena short before whole above last found room got =
     let fits = neighbour-fits (upward itself) arena LONGEST_KEY short (bytes_in before) got.bytes found (room-short before whole) got.are.0 in
     let long = got.given.0 in
     let are = sym (got.given.1 fits) in (
       omega (arith, long, fits),
       subst (λ bytes. IsAbove itself (world_of arena) (bytes_in before) bytes found) are got.are.0,
-      subst (λ bytes. Stands (world_of arena) bytes above run) are got.are.1,
+      subst (λ bytes. RunLeads (world_of arena) bytes above (last_run last)) are got.are.1,
     )
