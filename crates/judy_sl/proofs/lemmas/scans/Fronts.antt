@@ -1,9 +1,8 @@
 -- A key at the front of a buffer, with what stands behind it.
-use Rattle.std.proofs.Common.{◌≡◌, ◌≤◌, ◌++◌, ℕ, List, length, take, drop, Bool, subst, Option, Some, None, refl, sym, ap, ◌∙◌, arith, ⊎_elim}
+use Rattle.std.proofs.Common.{◌≡◌, ◌≤◌, ◌++◌, ℕ, List, length, take, drop, Bool, subst, Option, Some, None, sym, ap, ◌∙◌, arith, ⊎_elim}
 use Rattle.std.proofs.Math.Seq.{take-append_seam}
 use Rattle.std.proofs.lemmas.Bool.{cases_lt}
 use Rattle.std.proofs.lemmas.List.{length-take-le, take-append-drop, take_all}
-use lib.Seq.{take-take}
 use Rattle.judy_model.specs.declared.keys.TheConstants.{LONGEST_KEY}
 use Rattle.judy_tails.specs.declared.writer.KeyRoom.{KeyRoom}
 use Rattle.judy_tails.specs.Rooms.{bytes_in, IsWhole}
@@ -26,10 +25,6 @@ is_front key before after len inside front behind =
 pub front-key : (key before after : List ℕ) (len : ℕ) → IsFront key before len after → take len after ≡ key
 front-key key before after len is = ap (take len) is.1 ∙ ap (λ n. take n (key ++ drop (length key) before)) is.0 ∙ take-append_seam key (drop (length key) before)
 
--- And where nothing was written, all is as it was.
-pub same_front : (before : List ℕ) (len : ℕ) → len ≤ length before → IsFront (take len before) before len before
-same_front before len inside = is_front (take len before) before before len inside refl refl
-
 -- What a writer at the front left there.
 module _ (before after : List ℕ) (len was name : ℕ) (beyond : (place : ℕ) → len ≤ place →
     ◌≡◌ {A = List ℕ × ℕ × ℕ} (drop place after, length after, name) (drop place before, length before, was)) where
@@ -44,15 +39,6 @@ module _ (before after : List ℕ) (len was name : ℕ) (beyond : (place : ℕ) 
 
   pub front-written : (key : List ℕ) → len ≤ length after → take len after ≡ key → IsFront key before len after
   front-written key inside front = is_front key before after len inside front (ap (λ all. all.0) stays)
-
--- Of a key that begins with as many bytes as a turn is deep, a writer at the front was given these.
-pub front-begun : (key buffer : List ℕ) (len depth : ℕ) → key ≡ take len buffer → len ≤ length buffer → depth ≤ length key →
-    (depth ≡ length (take depth key)) × (take depth buffer ≡ take depth key)
-front-begun key buffer len depth is inside within =
-    let all = ap length is ∙ length-take-le len buffer inside in (
-      sym (length-take-le depth key within),
-      sym (ap (take depth) is ∙ take-take depth len buffer (omega (arith, all, within))),
-    )
 
 -- A key that a scan leaves is no longer than a buffer that has room for each, and for the one from which it looked.
 pub neighbour-fits : (look : Look) (arena : Arena) (room : ℕ) → AreWithin room (map_of arena) → (key after : List ℕ) (found : Option ℕ) → length key ≤ room →

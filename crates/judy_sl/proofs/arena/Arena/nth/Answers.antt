@@ -44,7 +44,12 @@ returns-then-piece-eq0 g c =
       found = record {
         bytes = piece_bytes piece;
         given = given;
-        are = record { value = value; at = nth_is (map_of c.args.self.now) place (piece_bytes piece) value at; held = held_at (map_of c.args.self.now) place (piece_bytes piece) value at; answer = refl };
+        are = record {
+          value = value;
+          at = nth_is (map_of c.args.self.now) place (piece_bytes piece) value at;
+          held = held_at (map_of c.args.self.now) place (piece_bytes piece) value at;
+          answer = refl;
+        };
       };
       beyond = c.push_piece.ensures.beyond;
     }
