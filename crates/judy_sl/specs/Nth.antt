@@ -2,7 +2,7 @@
 use Rattle.std.specs.Prelude.{◌≡◌, ℕ, suc, ◌+◌, ◌-◌, ◌<◌, ◌≤◌, List, ◌∷◌, ◌++◌, length, slice_get, Option, Some, unwrap_or, Result, MatchResult}
 use Rattle.std.specs.List.{flat_map}
 use Rattle.std.specs.FinMap.{FinMap, entries, get, len}
-use Rattle.judy_model.specs.Keys.{word_order}
+use Rattle.judy_model.specs.Keys.{word_order, byte_order}
 use Rattle.judy_model.specs.Counts.{nth, by_count}
 use Rattle.judy_sums.specs.Pairs.{sum_below}
 use Rattle.judy_sums.specs.Levels.{part_len}
@@ -60,4 +60,11 @@ pub record IsNthBehind (world : World) (seat place : ℕ) (before after : List �
   pub value : ℕ
   pub stands : slice_get (entries (map_behind world seat)) place ≡ Some (rest, value)
   pub bytes : after ≡ before ++ rest
+  pub answer : found ≡ Some value
+
+-- These bytes are the key at a place of an array, and its value was answered.
+pub record IsNth (map : FinMap byte_order ℕ) (place : ℕ) (found : Option ℕ) (key : List ℕ) : Type 0 where
+  pub value : ℕ
+  pub at : nth map place ≡ Some key
+  pub held : get map key ≡ Some value
   pub answer : found ≡ Some value

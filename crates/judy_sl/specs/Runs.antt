@@ -1,5 +1,5 @@
 -- The entries of a level that are still to come, the levels above it, and what a walk up through the keys finds by them.
-use Rattle.std.specs.Prelude.{◌≡◌, ℕ, suc, ◌*◌, ◌≤◌, Bool, false, IsFalse, List, [], ◌∷◌, ◌++◌, length, take, Option, None, Some, if◌then◌else◌}
+use Rattle.std.specs.Prelude.{◌≡◌, ℕ, suc, ◌*◌, ◌≤◌, Bool, false, IsTrue, IsFalse, List, [], ◌∷◌, ◌++◌, length, take, Option, None, Some, if◌then◌else◌}
 use Rattle.std.specs.Borrow.{Bor}
 use Rattle.std.specs.FinMap.{FinMap, get}
 use Rattle.judy_model.specs.Arrays.{ArrayOf}
@@ -96,19 +96,26 @@ pub record LeadsToLevel (world : World) (key : List ℕ) (depth : ℕ) (map : Fi
 abbrev pub HasLevel : World → List ℕ → ℕ → Type 0
 HasLevel world key depth = (map : FinMap word_order ℕ) × LeadsToLevel world key depth map
 
--- It has this map, and these are the levels above it.
-abbrev pub IsLevelBehind : World → List ℕ → ℕ → Levels → FinMap word_order ℕ → Type 0
-IsLevelBehind world key depth above found = (map : FinMap word_order ℕ) (leads : LeadsToLevel world key depth map) → (found ≡ map) × LeadAlong world 0 leads.front above leads.seat
+-- It has this map, and these are the levels above it, where they are known.
+abbrev pub IsLevelBehind : World → List ℕ → ℕ → Levels → Bool → FinMap word_order ℕ → Type 0
+IsLevelBehind world key depth above known found = (map : FinMap word_order ℕ) (leads : LeadsToLevel world key depth map) →
+    (found ≡ map) × (IsTrue known → LeadAlong world 0 leads.front above leads.seat)
 
 -- A walk leaves the least key above the bytes, and answers its value; or there is none, and they stay.
 abbrev pub IsAbove : Bool → World → List ℕ → List ℕ → Option ℕ → Type 0
 IsAbove itself = IsNeighbour (upward itself)
 
--- And they then stand in the level of the run.
-abbrev pub IsClimbed : Bool → World → List ℕ → Levels → Run → Option ℕ → List ℕ → Type 0
-IsClimbed itself world key above run found after = IsAbove itself world key after found × Stands world after above run
+-- And they then stand in the level of the run, where one is known.
+abbrev pub IsClimbed : Bool → World → List ℕ → Levels → LastRun → Option ℕ → List ℕ → Type 0
+IsClimbed itself world key above last found after = IsAbove itself world key after found × RunLeads world after above (last_run last)
 
--- A writer has the bytes of a key before an entry at which the turn above that key is.
-pub record IsBegunAbove (itself : Bool) (world : World) (entry : ℕ × ℕ) (above : Levels) (run : Run) {W : Type 0} (has : W → List ℕ → Type 0) (writer : W) (key : List ℕ) : Type 0 where
-  pub leads : EntryLeads itself world key entry above run
-  pub given : has writer (take (8 * length above) key)
+-- At an entry of the level of a run is the turn above a key, before which a writer has its bytes. The run has the entries beyond it; and
+-- where it is known, the levels above are those that lead there.
+pub record IsBegunAbove (itself : Bool) (world : World) (entry : ℕ × ℕ) (above : Levels) (last : LastRun) {W : Type 0} (has : W → List ℕ → Type 0) (writer : W) (key : List ℕ) : Type 0 where
+  pub seat : ℕ
+  pub depth : ℕ
+  pub at : IsTurnAt (upward itself) world key seat entry.0 entry.1 depth
+  pub is_level : world seat ≡ level last.run.level.now.map
+  pub beyond : AreBeyond last.run.level.now.map entry.0 last.run.entries.0
+  pub way : IsTrue last.known → LeadAlong world 0 at.front above seat × AreKept at.front above last.run.entries.1
+  pub given : has writer (take depth key)

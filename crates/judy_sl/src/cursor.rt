@@ -9,7 +9,7 @@ ghost use Rattle.judy_sl.specs.Scans.{value_found};
 use crate::arena::Arena;
 use crate::judysl::JudySl;
 use crate::runs::{LastRun, Levels};
-use judy_tails::KeyRoom;
+use judy_tails::{KeyHolder, KeyRoom};
 use std::marker::Model;
 
 /// A walk up through the keys of an array: to its callers it is the array's map, and the bytes at which it stands. A

@@ -28,7 +28,7 @@ use crate::child::{ChildRef, LEVEL};
 use crate::keys::is_key;
 use crate::pieces::first_piece;
 use judy_model::keys::LONGEST_KEY;
-use judy_tails::KeyFront;
+use judy_tails::{KeyFront, KeyHolder};
 use judy_word::WordMap;
 use std::alloc::AllocError;
 

@@ -1,15 +1,15 @@
 //! Which key stands at a place: in a level with a list the piece is sought by how many keys stand before it. Another
 //! level's entries are read from the nearer end up to the place, unless each has one key behind it.
 
-ghost use Rattle.std.specs.Prelude.{◌≡◌, ◌<◌, ◌≤◌, ◌+◌, ◌^◌, ℕ, List, Some, suc, drop, unwrap_or, All};
+ghost use Rattle.std.specs.Prelude.{◌≡◌, ◌<◌, ◌≤◌, ◌+◌, ◌^◌, ℕ, List, [], Some, suc, drop, unwrap_or, All};
 ghost use Rattle.std.specs.FinMap as map;
 ghost use Rattle.std.specs.Option.{option_copied};
 ghost use Rattle.judy_model.specs.Counts as counts;
-ghost use Rattle.judy_sl.specs.Arenas.{world_of, map_of, AreShort, IsArena};
+ghost use Rattle.judy_sl.specs.Arenas.{world_of, map_of, IsArena};
 ghost use Rattle.judy_sl.specs.Counted.{LeadsOn, keys_behind, keys_behind_all, AreCounted, StandsWith};
 ghost use Rattle.judy_sl.specs.Firsts.{AreFirsts};
 ghost use Rattle.judy_sl.specs.Listed.{AreListed, IsListOf};
-ghost use Rattle.judy_sl.specs.Nth.{before_entry, KeysFit, IsChosen, AreReadFor, IsSpotIn, IsSpotOf, IsListedSpot, IsNthBehind};
+ghost use Rattle.judy_sl.specs.Nth.{before_entry, KeysFit, IsChosen, AreReadFor, IsSpotIn, IsSpotOf, IsListedSpot, IsNthBehind, IsNth};
 ghost use Rattle.judy_tails.specs.Writers.{StaysBeyond, WasGiven};
 ghost use Rattle.judy_sl.specs.Scans.{value_found};
 
@@ -39,7 +39,9 @@ impl JudySl {
         if n == 0 || n > self.len() {
             return None;
         }
-        self.arena.nth(&self.firsts, &self.lists, n - 1, key)
+        key.clear();
+        let mut end = KeyEnd::new(key);
+        self.arena.nth(&self.firsts, &self.lists, n - 1, &mut end)
     }
 }
 
@@ -315,28 +317,32 @@ impl Arena {
         }
     }
 
-    // Puts the key at a place, counted from 0, into the buffer, and answers its value.
-    fn nth(&self, firsts: &Sums, lists: &LevelSums, place: u64, key: &mut KeyBuf) -> Option<u64>
+    // Puts the key at a place, counted from 0, where a writer has no byte yet, and answers its value.
+    fn nth<K: KeyWriter>(
+        &self,
+        firsts: &Sums,
+        lists: &LevelSums,
+        place: u64,
+        key: &mut K,
+    ) -> Option<u64>
         requires is_arena { IsArena self.now }
-        requires short { AreShort (map_of self.now) }
         requires counted { AreCounted self.now }
         requires listed { AreListed (world_of self.now) lists.now }
         requires firsts { AreFirsts (map_of self.now) firsts.now }
         requires few { map.len (map_of self.now) ≤ 4294967295 }
         requires within { place < map.len (map_of self.now) }
-        ensures key { counts.nth (map_of self.now) place ≡ Some key.new.items }
-        ensures value { result ≡ map.get (map_of self.now) key.new.items }
+        requires none { K.has key.old [] }
+        ensures found { WasGiven K.has key.new (IsNth (map_of self.now) place result) }
+        ensures beyond { StaysBeyond K.len K.beyond key.old key.new }
     {
         let mark = chosen(&self.root, firsts, place);
         let Some((piece, value)) = self.root.array().by_count_entry(mark.place + 1) else {
             unreachable!()
         };
-        key.clear();
-        let mut end = KeyEnd::new(key);
-        push_piece(&mut end, piece);
+        push_piece(key, piece);
         if piece % 256 == 0 {
             return Some(value);
         }
-        self.nth_behind(lists, value, place - mark.before, &mut end)
+        self.nth_behind(lists, value, place - mark.before, key)
     }
 }

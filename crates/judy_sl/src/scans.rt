@@ -9,7 +9,7 @@ ghost use Rattle.judy_model.specs.Neighbours as neighbours;
 ghost use Rattle.judy_model.specs.declared.keys.TheConstants.{LONGEST_KEY};
 ghost use Rattle.judy_tails.specs.Writers.{StaysBeyond, WasGiven};
 ghost use Rattle.judy_sl.specs.Pieces.{IsText};
-ghost use Rattle.judy_sl.specs.Arenas.{world_of, map_of, AreWithin, AreShort, IsArena};
+ghost use Rattle.judy_sl.specs.Arenas.{world_of, map_of, AreWithin, IsArena};
 ghost use Rattle.judy_sl.specs.Scans.{look_to, upward, is_beyond, along_bytes, IsNearestEntry, IsFirstEntry, piece_in, IsEntryOf, turn_or, neighbour_along, value_found, value_in, StandsAt, IsTurn, IsTurnOf, IsBegun, IsScanned, nearest_key, IsFront};
 
 use crate::arena::{Arena, Place, place_in};
@@ -17,7 +17,7 @@ use crate::child::ChildRef;
 use crate::judysl::JudySl;
 use crate::keys::KeyBuf;
 use crate::pieces::{first_piece, fresh_piece, push_piece};
-use judy_tails::{KeyEnd, KeyFront, KeyWriter, Tail};
+use judy_tails::{KeyEnd, KeyFront, KeyHolder, KeyWriter, Tail};
 use judy_word::WordMap;
 use std::cmp::Ordering;
 
@@ -171,28 +171,27 @@ impl Look {
 }
 
 impl Arena {
-    // Puts the neighbour of the key into the buffer that holds the key, and answers its value; where there is none the
-    // buffer stays.
-    fn neighbour(&self, look: Look, key: &mut KeyBuf) -> Option<u64>
+    // Puts the neighbour of a holder's key in its place, and answers its value and where it stands; where there is none
+    // the key stays. A key for which the holder has no room leaves it with the length alone.
+    // Within its callers, so that the holder is theirs to keep in registers.
+    #[inline(always)]
+    pub fn neighbour<K: KeyHolder>(&self, look: Look, key: &mut K) -> Option<Scanned>
         requires is_arena { IsArena self.now }
-        requires short { AreShort (map_of self.now) }
-        requires without_zero { All (λ byte. byte ≢ 0) key.old.items }
-        ensures key { key.new.items ≡ nearest_key look (map_of self.now) key.old.items }
-        ensures value { result
-            ≡ value_found (map_of self.now)
-            (neighbour_along look.side look.itself (map_of self.now) key.old.items) }
+        requires whole { K.IsWhole key.old }
+        requires without_zero { All (λ byte. byte ≢ 0) (K.bytes key.old) }
+        ensures is_text { IsText (K.bytes key.old) }
+        ensures within { length (K.bytes key.old) ≤ K.room key.old }
+        ensures found { WasGiven K.has key.new
+            (IsScanned look (world_of self.now) (K.bytes key.old) result) }
+        ensures beyond { StaysBeyond K.len K.beyond key.old key.new }
     {
         let turn = self.turn(look, key.as_slice())?;
-        key.truncate(turn.depth);
-        let mut end = KeyEnd::new(key);
-        match self.follow(look, turn, &mut end) {
-            Some(found) => Some(found.value),
-            None => None,
-        }
+        key.cut(turn.depth);
+        self.follow(look, turn, key)
     }
 
-    // The same at the front of a buffer that has room for each key, where the key has so many bytes, with the place at
-    // which the neighbour stands; behind it the buffer stays.
+    // The same at the front of a buffer that has room for each key, where the key has so many bytes; behind it the
+    // buffer stays.
     pub fn nearest_in(&self, look: Look, buffer: &mut [u8], len: &mut usize) -> Option<Scanned>
         requires is_arena { IsArena self.now }
         requires room { AreWithin (length buffer.old) (map_of self.now) }
@@ -204,9 +203,8 @@ impl Arena {
             (neighbour_along look.side look.itself (map_of self.now) (take len.old buffer.old)) }
         ensures stands { StandsAt (world_of self.now) (take len.new buffer.new) result }
     {
-        let turn = self.turn(look, &buffer[..*len])?;
-        let mut key = KeyFront::new(buffer, turn.depth);
-        let found = self.follow(look, turn, &mut key);
+        let mut key = KeyFront::new(buffer, *len);
+        let found = self.neighbour(look, &mut key);
         *len = key.len();
         found
     }
@@ -375,7 +373,7 @@ impl JudySl {
         ensures value { result
             ≡ value_found self.now.map (neighbours.first self.now.map key.old.items) }
     {
-        self.arena.neighbour(Look::inclusive(Side::Above), key)
+        self.nearest(Look::inclusive(Side::Above), key)
     }
 
     /// The value of the least key above the one in the buffer; the key found is then in the buffer. `None` where no
@@ -388,7 +386,7 @@ impl JudySl {
         ensures value { result
             ≡ value_found self.now.map (neighbours.next self.now.map key.old.items) }
     {
-        self.arena.neighbour(Look::exclusive(Side::Above), key)
+        self.nearest(Look::exclusive(Side::Above), key)
     }
 
     /// The value of the greatest key up to the one in the buffer, that key itself where it is there; the key found
@@ -401,7 +399,7 @@ impl JudySl {
         ensures value { result
             ≡ value_found self.now.map (neighbours.last self.now.map key.old.items) }
     {
-        self.arena.neighbour(Look::inclusive(Side::Below), key)
+        self.nearest(Look::inclusive(Side::Below), key)
     }
 
     /// The value of the greatest key below the one in the buffer; the key found is then in the buffer. `None` where
@@ -414,7 +412,22 @@ impl JudySl {
         ensures value { result
             ≡ value_found self.now.map (neighbours.prev self.now.map key.old.items) }
     {
-        self.arena.neighbour(Look::exclusive(Side::Below), key)
+        self.nearest(Look::exclusive(Side::Below), key)
+    }
+
+    // Puts the neighbour of the key into the buffer that holds the key, and answers its value; where there is none the
+    // buffer stays.
+    fn nearest(&self, look: Look, key: &mut KeyBuf) -> Option<u64>
+        requires { All (λ byte. byte ≢ 0) key.old.items }
+        ensures key { key.new.items ≡ nearest_key look self.now.map key.old.items }
+        ensures value { result ≡ value_found self.now.map
+            (neighbour_along look.side look.itself self.now.map key.old.items) }
+    {
+        let mut end = KeyEnd::new(key);
+        match self.arena.neighbour(look, &mut end) {
+            Some(found) => Some(found.value),
+            None => None,
+        }
     }
 
     /// The value of the neighbour of the key at the front of a buffer, which has `len` bytes; the neighbour then stands

@@ -7,7 +7,7 @@
 //! at each place.
 //!
 //! tails.rt has all tails, short.rt the lists by length, long.rt the longer ones, tail.rt one tail as it is read, and
-//! writer.rt where a key is written byte behind byte.
+//! writer.rt where a key is written byte behind byte, and handed out.
 #![tactic(auto)]
 
 mod long;
@@ -18,4 +18,4 @@ mod writer;
 
 pub use tail::Tail;
 pub use tails::Tails;
-pub use writer::{KeyEnd, KeyFront, KeyRoom, KeyWriter};
+pub use writer::{KeyEnd, KeyFront, KeyHolder, KeyRoom, KeyWriter};

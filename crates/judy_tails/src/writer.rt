@@ -1,9 +1,9 @@
 //! Where a key is written byte behind byte: a buffer of its own, or the front of another's. A writer that has no room
-//! left goes on to count.
+//! left goes on to count, and a key that found room is handed out.
 
 ghost use Rattle.std.specs.Prelude.{◌≡◌, ◌+◌, ◌<◌, ◌≤◌, ◌++◌, ℕ, List, [], ◌∷◌, MatchOption, length, take, drop};
 ghost use Rattle.judy_model.specs.declared.keys.TheConstants.{LONGEST_KEY, LONGEST_STRING};
-ghost use Rattle.judy_tails.specs.Writers.{StaysBeyond};
+ghost use Rattle.judy_tails.specs.Writers.{StaysBeyond, fits_in, ends_there};
 
 use arrayvec::ArrayVec;
 use judy_model::keys::LONGEST_KEY;
@@ -50,6 +50,45 @@ pub trait KeyWriter {
 
     /// The length is that of the bytes.
     ghost has_len: { (k : Self) (bytes : List ℕ) → has k bytes → len k ≡ length bytes };
+}
+
+/// A writer that hands out its key, where that found room whole.
+///
+///     let mut key = KeyFront::new(&mut buffer, 0);
+///     key.put_eight(b"an apple");
+///     key.cut(2);
+///     // key.as_slice() == b"an", where the buffer has eight bytes
+pub trait KeyHolder: KeyWriter {
+    /// How many bytes there is room for.
+    ghost room: { Self → ℕ };
+
+    /// It has the whole key.
+    ghost IsWhole: { Self → Type 0 };
+
+    /// The bytes of the key, where it has it whole.
+    ghost bytes: { Self → List ℕ };
+
+    /// How many bytes the key has, whether they found room or not.
+    fn len(&self) -> usize
+        ensures { result ≡ Self.len self.now };
+
+    /// The bytes of the key.
+    fn as_slice(&self) -> &[u8]
+        requires { IsWhole self.now }
+        ensures bytes { result.now ≡ bytes self.now }
+        ensures within { length result.now ≤ room self.now }
+        ensures has { Self.has self.now (bytes self.now) };
+
+    /// Cuts the key off behind so many bytes. It takes a few instructions.
+    fn cut(&mut self, len: usize)
+        requires whole { IsWhole self.old }
+        requires within { len ≤ length (bytes self.old) }
+        ensures has { Self.has self.new (take len (bytes self.old)) }
+        ensures beyond { (place : ℕ) → Self.beyond self.new place ≡ Self.beyond self.old place };
+
+    /// It has a key whole for which there is room.
+    ghost fits: { (k : Self) (key : List ℕ)
+        → Self.has k key → length key ≤ room k → IsWhole k × (bytes k ≡ key) };
 }
 
 /// The end of a buffer of its own, which ends with the key.
@@ -101,6 +140,33 @@ impl<'a> KeyWriter for KeyEnd<'a> {
     }
 }
 
+impl<'a> KeyHolder for KeyEnd<'a> {
+    ghost room = { λ key. LONGEST_KEY };
+
+    ghost IsWhole = { λ key. key.len ≡ length key.buffer.now.items };
+
+    ghost bytes = { λ key. key.buffer.now.items };
+
+    ghost fits = { λ k key is fits.
+        (ends_there k.len k.buffer.now.items key is.0 (is.1 fits), is.1 fits) };
+
+    #[inline(always)]
+    fn len(&self) -> usize {
+        self.len
+    }
+
+    #[inline(always)]
+    fn as_slice(&self) -> &[u8] {
+        self.buffer.as_slice()
+    }
+
+    #[inline(always)]
+    fn cut(&mut self, len: usize) {
+        self.buffer.truncate(len);
+        self.len = len;
+    }
+}
+
 /// The front of a buffer: the bytes behind the key stay as they are.
 #[derive(Drop)]
 pub struct KeyFront<'a> {
@@ -117,14 +183,6 @@ impl<'a> KeyFront<'a> {
         ensures same { result.buffer.ghost_name ≡ buffer.entry.ghost_name }
     {
         KeyFront { buffer, len }
-    }
-
-    /// How many bytes the key has.
-    #[inline(always)]
-    pub fn len(&self) -> usize
-        ensures { result ≡ self.now.len }
-    {
-        self.len
     }
 
     // The eight bytes behind the key, where the buffer has as many.
@@ -183,6 +241,32 @@ impl<'a> KeyWriter for KeyFront<'a> {
     }
 }
 
+impl<'a> KeyHolder for KeyFront<'a> {
+    ghost room = { λ key. length key.buffer.now };
+
+    ghost IsWhole = { λ key. key.len ≤ length key.buffer.now };
+
+    ghost bytes = { λ key. take key.len key.buffer.now };
+
+    ghost fits = { λ k key is fits.
+        (fits_in k.len (length k.buffer.now) key is.0 fits, is.1 fits) };
+
+    #[inline(always)]
+    fn len(&self) -> usize {
+        self.len
+    }
+
+    #[inline(always)]
+    fn as_slice(&self) -> &[u8] {
+        &self.buffer[..self.len]
+    }
+
+    #[inline(always)]
+    fn cut(&mut self, len: usize) {
+        self.len = len;
+    }
+}
+
 // The first so many of eight bytes, and the others of eight that stand. There is no branch, since how many they are
 // can't be foreseen.
 #[inline(always)]
@@ -219,27 +303,6 @@ impl KeyRoom {
             bytes,
             len: key.len(),
         }
-    }
-
-    /// The bytes of the key, where they found room.
-    #[inline(always)]
-    pub fn as_slice(&self) -> &[u8]
-        requires { IsWhole self.now }
-        ensures bytes { result.now ≡ bytes_in self.now }
-        ensures short { length result.now ≤ LONGEST_KEY }
-    {
-        &self.bytes[..self.len]
-    }
-
-    /// Cuts the key off behind so many bytes. It takes one instruction.
-    #[inline(always)]
-    pub fn cut(&mut self, len: usize)
-        requires whole { IsWhole self.old }
-        requires within { len ≤ length (bytes_in self.old) }
-        ensures bytes { bytes_in self.new ≡ take len (bytes_in self.old) }
-        ensures len { self.new.len ≡ len }
-    {
-        self.len = len;
     }
 }
 
@@ -282,5 +345,32 @@ impl KeyWriter for KeyRoom {
                 self.put(*byte);
             }
         }
+    }
+}
+
+impl KeyHolder for KeyRoom {
+    ghost use Rattle.judy_tails.specs.Rooms.{bytes_in, IsWhole as IsInRoom};
+
+    ghost room = { λ key. LONGEST_KEY };
+
+    ghost IsWhole = { IsInRoom };
+
+    ghost bytes = { bytes_in };
+
+    ghost fits = { λ k key is fits. (fits_in k.len LONGEST_KEY key is.0 fits, is.1 fits) };
+
+    #[inline(always)]
+    fn len(&self) -> usize {
+        self.len
+    }
+
+    #[inline(always)]
+    fn as_slice(&self) -> &[u8] {
+        &self.bytes[..self.len]
+    }
+
+    #[inline(always)]
+    fn cut(&mut self, len: usize) {
+        self.len = len;
     }
 }

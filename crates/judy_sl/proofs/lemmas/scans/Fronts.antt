@@ -1,9 +1,8 @@
 -- A key at the front of a buffer, with what stands behind it.
-use Rattle.std.proofs.Common.{◌≡◌, ◌≤◌, ◌++◌, ℕ, List, length, take, drop, Bool, subst, Option, Some, None, refl, sym, ap, ◌∙◌, arith, ⊎_elim}
+use Rattle.std.proofs.Common.{◌≡◌, ◌≤◌, ◌++◌, ℕ, List, length, take, drop, Bool, subst, Option, Some, None, sym, ap, ◌∙◌, arith, ⊎_elim}
 use Rattle.std.proofs.Math.Seq.{take-append_seam}
 use Rattle.std.proofs.lemmas.Bool.{cases_lt}
 use Rattle.std.proofs.lemmas.List.{length-take-le, take-append-drop, take_all}
-use lib.Seq.{take-take}
 use Rattle.judy_model.specs.declared.keys.TheConstants.{LONGEST_KEY}
 use Rattle.judy_tails.specs.declared.writer.KeyRoom.{KeyRoom}
 use Rattle.judy_tails.specs.Rooms.{bytes_in, IsWhole}
@@ -11,10 +10,10 @@ use Rattle.judy_sl.specs.declared.scans.Look.{Look}
 use Rattle.judy_sl.specs.declared.arena.Arena.{Arena}
 use Rattle.judy_sl.specs.Arenas.{world_of, map_of, AreWithin, AreShort}
 use Rattle.judy_tails.specs.Writers.{WasGiven}
-use Rattle.judy_sl.specs.declared.runs.Run.{Run}
+use Rattle.judy_sl.specs.declared.runs.LastRun.{LastRun}
 use Rattle.judy_sl.specs.Scans.{upward, IsFront, IsNeighbour}
 use Rattle.judy_sl.proofs.lemmas.pieces.Strings.{within-found}
-use Rattle.judy_sl.specs.Runs.{Levels, IsAbove, IsClimbed, Stands}
+use Rattle.judy_sl.specs.Runs.{Levels, IsAbove, IsClimbed, RunLeads, last_run}
 
 -- The buffer ends with the key in front, and what was behind its place is there still.
 pub is_front : (key before after : List ℕ) (len : ℕ) → len ≤ length after → take len after ≡ key → drop len after ≡ drop len before → IsFront key before len after
@@ -25,10 +24,6 @@ is_front key before after len inside front behind =
 -- The buffer begins with that key.
 pub front-key : (key before after : List ℕ) (len : ℕ) → IsFront key before len after → take len after ≡ key
 front-key key before after len is = ap (take len) is.1 ∙ ap (λ n. take n (key ++ drop (length key) before)) is.0 ∙ take-append_seam key (drop (length key) before)
-
--- And where nothing was written, all is as it was.
-pub same_front : (before : List ℕ) (len : ℕ) → len ≤ length before → IsFront (take len before) before len before
-same_front before len inside = is_front (take len before) before before len inside refl refl
 
 -- What a writer at the front left there.
 module _ (before after : List ℕ) (len was name : ℕ) (beyond : (place : ℕ) → len ≤ place →
@@ -44,15 +39,6 @@ module _ (before after : List ℕ) (len was name : ℕ) (beyond : (place : ℕ) 
 
   pub front-written : (key : List ℕ) → len ≤ length after → take len after ≡ key → IsFront key before len after
   front-written key inside front = is_front key before after len inside front (ap (λ all. all.0) stays)
-
--- Of a key that begins with as many bytes as a turn is deep, a writer at the front was given these.
-pub front-begun : (key buffer : List ℕ) (len depth : ℕ) → key ≡ take len buffer → len ≤ length buffer → depth ≤ length key →
-    (depth ≡ length (take depth key)) × (take depth buffer ≡ take depth key)
-front-begun key buffer len depth is inside within =
-    let all = ap length is ∙ length-take-le len buffer inside in (
-      sym (length-take-le depth key within),
-      sym (ap (take depth) is ∙ take-take depth len buffer (omega (arith, all, within))),
-    )
 
 -- A key that a scan leaves is no longer than a buffer that has room for each, and for the one from which it looked.
 pub neighbour-fits : (look : Look) (arena : Arena) (room : ℕ) → AreWithin room (map_of arena) → (key after : List ℕ) (found : Option ℕ) → length key ≤ room →
@@ -70,21 +56,16 @@ few count all = ⊎_elim (λ less. let same = ap length (take_all count all (ome
 room-short : (room : KeyRoom) → IsWhole room → length (bytes_in room) ≤ LONGEST_KEY
 room-short room whole = let most = few room.len room.bytes in omega (arith, whole, most)
 
--- A key cut off there.
-pub room-begun : (key : List ℕ) (room : KeyRoom) (depth : ℕ) → room.len ≡ depth → bytes_in room ≡ take depth key → depth ≤ length key →
-    (room.len ≡ length (take depth key)) × (length (take depth key) ≤ LONGEST_KEY → take room.len room.bytes ≡ take depth key)
-room-begun key room depth long are within = (long ∙ sym (length-take-le depth key within), λ fits. are)
-
--- And the key to which a walk goes on.
-pub room-climbed : (itself : Bool) (arena : Arena) → AreShort (map_of arena) → (before : KeyRoom) → IsWhole before → (above : Levels) (run : Run) (found : Option ℕ) (room : KeyRoom) →
+-- The key to which a walk goes on finds room.
+pub room-climbed : (itself : Bool) (arena : Arena) → AreShort (map_of arena) → (before : KeyRoom) → IsWhole before → (above : Levels) (last : LastRun) (found : Option ℕ) (room : KeyRoom) →
     WasGiven (λ (key : KeyRoom) bytes. (key.len ≡ length bytes) × (length bytes ≤ LONGEST_KEY → take key.len key.bytes ≡ bytes)) room
-    (IsClimbed itself (world_of arena) (bytes_in before) above run found) →
-    IsWhole room × IsAbove itself (world_of arena) (bytes_in before) (bytes_in room) found × Stands (world_of arena) (bytes_in room) above run
-room-climbed itself arena short before whole above run found room got =
+    (IsClimbed itself (world_of arena) (bytes_in before) above last found) →
+    IsWhole room × IsAbove itself (world_of arena) (bytes_in before) (bytes_in room) found × RunLeads (world_of arena) (bytes_in room) above (last_run last)
+room-climbed itself arena short before whole above last found room got =
     let fits = neighbour-fits (upward itself) arena LONGEST_KEY short (bytes_in before) got.bytes found (room-short before whole) got.are.0 in
     let long = got.given.0 in
     let are = sym (got.given.1 fits) in (
       omega (arith, long, fits),
       subst (λ bytes. IsAbove itself (world_of arena) (bytes_in before) bytes found) are got.are.0,
-      subst (λ bytes. Stands (world_of arena) bytes above run) are got.are.1,
+      subst (λ bytes. RunLeads (world_of arena) bytes above (last_run last)) are got.are.1,
     )

@@ -1,9 +1,10 @@
 -- The ways of a run: to the level behind the first bytes of a key, from an entry down to the first key behind it, and up to the levels above.
-use Rattle.std.proofs.Common.{◌≡◌, ℕ, suc, ◌+◌, ◌-◌, ◌*◌, ◌<◌, ◌≤◌, Bool, false, IsTrue, IsFalse, List, [], ◌∷◌, ◌++◌, length, take, drop, Option, Some, None, IfSome, is_some, sym}
-use Rattle.std.proofs.Common.{refl, ap, ◌∙◌, subst, arith, is_lt, ⊎_elim}
+use Rattle.std.proofs.Common.{◌≡◌, ℕ, suc, ◌+◌, ◌-◌, ◌*◌, ◌<◌, ◌≤◌, Bool, true, false, if◌then◌else◌, IsTrue, IsFalse, List, [], ◌∷◌, ◌++◌, length, take, drop, Option, Some, None, IfSome, is_some}
+use Rattle.std.proofs.Common.{sym, refl, ap, ◌∙◌, subst, arith, is_lt, ⊎_elim}
 use Rattle.std.specs.Borrow.{Bor}
 use Rattle.std.specs.Cmp.{tied_itself}
 use Rattle.std.specs.FinMap.{FinMap, get, entries, contains_key}
+use Rattle.std.specs.List.{All}
 use Rattle.std.proofs.lemmas.Bool.{cases_lt}
 use Rattle.std.proofs.lemmas.List.{append_assoc, append-nil, drop-drop, length-append, length-drop, same_from_push}
 use Rattle.std.proofs.lemmas.Option.{same_Some}
@@ -14,21 +15,21 @@ use Rattle.judy_model.proofs.lemmas.maps.TableLemmas.{byte_order_total}
 use Rattle.judy_sl.specs.declared.scans.Look.{Look}
 use Rattle.judy_sl.specs.declared.scans.Turn.{Turn}
 use Rattle.judy_sl.specs.declared.runs.Run.{Run}
+use Rattle.judy_sl.specs.declared.runs.LastRun.{LastRun}
 use Rattle.judy_sl.specs.Pieces.{piece_of, pieces, piece_bytes, spelling, IsFinal, IsInner, AreInner, IsText, SpellKey}
-use Rattle.judy_sl.specs.World.{World, gone, tail, level, step_node, step_entry, lookup, walk}
+use Rattle.judy_sl.specs.World.{World, gone, tail, level, step_node, step_entry, walk}
 use Rattle.judy_sl.specs.WorldInvariants.{IsWorld}
 use Rattle.judy_sl.specs.Ways.{seat_in}
 use Rattle.judy_sl.specs.Scans.{upward, meets, IsNone, IsNear, IsTurnOf, IsNeighbour}
-use Rattle.judy_sl.specs.Runs.{AreBeyond, AreKept, Levels, Passes, LeadAlong, Stands, EntryLeads, LeadsToLevel}
+use Rattle.judy_sl.specs.Counted.{LeadsOn}
+use Rattle.judy_sl.specs.Runs.{AreBeyond, AreKept, Levels, Passes, LeadAlong, Stands, RunLeads, EntryLeads, LeadsToLevel, IsBegunAbove}
 use Rattle.judy_sl.proofs.lemmas.pieces.PieceLemmas.{text_of_key, text-drop}
-use Rattle.judy_sl.proofs.lemmas.pieces.Ways.{pieces_short, pieces_long, step-parts, lookup-walk}
-use Rattle.judy_sl.proofs.lemmas.pieces.OnWay.{pieces-head, short-IsFinal}
+use Rattle.judy_sl.proofs.lemmas.pieces.Ways.{pieces_short, pieces_long, step-parts}
+use Rattle.judy_sl.proofs.lemmas.pieces.OnWay.{pieces-head}
 use Rattle.judy_sl.proofs.lemmas.scans.ScanLevels.{NoneBehind, pieces_last, none_child, none_tail, moved_near, turned_near, turned_none}
 use Rattle.judy_sl.proofs.lemmas.scans.ScanEnds.{OnFollow, begins, its_pieces, place_is, tail_key, follow_level}
 use Rattle.judy_sl.proofs.lemmas.pieces.PieceBytes.{bytes-piece, spelling-pieces}
-use Rattle.judy_sl.proofs.lemmas.scans.LevelEntries.{first_of_all}
-use Rattle.judy_model.specs.declared.keys.TheConstants.{LONGEST_KEY}
-use Rattle.judy_sl.specs.Strings.{IsString}
+use Rattle.judy_sl.proofs.lemmas.scans.LevelEntries.{first_of_all, beyond_lead}
 
 -- ---- the levels above one
 
@@ -151,12 +152,12 @@ turn_level itself world key turn at = record {
 
 -- Levels have been passed, and from the one that was come to, with this rest of the key, others lead to the one that is sought; then so many
 -- bytes are left.
-pub record OnWayTo (world : World) (whole : List ℕ) (end : ℕ) (target : FinMap word_order ℕ) (left : ℕ) (map : FinMap word_order ℕ) (rest : List ℕ) (above : Levels) : Type 0 where
+pub record OnWayTo (world : World) (whole : List ℕ) (end : ℕ) (target : FinMap word_order ℕ) (left : ℕ) (map : FinMap word_order ℕ) (rest : List ℕ) (above : Levels) (known : Bool) : Type 0 where
   pub passed : List ℕ
   pub front : List ℕ
   pub seat : ℕ
   pub are : passed ++ front ≡ whole
-  pub along : LeadAlong world 0 passed above seat
+  pub along : IsTrue known → LeadAlong world 0 passed above seat
   pub way : walk world seat front ≡ Some end
   pub inner : AreInner front
   pub is_level : world seat ≡ level map
@@ -165,7 +166,7 @@ pub record OnWayTo (world : World) (whole : List ℕ) (end : ℕ) (target : FinM
   pub parts : (piece : ℕ) × (more : List ℕ) × (pieces rest ≡ front ++ piece ∷ more)
 
 pub way_start : (world : World) (key : List ℕ) (depth : ℕ) (target map : FinMap word_order ℕ) → world 0 ≡ level map → (leads : LeadsToLevel world key depth target) →
-    OnWayTo world leads.front leads.seat target (length key - depth) map key []
+    OnWayTo world leads.front leads.seat target (length key - depth) map key [] true
 way_start world key depth target map is leads =
     let long = leads.long in
     let within = leads.within in
@@ -174,7 +175,7 @@ way_start world key depth target map is leads =
       front = leads.front;
       seat = 0;
       are = refl;
-      along = refl;
+      along = λ known. refl;
       way = leads.way;
       inner = leads.inner;
       is_level = is;
@@ -183,15 +184,19 @@ way_start world key depth target map is leads =
       parts = leads.parts;
     }
 
+-- One more level is kept, where those above are known still.
+abbrev pub KeepsOne : Levels → Bool → Bor (ArrayOf word_order) → Levels → Bool → Type 0
+KeepsOne above known held more still = IsTrue still → IsTrue known × (more ≡ above ++ Some held ∷ [])
+
 -- One step of it: the rest begins with a whole piece, whose entry leads to a level.
-pub record StepTo (world : World) (whole : List ℕ) (end : ℕ) (target : FinMap word_order ℕ) (left : ℕ) (map : FinMap word_order ℕ) (rest : List ℕ) (above : Levels) : Type 0 where
+pub record StepTo (world : World) (whole : List ℕ) (end : ℕ) (target : FinMap word_order ℕ) (left : ℕ) (map : FinMap word_order ℕ) (rest : List ℕ) (above : Levels) (known : Bool) : Type 0 where
   pub eight : 8 ≤ length rest
-  pub room : length above < length whole
   pub at : ℕ
   pub entry : get map (piece_of rest) ≡ Some at
   pub below : FinMap word_order ℕ
   pub is_below : world (suc at) ≡ level below
-  pub on : (held : Bor (ArrayOf word_order)) → held.now.map ≡ map → OnWayTo world whole end target left below (drop 8 rest) (above ++ Some held ∷ [])
+  pub on : (held : Bor (ArrayOf word_order)) → held.now.map ≡ map → (more : Levels) (still : Bool) → KeepsOne above known held more still →
+      OnWayTo world whole end target left below (drop 8 rest) more still
 
 same_level : (one other : FinMap word_order ℕ) → level one ≡ level other → one ≡ other
 same_level one other is = cc
@@ -201,10 +206,10 @@ level_on : (world : World) (target : FinMap word_order ℕ) (seat end : ℕ) (fr
 level_on world target seat end [] way is = (target, ap world (same_Some seat end way) ∙ is)
 level_on world target seat end (piece ∷ front) way is = let step = step-parts (world seat) piece (λ found. walk world (suc found) front) end way in (step.map, step.is)
 
-module _ (world : World) (whole : List ℕ) (end : ℕ) (target : FinMap word_order ℕ) (left : ℕ) (map : FinMap word_order ℕ) (rest : List ℕ) (above : Levels) where
-  step_to : (passed front : List ℕ) (seat : ℕ) → passed ++ front ≡ whole → LeadAlong world 0 passed above seat → walk world seat front ≡ Some end → AreInner front →
+module _ (world : World) (whole : List ℕ) (end : ℕ) (target : FinMap word_order ℕ) (left : ℕ) (map : FinMap word_order ℕ) (rest : List ℕ) (above : Levels) (known : Bool) where
+  step_to : (passed front : List ℕ) (seat : ℕ) → passed ++ front ≡ whole → (IsTrue known → LeadAlong world 0 passed above seat) → walk world seat front ≡ Some end → AreInner front →
       world seat ≡ level map → world end ≡ level target → length rest ≡ left + 8 * length front → (piece : ℕ) (more : List ℕ) → pieces rest ≡ front ++ piece ∷ more →
-      left < length rest → StepTo world whole end target left map rest above
+      left < length rest → StepTo world whole end target left map rest above known
   step_to passed [] seat are along way inner is is_target long piece more parts some = let never : ⊥ = omega (arith, long, some) in absurd never
   step_to passed (first ∷ front) seat are along way inner is is_target long piece more parts some =
       let eight : 8 ≤ length rest = omega (arith, long) in
@@ -216,26 +221,23 @@ module _ (world : World) (whole : List ℕ) (end : ℕ) (target : FinMap word_or
       let entry : get map first ≡ Some step.found = ap (λ (words : FinMap word_order ℕ). get words first) (sym one) ∙ step.entry in
       let shorter = length-drop 8 rest in
       let below = level_on world target (suc step.found) end front step.goes is_target in
-      let lengths = sym (length-append passed (first ∷ front)) ∙ ap length are in
-      let same = along_long world 0 passed above seat along in
       record {
         eight = eight;
-        room = omega (arith, lengths, same);
         at = step.found;
         entry = ap (get map) (sym here) ∙ entry;
         below = below.0;
         is_below = below.1;
-        on = λ held held_is. record {
+        on = λ held held_is longer still keeps. record {
           passed = passed ++ first ∷ [];
           front = front;
           seat = suc step.found;
           are = append_assoc passed (first ∷ []) front ∙ are;
-          along =
-              along_push world 0 passed above seat along first step.found held (record {
+          along = λ is_known. subst (λ (levels : Levels). LeadAlong world 0 (passed ++ first ∷ []) levels (suc step.found)) (sym (keeps is_known).1)
+              (along_push world 0 passed above seat (along (keeps is_known).0) first step.found held (record {
                 is_level = is ∙ ap (λ m. level m) (sym held_is);
                 inner = inner.0;
                 entry = ap (λ (words : FinMap word_order ℕ). get words first) held_is ∙ entry;
-              });
+              }));
           way = step.goes;
           inner = inner.1;
           is_level = below.1;
@@ -245,31 +247,31 @@ module _ (world : World) (whole : List ℕ) (end : ℕ) (target : FinMap word_or
         };
       }
 
-  pub way_step : OnWayTo world whole end target left map rest above → left < length rest → StepTo world whole end target left map rest above
+  pub way_step : OnWayTo world whole end target left map rest above known → left < length rest → StepTo world whole end target left map rest above known
   way_step on some = step_to on.passed on.front on.seat on.are on.along on.way on.inner on.is_level on.is_target on.long on.parts.0 on.parts.1 on.parts.2 some
 
-  ends_at : (passed front : List ℕ) (seat : ℕ) → passed ++ front ≡ whole → LeadAlong world 0 passed above seat → walk world seat front ≡ Some end → world seat ≡ level map →
-      world end ≡ level target → length rest ≡ left + 8 * length front → length rest ≤ left → (map ≡ target) × LeadAlong world 0 whole above end
+  ends_at : (passed front : List ℕ) (seat : ℕ) → passed ++ front ≡ whole → (IsTrue known → LeadAlong world 0 passed above seat) → walk world seat front ≡ Some end → world seat ≡ level map →
+      world end ≡ level target → length rest ≡ left + 8 * length front → length rest ≤ left → (map ≡ target) × (IsTrue known → LeadAlong world 0 whole above end)
   ends_at passed [] seat are along way is is_target long few = (
     same_level map target (sym is ∙ ap world (same_Some seat end way) ∙ is_target),
-    subst (λ ps. LeadAlong world 0 ps above end) (sym (append-nil passed) ∙ are) (subst (LeadAlong world 0 passed above) (same_Some seat end way) along),
+    λ is_known. subst (λ ps. LeadAlong world 0 ps above end) (sym (append-nil passed) ∙ are) (subst (LeadAlong world 0 passed above) (same_Some seat end way) (along is_known)),
   )
   ends_at passed (first ∷ front) seat are along way is is_target long few = let never : ⊥ = omega (arith, long, few) in absurd never
 
   -- Where no more is left the level is the one that is sought.
-  pub way_end : OnWayTo world whole end target left map rest above → length rest ≤ left → (map ≡ target) × LeadAlong world 0 whole above end
+  pub way_end : OnWayTo world whole end target left map rest above known → length rest ≤ left → (map ≡ target) × (IsTrue known → LeadAlong world 0 whole above end)
   way_end on few = ends_at on.passed on.front on.seat on.are on.along on.way on.is_level on.is_target on.long few
 
 -- To the child that an entry leads to.
-module _ {world : World} {whole : List ℕ} {end : ℕ} {target : FinMap word_order ℕ} {left : ℕ} {map : FinMap word_order ℕ} {rest : List ℕ} {above : Levels}
-    (step : StepTo world whole end target left map rest above) (found : ℕ) (entry : get map (piece_of rest) ≡ Some found) where
+module _ {world : World} {whole : List ℕ} {end : ℕ} {target : FinMap word_order ℕ} {left : ℕ} {map : FinMap word_order ℕ} {rest : List ℕ} {above : Levels} {known : Bool}
+    (step : StepTo world whole end target left map rest above known) (found : ℕ) (entry : get map (piece_of rest) ≡ Some found) where
   pub way_child : world (suc found) ≡ level step.below
   way_child = ap (λ at. world (suc at)) (same_Some found step.at (sym entry ∙ step.entry)) ∙ step.is_below
 
-  pub way_moved : (held : Bor (ArrayOf word_order)) → held.now.map ≡ map → (next : FinMap word_order ℕ) → world (suc found) ≡ level next →
-      OnWayTo world whole end target left next (drop 8 rest) (above ++ Some held ∷ [])
-  way_moved held held_is next is =
-      subst (λ below. OnWayTo world whole end target left below (drop 8 rest) (above ++ Some held ∷ [])) (same_level step.below next (sym way_child ∙ is)) (step.on held held_is)
+  pub way_moved : (held : Bor (ArrayOf word_order)) → held.now.map ≡ map → (more : Levels) (still : Bool) → KeepsOne above known held more still →
+      (next : FinMap word_order ℕ) → world (suc found) ≡ level next → OnWayTo world whole end target left next (drop 8 rest) more still
+  way_moved held held_is more still keeps next is =
+      subst (λ below. OnWayTo world whole end target left below (drop 8 rest) more still) (same_level step.below next (sym way_child ∙ is)) (step.on held held_is more still keeps)
 
 pub never_gone : (map : FinMap word_order ℕ) → gone ≡ level map → ⊥
 never_gone map is = cc
@@ -277,32 +279,33 @@ never_gone map is = cc
 pub never_tail : (held : List ℕ) (value : ℕ) (map : FinMap word_order ℕ) → tail held value ≡ level map → ⊥
 never_tail held value map is = cc
 
--- With the levels above, a turn is an entry that leads up.
-pub turn_leads : (itself : Bool) (world : World) (key : List ℕ) (turn : Turn) (at : IsTurnOf (upward itself) world key turn) (above : Levels) (run : Run) →
-    LeadAlong world 0 at.front above (seat_in turn.child) → run.level.now.map ≡ at.map → AreBeyond run.level.now.map turn.piece run.entries.0 → run.entries.1 ≡ None →
-    EntryLeads itself world key (turn.piece, turn.value) above run
-turn_leads itself world key turn at above run along is beyond none =
-    let depth : turn.depth ≡ 8 * length above = at.long ∙ ap (λ n. 8 * n) (along_long world 0 at.front above (seat_in turn.child) along) in
-    record {
-      seat = seat_in turn.child;
-      at = record {
-        front = at.front;
-        way = at.way;
-        inner = at.inner;
-        deep = subst (λ n. take n key ≡ spelling at.front) depth at.deep;
-        long = sym depth ∙ at.long;
-        within = subst (λ n. n ≤ length key) depth at.within;
-        parts = at.parts;
-        map = at.map;
-        is_level = at.is_level;
-        held = at.held;
-        near = at.near;
-      };
-      along = along;
-      is_level = at.is_level ∙ ap (λ m. level m) (sym is);
-      beyond = beyond;
-      kept = subst (AreKept at.front above) (sym none) tt;
-    }
+-- What a climb begins with, at the turn of a seek,
+pub turn_begins : (itself : Bool) (world : World) (key : List ℕ) (turn : Turn) (at : IsTurnOf (upward itself) world key turn) (above : Levels) (last : LastRun) →
+    (last.run.level.now.map ≡ at.map) × (IsTrue last.known → LeadAlong world 0 at.front above (seat_in turn.child)) →
+    AreBeyond last.run.level.now.map turn.piece last.run.entries.0 → last.run.entries.1 ≡ None → {W : Type 0} (has : W → List ℕ → Type 0) (writer : W) → has writer (take turn.depth key) →
+    IsBegunAbove itself world (turn.piece, turn.value) above last has writer key
+turn_begins itself world key turn at above last behind beyond none has writer given = record {
+  seat = seat_in turn.child;
+  depth = turn.depth;
+  at = at;
+  is_level = at.is_level ∙ ap (λ m. level m) (sym behind.0);
+  beyond = beyond;
+  way = λ known. (behind.1 known, subst (AreKept at.front above) (sym none) tt);
+  given = given;
+}
+
+-- and at the next entry of a run.
+pub entry_begins : (itself : Bool) (world : World) (key : List ℕ) (entry : ℕ × ℕ) (above : Levels) (last : LastRun) → EntryLeads itself world key entry above last.run →
+    {W : Type 0} (has : W → List ℕ → Type 0) (writer : W) → has writer (take (8 * length above) key) → IsBegunAbove itself world entry above last has writer key
+entry_begins itself world key entry above last leads has writer given = record {
+  seat = leads.seat;
+  depth = 8 * length above;
+  at = leads.at;
+  is_level = leads.is_level;
+  beyond = leads.beyond;
+  way = λ known. (leads.along, leads.kept);
+  given = given;
+}
 
 -- Bytes that a scan leaves hold no zero.
 pub text_after : (look : Look) (world : World) (key after : List ℕ) (found : Option ℕ) → IsText key → IsNeighbour look world key after found → IsText after
@@ -313,34 +316,33 @@ text_after look world key after (Some value) text some = text_of_key after some.
 
 -- How far a climb has come down: the level has the entry, and these beyond it; with what is kept of the level above.
 pub record Climbing (itself : Bool) (world : World) (key : List ℕ) (piece value : ℕ) (bytes : List ℕ) (above : Levels) (map : FinMap word_order ℕ)
-    (both : List (ℕ × ℕ) × Option (List (ℕ × ℕ))) : Type 0 where
+    (both : List (ℕ × ℕ) × Option (List (ℕ × ℕ))) (known : Bool) : Type 0 where
   pub on : OnFollow (upward itself) world key map piece bytes
-  pub along : LeadAlong world 0 on.front above on.seat
   pub entry : get map piece ≡ Some value
   pub beyond : AreBeyond map piece both.0
-  pub kept : AreKept on.front above both.1
+  pub way : IsTrue known → LeadAlong world 0 on.front above on.seat × AreKept on.front above both.1
 
-pub climb_start : (itself : Bool) (world : World) (key : List ℕ) (entry : ℕ × ℕ) (above : Levels) (run : Run) → EntryLeads itself world key entry above run →
-    Climbing itself world key entry.0 entry.1 (take (8 * length above) key) above run.level.now.map run.entries
-climb_start itself world key entry above run leads =
-    let at = leads.at in
-    let held : get run.level.now.map entry.0 ≡ Some entry.1 = ap (λ (words : FinMap word_order ℕ). get words entry.0)
-    (same_level run.level.now.map at.map (sym leads.is_level ∙ at.is_level)) ∙ at.held in
+pub climb_start : (itself : Bool) (world : World) (key : List ℕ) (entry : ℕ × ℕ) (above : Levels) (last : LastRun) → {W : Type 0} (has : W → List ℕ → Type 0) (writer : W) →
+    (begun : IsBegunAbove itself world entry above last has writer key) →
+    Climbing itself world key entry.0 entry.1 (take begun.depth key) above last.run.level.now.map last.run.entries last.known
+climb_start itself world key entry above last has writer begun =
+    let at = begun.at in
+    let held : get last.run.level.now.map entry.0 ≡ Some entry.1 = ap (λ (words : FinMap word_order ℕ). get words entry.0)
+    (same_level last.run.level.now.map at.map (sym begun.is_level ∙ at.is_level)) ∙ at.held in
     record {
       on = record {
         front = at.front;
-        seat = leads.seat;
+        seat = begun.seat;
         way = at.way;
         inner = at.inner;
         spells = at.deep;
-        is_level = leads.is_level;
+        is_level = begun.is_level;
         held = ap (λ (found : Option ℕ). is_some found) held;
         near = at.near;
       };
-      along = leads.along;
       entry = held;
-      beyond = leads.beyond;
-      kept = leads.kept;
+      beyond = begun.beyond;
+      way = begun.way;
     }
 
 module _ (look_itself : Bool) (world : World) where
@@ -365,67 +367,63 @@ kept_above front piece above held others beyond = λ before last levels top fron
     let levels_same : Some held ≡ Some top = (same_from_push above levels (Some held) (Some top) above_is).1 in
     subst (λ p. AreBeyond top.now.map p others) pieces_same (subst (λ (b : Bor (ArrayOf word_order)). AreBeyond b.now.map piece others) (same_Some held top levels_same) beyond)
 
--- A key that goes on behind its first pieces by an inner one has eight bytes for each.
-inner-long : (front : List ℕ) (piece : ℕ) (rest : List ℕ) (key : SpellKey (front ++ piece ∷ rest)) → IsInner piece → 8 * (length front + 1) ≤ length key.key
-inner-long front piece rest key inner =
-    let cut = cut_at front piece rest key.key (text_of_key key.key key.is_key) key.spells in
-    let within = cut.within in
-    let left = length-drop (8 * length front) key.key in
-    ⊎_elim
-    (λ few. absurd (inner (subst IsFinal cut.begins (short-IsFinal (drop (8 * length front) key.key) few))))
-    (λ long. omega (arith, within, left, long))
-    (cases_lt (length (drop (8 * length front) key.key)) 8)
+-- A run, where it is known.
+abbrev known_run : Bool → Run → Option Run
+known_run known run = if known then Some run else None
+
+-- In its level a key stands where it does so if it is known.
+run_leads : (world : World) (key : List ℕ) (above : Levels) (run : Run) (known : Bool) → (IsTrue known → Stands world key above run) → RunLeads world key above (known_run known run)
+run_leads world key above run true stands = stands refl
+run_leads world key above run false stands = tt
 
 module _ {itself : Bool} {world : World} {behind : ℕ → List ℕ} (is_world : IsWorld world behind) {key : List ℕ} {piece value : ℕ} {bytes : List ℕ} {above : Levels}
-    {map : FinMap word_order ℕ} {both : List (ℕ × ℕ) × Option (List (ℕ × ℕ))} (c : Climbing itself world key piece value bytes above map both) where
-  -- There is room for one level more where no key is longer than one may be.
-  pub climb_room : ((key : List ℕ) (value : ℕ) → IsString key → lookup world 0 (pieces key) ≡ Some value → length key ≤ LONGEST_KEY) → IsInner piece → length above < 128
-  climb_room short inner =
-      let begun = begins is_world c.on.seat map piece c.on.is_level c.on.held in
-      let spelled = subst (λ place. SpellKey (place ++ piece ∷ begun.rest)) (place_is is_world key map piece bytes c.on) begun.spelled in
-      let found = ap (lookup world 0) spelled.spells ∙ lookup-walk world 0 c.on.front c.on.seat piece begun.rest c.on.way ∙ begun.found in
-      let few = short spelled.key begun.value spelled.is_key found in
-      let long = inner-long c.on.front piece begun.rest spelled inner in
-      let same = along_long world 0 c.on.front above c.on.seat c.along in
-      omega (arith, few, long, same)
+    {map : FinMap word_order ℕ} {both : List (ℕ × ℕ) × Option (List (ℕ × ℕ))} {known : Bool} (c : Climbing itself world key piece value bytes above map both known) where
+  -- The entries that are left lead on.
+  pub climb_leads : All (LeadsOn world) both.0
+  climb_leads = beyond_lead world map piece both.0 (λ other at held inner. ((is_world.levels c.on.seat map c.on.is_level).leads other at held inner).1) c.beyond
 
   -- One level further down.
-  pub climb_down : (held : Bor (ArrayOf word_order)) → held.now.map ≡ map → (below : FinMap word_order ℕ) → IsInner piece → world (suc value) ≡ level below →
-      (next : ℕ × ℕ) (more : List (ℕ × ℕ)) → entries below ≡ next ∷ more → Climbing itself world key next.0 next.1 (bytes ++ piece_bytes piece) (above ++ Some held ∷ []) below (more, Some both.0)
+  pub climb_down : (held : Bor (ArrayOf word_order)) → held.now.map ≡ map → (more : Levels) (still : Bool) → KeepsOne above known held more still →
+      (below : FinMap word_order ℕ) → IsInner piece → world (suc value) ≡ level below → (next : ℕ × ℕ) (others : List (ℕ × ℕ)) → entries below ≡ next ∷ others →
+      Climbing itself world key next.0 next.1 (bytes ++ piece_bytes piece) more below (others, Some both.0) still
   unfolding follow_level
-  climb_down held held_is below inner is_below next more are =
-      let first = first_of_all below next more are in
+  climb_down held held_is more still keeps below inner is_below next others are =
+      let first = first_of_all below next others are in
       record {
         on = follow_level is_world key map piece bytes c.on value c.entry inner below is_below next.0 first.0;
-        along =
-            along_push world 0 c.on.front above c.on.seat c.along piece value held (record {
+        entry = first.1;
+        beyond = first.2;
+        way = λ is_known.
+            let was = c.way (keeps is_known).0 in
+            let passes : Passes world c.on.seat piece value held.now.map = record {
               is_level = c.on.is_level ∙ ap (λ m. level m) (sym held_is);
               inner = inner;
               entry = ap (λ (words : FinMap word_order ℕ). get words piece) held_is ∙ c.entry;
-            });
-        entry = first.1;
-        beyond = first.2;
-        kept = kept_above c.on.front piece above held both.0 (subst (λ (words : FinMap word_order ℕ). AreBeyond words piece both.0) (sym held_is) c.beyond);
+            } in
+            let beyond = subst (λ (words : FinMap word_order ℕ). AreBeyond words piece both.0) (sym held_is) c.beyond in
+            subst (λ (levels : Levels). LeadAlong world 0 (c.on.front ++ piece ∷ []) levels (suc value) × AreKept (c.on.front ++ piece ∷ []) levels (Some both.0)) (sym (keeps is_known).1)
+            (along_push world 0 c.on.front above c.on.seat was.0 piece value held passes, kept_above c.on.front piece above held both.0 beyond);
       }
 
   -- Where a key was found of which nothing else is behind its entry, it stands there.
   stands_there : (rest after : List ℕ) → pieces after ≡ c.on.front ++ piece ∷ rest → NoneBehind (upward false) world c.on.seat piece rest → (held : Bor (ArrayOf word_order)) →
-      held.now.map ≡ map → Stands world after above (record { level = held; entries = both })
-  stands_there rest after its none held held_is = record {
+      held.now.map ≡ map → RunLeads world after above (known_run known (record { level = held; entries = both }))
+  stands_there rest after its none held held_is = run_leads world after above (record { level = held; entries = both }) known (λ is_known. record {
     front = c.on.front;
     piece = piece;
     rest = rest;
     parts = its;
     seat = c.on.seat;
-    along = c.along;
+    along = (c.way is_known).0;
     is_level = c.on.is_level ∙ ap (λ m. level m) (sym held_is);
     beyond = subst (λ (words : FinMap word_order ℕ). AreBeyond words piece both.0) (sym held_is) c.beyond;
-    kept = c.kept;
+    kept = (c.way is_known).1;
     none = none;
-  }
+  })
 
   -- Where it ends in the entry.
-  pub climb_last : (held : Bor (ArrayOf word_order)) → held.now.map ≡ map → IsFinal piece → Stands world (bytes ++ piece_bytes piece) above (record { level = held; entries = both })
+  pub climb_last : (held : Bor (ArrayOf word_order)) → held.now.map ≡ map → IsFinal piece →
+      RunLeads world (bytes ++ piece_bytes piece) above (known_run known (record { level = held; entries = both }))
   climb_last held held_is final =
       let spelled = subst (λ place. SpellKey (place ++ piece ∷ [])) (place_is is_world key map piece bytes c.on) ((is_world.levels c.on.seat map c.on.is_level).ends piece value c.entry final) in
       stands_there [] (bytes ++ piece_bytes piece) (its_pieces is_world key map piece bytes c.on [] (bytes ++ piece_bytes piece) spelled (sym (append-nil (bytes ++ piece_bytes piece))))
@@ -434,7 +432,7 @@ module _ {itself : Bool} {world : World} {behind : ℕ → List ℕ} (is_world :
 
   -- Where the entry leads to a tail.
   pub climb_tail : (held : Bor (ArrayOf word_order)) → held.now.map ≡ map → (kept : List ℕ) (found : ℕ) → IsInner piece → world (suc value) ≡ tail (pieces kept) found →
-      IsText kept → Stands world ((bytes ++ piece_bytes piece) ++ kept) above (record { level = held; entries = both })
+      IsText kept → RunLeads world ((bytes ++ piece_bytes piece) ++ kept) above (known_run known (record { level = held; entries = both }))
   climb_tail held held_is kept found inner tailed text =
       let spelled = tail_key is_world key map piece bytes c.on value c.entry inner kept found tailed text in
       stands_there (pieces kept) ((bytes ++ piece_bytes piece) ++ kept)

@@ -9,7 +9,7 @@ use Rattle.judy_sl.proofs.arena.Arena.level_behind.Given as goal
 abbrev pub invariant-loop-rest : goal.invariant-loop-rest
 invariant-loop-rest l =
     (target : FinMap word_order ℕ) (leads : LeadsToLevel (world_of l.self) l.key l.depth target) → OnWayTo (world_of l.self) leads.front leads.seat target
-    (length l.key - l.depth) l.level.map l.rest l.above.items
+    (length l.key - l.depth) l.level.map l.rest l.above.items l.known
 
 abbrev pub decreases-loop-rest : goal.decreases-loop-rest
 decreases-loop-rest l = length l.rest

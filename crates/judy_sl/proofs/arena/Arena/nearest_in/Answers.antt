@@ -1,31 +1,19 @@
-use Rattle.std.proofs.Common.{◌≡◌, ◌∙◌, refl, sym, subst, ap, arith, length, take, None}
+use Rattle.std.proofs.Common.{◌≡◌, ◌≢◌, ◌∙◌, sym, subst, ap, arith, length, take}
+use Rattle.std.specs.List.{All}
 use Rattle.std.proofs.lemmas.List.{length-take-le}
 use Rattle.judy_sl.specs.Arenas.{world_of, map_of}
-use Rattle.judy_sl.specs.Scans.{value_in, StandsAt, IsTurn, IsFront, nearest_key}
-use Rattle.judy_sl.proofs.lemmas.scans.Fronts.{same_front, same_owner, same_room, front-begun, front-written, neighbour-fits}
+use Rattle.judy_sl.specs.Pieces.{IsText}
+use Rattle.judy_sl.specs.Scans.{value_in, StandsAt, IsScanned, IsFront, nearest_key}
+use Rattle.judy_sl.proofs.lemmas.scans.Fronts.{same_owner, same_room, front-written, neighbour-fits}
 use Rattle.judy_sl.proofs.lemmas.scans.ScanMaps.{scanned}
 use Rattle.judy_sl.proofs.arena.Arena.nearest_in.Goals as goal
 
--- There is none, and all stays.
-pub returns-in_err-turn-clause-key : goal.returns-in_err-turn-clause-key
-returns-in_err-turn-clause-key c =
-    let key = take c.args.len.now c.args.buffer.now in
-    let none = subst (IsTurn c.args.look (world_of c.args.self.now) key) c.in_err-turn.was c.turn.ensures.is_turn in
-    let done = scanned c.args.look c.args.self.now key c.turn.ensures.is_text key None (none, refl) in
-    subst (λ all. IsFront all c.args.buffer.now c.args.len.now c.args.buffer.now) done.0 (same_front c.args.buffer.now c.args.len.now c.requires.inside)
+pub neighbour-found-requires-clause-whole : goal.neighbour-found-requires-clause-whole
+neighbour-found-requires-clause-whole c = let len = c.new-key.ensures.len in let room = ap length c.new-key.ensures.bytes in omega (arith, len, room, c.requires.inside)
 
-pub returns-in_err-turn-clause-value : goal.returns-in_err-turn-clause-value
-returns-in_err-turn-clause-value c =
-    let key = take c.args.len.now c.args.buffer.now in
-    let none = subst (IsTurn c.args.look (world_of c.args.self.now) key) c.in_err-turn.was c.turn.ensures.is_turn in
-    ap value_in c.from_residual.ensures ∙ (scanned c.args.look c.args.self.now key c.turn.ensures.is_text key None (none, refl)).1
-
-pub follow-found-requires-clause-begun : goal.follow-found-requires-clause-begun
-follow-found-requires-clause-begun c =
-    let key = take c.args.len.now c.args.buffer.now in
-    let turn = subst (IsTurn c.args.look (world_of c.args.self.now) key) c.in_ok-turn.was c.turn.ensures.is_turn in
-    let parts = front-begun key c.args.buffer.now c.args.len.now c.in_ok-turn.turn.depth refl c.requires.inside turn.within in
-    (key, record { at = turn; given = (c.new-key.ensures.len ∙ parts.0, λ fits. (λ t. take (c.new-key.ensures.len t) (c.new-key.ensures.bytes t)) ∙ parts.1) })
+pub neighbour-found-requires-clause-without_zero : goal.neighbour-found-requires-clause-without_zero
+neighbour-found-requires-clause-without_zero c =
+    subst (λ bytes. All (λ byte. byte ≢ 0) bytes) (λ t. take (sym c.new-key.ensures.len t) (sym c.new-key.ensures.bytes t)) c.requires.without_zero
 
 pub returns : goal.returns
 returns c =
@@ -33,24 +21,25 @@ returns c =
     let world = world_of c.args.self.now in
     let buffer = c.args.buffer.now in
     let key = take c.args.len.now buffer in
-    let turn = subst (IsTurn look world key) c.in_ok-turn.was c.turn.ensures.is_turn in
-    let parts = front-begun key buffer c.args.len.now c.in_ok-turn.turn.depth refl c.requires.inside turn.within in
-    let got = c.follow-found.ensures.found key (record { at = turn; given = (c.new-key.ensures.len ∙ parts.0, λ fits. (λ t. take (c.new-key.ensures.len t) (c.new-key.ensures.bytes t)) ∙ parts.1) }) in
     let before = c.new-key.result in
-    let front = c.follow-found.new.key in
-    let stays = c.follow-found.ensures.beyond in
+    let front = c.neighbour-found.new.key in
+    let seen : take before.len before.buffer.now ≡ key = λ t. take (c.new-key.ensures.len t) (c.new-key.ensures.bytes t) in
+    let got = c.neighbour-found.ensures.found in
+    let are = subst (λ bytes. IsScanned look world bytes c.neighbour-found.result got.bytes) seen got.are in
+    let text = subst IsText seen c.neighbour-found.ensures.is_text in
+    let stays = c.neighbour-found.ensures.beyond in
     let room = same_room before.buffer.now front.buffer.now front.len before.buffer.ghost_name front.buffer.ghost_name stays ∙ ap length c.new-key.ensures.bytes in
     let owner = same_owner before.buffer.now front.buffer.now front.len before.buffer.ghost_name front.buffer.ghost_name stays ∙ c.new-key.ensures.same in
     let from = length-take-le c.args.len.now buffer c.requires.inside in
-    let fits = neighbour-fits look c.args.self.now (length buffer) c.requires.room key got.bytes (value_in c.follow-found.result) (omega (arith, from, c.requires.inside)) got.are.0 in
+    let fits = neighbour-fits look c.args.self.now (length buffer) c.requires.room key got.bytes (value_in c.neighbour-found.result) (omega (arith, from, c.requires.inside)) are.0 in
     let written : take front.len front.buffer.now ≡ got.bytes = got.given.1 (omega (arith, fits, room)) in
     let last = c.buffer-1.given.1.1 (sym owner) in
-    let found = scanned look c.args.self.now key c.turn.ensures.is_text got.bytes (value_in c.follow-found.result) got.are.0 in
+    let found = scanned look c.args.self.now key text got.bytes (value_in c.neighbour-found.result) are.0 in
     let nearest = nearest_key look (map_of c.args.self.now) key in
     let long = got.given.0 in
     let is = front-written before.buffer.now front.buffer.now front.len before.buffer.ghost_name front.buffer.ghost_name stays nearest (omega (arith, fits, room, long)) (written ∙ found.0) in
     record {
       key = rw (c.len.ensures, last) (subst (λ all. IsFront nearest all front.len front.buffer.now) c.new-key.ensures.bytes is);
       value = found.1;
-      stands = rw (c.len.ensures, last) (subst (λ bytes. StandsAt world bytes c.follow-found.result) (sym written) got.are.1);
+      stands = rw (c.len.ensures, last) (subst (λ bytes. StandsAt world bytes c.neighbour-found.result) (sym written) are.1);
     }
