@@ -1,5 +1,6 @@
 /* Ranges of sets and maps: how many of their words are no keys, and keys taken out of copies, beside what a look-up of
- * each key tells. Memory is refused to some of the calls. */
+ * each key tells. Memory is refused to some of the calls, and so to copies and to what is made of two, which then leave
+ * what they are made in place of. */
 #include "../sellumaq.h"
 #include "check.h"
 #include "refusing.h"
@@ -40,21 +41,50 @@ static void count_words(const sellumaq_judy1 *set, const sellumaq_judyl *map, ui
     CHECK(sellumaq_judy1_count_empty(set, from, to) == wanted && sellumaq_judyl_count_empty(map, from, to) == wanted);
 }
 
-/* A copy that is refused memory leaves what it is made in place of. */
-static void refuse_copies(const sellumaq_judy1 *old, const sellumaq_judyl *old_map) {
-    for (long calls = 0; calls < 4; calls++) {
-        sellumaq_judy1 set = { 0 };
-        sellumaq_judyl map = { 0 };
-        sellumaq_judy1_set(&set, 7);
-        sellumaq_judyl_put(&map, 7, 70);
-        answered = calls;
-        uint32_t told = sellumaq_judy1_copy(&set, old), of_map = sellumaq_judyl_copy(&map, old_map);
-        answered = -1;
-        CHECK(told == SELLUMAQ_ADDED || (told == SELLUMAQ_NO_MEMORY && sellumaq_judy1_len(&set) == 1 && sellumaq_judy1_test(&set, 7)));
-        CHECK(of_map == SELLUMAQ_ADDED || (of_map == SELLUMAQ_NO_MEMORY && sellumaq_judyl_len(&map) == 1));
-        sellumaq_judy1_free(&set);
-        sellumaq_judyl_free(&map);
-    }
+typedef uint32_t of_sets(sellumaq_judy1 *, const sellumaq_judy1 *, const sellumaq_judy1 *);
+typedef uint32_t of_maps(sellumaq_judyl *, const sellumaq_judyl *, const sellumaq_judyl *);
+
+static uint32_t copy_set(sellumaq_judy1 *made, const sellumaq_judy1 *one, const sellumaq_judy1 *other) {
+    (void)other;
+    return sellumaq_judy1_copy(made, one);
+}
+
+static uint32_t copy_map(sellumaq_judyl *made, const sellumaq_judyl *one, const sellumaq_judyl *other) {
+    (void)other;
+    return sellumaq_judyl_copy(made, one);
+}
+
+static const struct {
+    of_sets *set;
+    of_maps *map;
+} makers[] = {
+    { copy_set, copy_map },
+    { sellumaq_judy1_union, sellumaq_judyl_union },
+    { sellumaq_judy1_intersection, sellumaq_judyl_intersection },
+    { sellumaq_judy1_difference, sellumaq_judyl_difference },
+    { sellumaq_judy1_symmetric_difference, sellumaq_judyl_symmetric_difference },
+};
+
+/* What is refused memory leaves what it is made in place of; else it is what is made where memory is there. */
+static void refuse(const sellumaq_judy1 sets[2], const sellumaq_judyl maps[2], size_t at, long calls) {
+    sellumaq_judy1 set = { 0 }, whole = { 0 };
+    sellumaq_judyl map = { 0 }, whole_map = { 0 };
+    sellumaq_judy1_set(&set, 7);
+    sellumaq_judyl_put(&map, 7, 70);
+    CHECK(makers[at].set(&whole, &sets[0], &sets[1]) == SELLUMAQ_ADDED && makers[at].map(&whole_map, &maps[0], &maps[1]) == SELLUMAQ_ADDED);
+    answered = calls;
+    uint32_t told = makers[at].set(&set, &sets[0], &sets[1]), of_map = makers[at].map(&map, &maps[0], &maps[1]);
+    answered = -1;
+    CHECK(told == SELLUMAQ_ADDED ? sellumaq_judy1_has_same_keys(&set, &whole)
+                                 : told == SELLUMAQ_NO_MEMORY && sellumaq_judy1_len(&set) == 1 && sellumaq_judy1_test(&set, 7));
+    CHECK(of_map == SELLUMAQ_ADDED ? sellumaq_judyl_has_same_keys(&map, &whole_map) : of_map == SELLUMAQ_NO_MEMORY && sellumaq_judyl_len(&map) == 1);
+    sellumaq_judy1_free(&set), sellumaq_judy1_free(&whole);
+    sellumaq_judyl_free(&map), sellumaq_judyl_free(&whole_map);
+}
+
+static void refuse_results(const sellumaq_judy1 sets[2], const sellumaq_judyl maps[2]) {
+    for (size_t at = 0; at < sizeof makers / sizeof *makers; at++)
+        for (long calls = 0; calls < 4; calls++) refuse(sets, maps, at, calls < 3 ? calls : (long)(any() % 200));
 }
 
 static void try_ranges(const sellumaq_judy1 *set, const sellumaq_judyl *map, unsigned bits) {
@@ -73,18 +103,23 @@ int main(void) {
     CHECK(sellumaq_judy1_count_empty(&none, 0, UINT64_MAX) == UINT64_MAX && sellumaq_judyl_count_empty(&no_map, 0, UINT64_MAX) == UINT64_MAX);
     try_ranges(&none, &no_map, 60);
     for (unsigned turn = 0; turn < 30; turn++) {
-        sellumaq_judy1 set = { 0 };
-        sellumaq_judyl map = { 0 };
+        sellumaq_judy1 sets[2] = { { 0 }, { 0 } };
+        sellumaq_judyl maps[2] = { { 0 }, { 0 } };
         unsigned bits = 9 + turn % 55;
         for (size_t at = any() % MOST_KEYS; at > 0; at--) {
             uint64_t key = any() >> (64 - bits);
-            sellumaq_judy1_set(&set, key);
-            sellumaq_judyl_put(&map, key, any());
+            /* Of four keys the first set has two alone, both have one, and the second has one alone. */
+            for (size_t place = at % 4 == 0; place < (at % 2 ? 1 : 2); place++) {
+                sellumaq_judy1_set(&sets[place], key);
+                sellumaq_judyl_put(&maps[place], key, any());
+            }
         }
-        try_ranges(&set, &map, bits);
-        refuse_copies(&set, &map);
-        sellumaq_judy1_free(&set);
-        sellumaq_judyl_free(&map);
+        try_ranges(&sets[0], &maps[0], bits);
+        refuse_results(sets, maps);
+        for (size_t place = 0; place < 2; place++) {
+            sellumaq_judy1_free(&sets[place]);
+            sellumaq_judyl_free(&maps[place]);
+        }
     }
     CHECK(held == 0);
     return 0;

@@ -88,6 +88,18 @@ static void make(const sellumaq_judy1 sets[2], const sellumaq_judyl maps[2]) {
     sellumaq_judyl_free(&map);
 }
 
+/* A word of a pattern: a dense one, one of a run, one of so many bits, one beside a few that are far from all others, or any of these. */
+static uint64_t word_of(unsigned pattern, unsigned bits) {
+    uint64_t at = any() % (2 * MOST_KEYS), far = any() >> (64 - bits);
+    switch (pattern) {
+    case 0: return at;
+    case 1: return at / 500 * 100003 + at % 500;
+    case 2: return far;
+    case 3: return (at / 30 * 0x9e3779b97f4a7c15 & ~(UINT64_MAX >> (64 - bits))) | far;
+    default: return word_of((unsigned)(any() % 4), bits);
+    }
+}
+
 /* Puts a key into a set and a map. */
 static void put(sellumaq_judy1 *set, sellumaq_judyl *map, uint64_t key) {
     sellumaq_judy1_set(set, key);
@@ -95,21 +107,21 @@ static void put(sellumaq_judy1 *set, sellumaq_judyl *map, uint64_t key) {
 }
 
 /* Two sets of so many keys each of a pattern, which share about every second one, or all. */
-static void fill(sellumaq_judy1 sets[2], sellumaq_judyl maps[2], size_t counts[2], unsigned bits, bool all) {
+static void fill(sellumaq_judy1 sets[2], sellumaq_judyl maps[2], size_t counts[2], unsigned pattern, unsigned bits, bool all) {
     for (size_t place = 0; place < 2; place++)
         for (size_t at = 0; at < counts[place]; at++)
-            put(&sets[place], &maps[place], any() >> (64 - bits));
+            put(&sets[place], &maps[place], word_of(pattern, bits));
     uint64_t key = 0;
     for (bool left = sellumaq_judy1_first(&sets[0], 0, &key); left; left = sellumaq_judy1_next(&sets[0], key, &key))
         if (all || any() % 2) put(&sets[1], &maps[1], key);
 }
 
 int main(void) {
-    for (unsigned turn = 0; turn < 80; turn++) {
+    for (unsigned turn = 0; turn < 120; turn++) {
         sellumaq_judy1 sets[2] = { { 0 }, { 0 } };
         sellumaq_judyl maps[2] = { { 0 }, { 0 } };
         size_t counts[2] = { turn % 4 ? any() % MOST_KEYS : turn % 3, turn % 5 ? any() % (MOST_KEYS >> turn % 7) : 0 };
-        fill(sets, maps, counts, 9 + turn % 55, turn % 3 == 0);
+        fill(sets, maps, counts, turn < 80 ? 2 : turn % 5, 9 + turn % 55, turn % 3 == 0);
         compare(&sets[0], &sets[1], &maps[0], &maps[1]);
         compare(&sets[1], &sets[0], &maps[1], &maps[0]);
         make(sets, maps);

@@ -42,6 +42,17 @@ class Reading:
         yield from self.items
 
 
+# The n-th key of a pattern: in runs, random ones of some bits, and few beside each other that are far from all others.
+PATTERNS = [
+    lambda chance, n: n // 500 * 100003 + n % 500,
+    lambda chance, n: chance.getrandbits(26),
+    lambda chance, n: chance.getrandbits(32),
+    lambda chance, n: n // 30 * 0x9E3779B97F4A7C15 << 40 & MAX | chance.getrandbits(40),
+]
+# Any of these.
+PATTERNS.append(lambda chance, n: PATTERNS[n // 9 % 4](chance, n))
+
+
 def held(array):
     return list(Judy1.__iter__(array))
 
@@ -64,6 +75,11 @@ def all_pairs():
             yield range(other, count + other), range(other)
             yield [chance.getrandbits(64) for _ in range(count)], [chance.getrandbits(64) for _ in range(other)]
             yield chance.sample(range(4000), count), chance.sample(range(4000), other)
+    for pattern in PATTERNS:
+        for count, more in ((40, 400), (600, 600), (3000, 900)):
+            keys = [pattern(chance, n) for n in range(count + more)]
+            yield keys[:count], keys[count // 2 :]
+            yield keys[count // 3 :], keys[: count // 2]
 
 
 class BesidePythonsSets(unittest.TestCase):

@@ -1,4 +1,5 @@
-//! Ranges and two arrays beside std's sets and maps: sets without a key, dense ones, runs, and random words far apart.
+//! Ranges and two arrays beside std's sets and maps: sets without a key, dense ones, runs, random words far apart, some
+//! of them together, and all of these in one.
 use sellumaq::{Judy1, JudyL, JudySl};
 use std::collections::{BTreeMap, BTreeSet};
 use std::ops::Bound::{Excluded, Included, Unbounded};
@@ -23,6 +24,13 @@ fn patterns(seed: u64, count: u64) -> Vec<BTreeSet<u64>> {
         keys(|n| any(n) >> 32),
         keys(any),
         keys(|n| u64::MAX - n % 9),
+        keys(|n| any(n / 40) << 40 | any(n) >> 24),
+        keys(|n| match n / 9 % 4 {
+            0 => n,
+            1 => any(n) >> 38,
+            2 => any(n / 200) << 16 | any(n) >> 48,
+            _ => any(n),
+        }),
     ]
 }
 

@@ -1,5 +1,5 @@
 -- How many keys two maps have together, and what is left of pairs that are read page by page.
-use Rattle.std.proofs.Common.{◌≡◌, ℕ, ◌+◌, ◌-◌, ◌≤◌, ◌⊎◌, ⊎_elim, true, false, [], ◌∷◌, ◌++◌, length, drop, refl, sym, ap, ◌∙◌, subst, arith}
+use Rattle.std.proofs.Common.{◌≡◌, ℕ, ◌+◌, ◌-◌, ◌≤◌, true, false, [], ◌∷◌, ◌++◌, length, drop, refl, sym, ap, ◌∙◌, subst, arith}
 use Rattle.std.specs.FinMap.{FinMap, entries, len}
 use Rattle.judy_model.specs.Keys.{word_order}
 use Rattle.judy_model.specs.TwoMaps.{union, intersection, difference, symmetric_difference}

@@ -15,5 +15,6 @@ pub mod Retained
 pub mod WordPuts
 pub mod LookFacts
 pub mod DownFacts
+pub mod LeafPairs
 pub mod MeetFacts
 pub mod LotFacts

@@ -1,5 +1,5 @@
 -- Where the words of a node lie in a branch of another tree, and what is found there.
-use Rattle.std.proofs.Common.{◌≡◌, ℕ, suc, ◌+◌, ◌-◌, ◌*◌, ◌^◌, ◌<◌, ◌≤◌, Bool, true, false, cond, not, List, [], ◌∷◌, ◌++◌, length, drop, get_or, Some, None, is_some, slice_get}
+use Rattle.std.proofs.Common.{◌≡◌, ℕ, suc, ◌+◌, ◌-◌, ◌*◌, ◌^◌, ◌<◌, ◌≤◌, Bool, true, false, cond, not, List, [], length, drop, get_or, Some, None, is_some, slice_get}
 use Rattle.std.proofs.Common.{refl, sym, ap, ◌∙◌, subst, arith}
 use Rattle.std.proofs.Math.Nat.{pow-le-pow_right, pow-suc}
 use Rattle.std.proofs.lemmas.List.{drop_all}
@@ -9,18 +9,17 @@ use Rattle.judy_model.proofs.lemmas.orders.ByteLemmas.{unit_pos}
 use Rattle.judy_leaf.specs.KeyLists.{KeyList, shift}
 use Rattle.judy_node.specs.Trees.{Pairs, Tree, IsMap, IsBranch, IsChild, AreChildren, join, branch_pairs}
 use Rattle.judy_node.specs.Steps.{IsKeyOf, IsStep}
-use Rattle.judy_node.specs.Views.{IsPlace, IsView}
+use Rattle.judy_node.specs.Views.{IsPlace, IsView, view_pairs}
 use Rattle.judy_node.specs.declared.step.Step.{Step}
 use Rattle.judy_node.specs.declared.view.ViewOf.{ViewOf}
-use Rattle.judy_node.specs.declared.view.ViewOf.TheVariants.{BitLeaf, Branch}
+use Rattle.judy_node.specs.declared.view.ViewOf.TheVariants.{BitLeaf, Branch, Leaf}
 use Rattle.judy_node.proofs.Maps.{children-length}
 use Rattle.judy_query.specs.Parts.{IsBeside, IsPart, IsShown, passed, value_of, width_of}
-use Rattle.judy_query.specs.Rooms.{IsRun}
 use Rattle.judy_query.proofs.Downs.{child_part, gap_part, is_shown, view_width}
 use Rattle.judy_query.proofs.Finds.{part-value}
 use Rattle.judy_query.proofs.Runs.{run-full}
 use Rattle.judy_query.proofs.Splits.{first_of, rest_of, rest_more}
-use Rattle.judy_sets.specs.Meets.{found, is_sought}
+use Rattle.judy_sets.specs.Meets.{found}
 use Rattle.judy_sets.proofs.MeetFacts.{found-join, found-shift, found-none, found-alike, found-such, some-has}
 
 module _ (words below : ℕ) (skipped bytes : List ℕ) (kids : List Tree) (count : ℕ) (is : IsBranch words below skipped bytes kids count) (by width : ℕ) where
@@ -132,3 +131,7 @@ front_word words view front list is shown =
     let within = front_within words view front list is shown in
     let most : 256 ^ width_of view ≤ 256 ^ 8 = pow-le-pow_right {n = 256} (omega arith) shown.narrow in
     omega arith
+
+-- The pairs of a leaf that was entered are those of a map of its width.
+pub leaf_map : {V : _} (words : ℕ) (view : ViewOf V) (list : KeyList) → view ≡ Leaf list → IsShown words view → IsMap words 0 (256 ^ list.width) list.pairs
+leaf_map words view list is shown = subst (λ v. IsMap words 0 (256 ^ width_of v) (view_pairs v)) is shown.map

@@ -1,7 +1,6 @@
 -- How many keys of pairs are sought among others.
-use Rattle.std.proofs.Common.{◌≡◌, ◌≢◌, ℕ, suc, ◌+◌, ◌-◌, ◌*◌, ◌^◌, ◌<◌, ◌≤◌, ◌==◌, ◌||◌, Bool, true, false, cond, not, ⊎_elim, List, [], ◌∷◌, ◌++◌, length, filter, Some, None, is_some}
+use Rattle.std.proofs.Common.{◌≡◌, ◌≢◌, ℕ, suc, ◌+◌, ◌<◌, ◌≤◌, ◌||◌, Bool, true, false, cond, not, ⊎_elim, [], ◌∷◌, ◌++◌, length, filter, Some, is_some}
 use Rattle.std.proofs.Common.{refl, sym, ap, ◌∙◌, arith, take, get_or, slice_get, nat_lt, lt-ltb}
-use Rattle.std.specs.FinMap.{get, contains_key}
 use Rattle.std.specs.FinMap.Entries.{where_key}
 use Rattle.std.proofs.lemmas.Bool.{eq-eqb, ne_eqb, cases_lt}
 use Rattle.std.proofs.lemmas.List.{append-nil, take_more}

@@ -1,11 +1,11 @@
 -- One step through two lists of pairs that ascend.
-use Rattle.std.proofs.Common.{◌≡◌, ◌≢◌, ℕ, suc, ◌+◌, ◌<◌, Bool, true, false, cond, ⊎_elim, [], ◌∷◌, ◌++◌, Option, Some, None, is_some, refl, sym, ap, ◌∙◌, arith}
+use Rattle.std.proofs.Common.{◌≡◌, ◌≢◌, ℕ, Bool, true, false, cond, ⊎_elim, [], ◌∷◌, ◌++◌, Option, Some, None, refl, sym, ap, ◌∙◌}
 use Rattle.std.specs.Option.{option_or}
 use Rattle.std.specs.FinMap.{find}
 use Rattle.judy_model.specs.Keys.{word_order}
 use Rattle.judy_sets.specs.declared.keep.Keep.{Keep}
-use Rattle.judy_sets.specs.Merges.{Pairs, Ascends, taken, pick}
-use Rattle.judy_sets.proofs.Finds.{same_or, find-same, find-apart, find-below, find-join}
+use Rattle.judy_sets.specs.Merges.{Pairs, taken, pick}
+use Rattle.judy_sets.proofs.Finds.{same_or, find-same, find-apart, find-join}
 
 -- ---- what is taken
 

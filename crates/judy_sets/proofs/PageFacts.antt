@@ -1,10 +1,9 @@
 -- Pages of pairs, and two of them gone through side by side.
-use Rattle.std.proofs.Common.{◌≡◌, ℕ, suc, ◌+◌, ◌-◌, ◌<◌, ◌≤◌, ◌⊎◌, ⊎_elim, [], ◌∷◌, ◌++◌, map, length, take, drop, get_or, refl, sym, ap, ◌∙◌, subst, arith}
-use Rattle.std.proofs.Math.Seq.{drop-cons}
+use Rattle.std.proofs.Common.{◌≡◌, ℕ, ◌+◌, ◌-◌, ◌<◌, ◌≤◌, ◌⊎◌, ⊎_elim, ◌++◌, map, length, take, drop, sym, ap, ◌∙◌, subst, arith}
 use Rattle.std.proofs.Math.ListN.{drop_of_length-le}
 use Rattle.std.specs.Option.{option_or}
 use Rattle.std.specs.FinMap.{find}
-use Rattle.std.proofs.lemmas.List.{get_or-take, map-id, take_at, length-append, length-drop, length-take-le, take-append-drop}
+use Rattle.std.proofs.lemmas.List.{map-id, take_at, length-append, length-drop, length-take-le, take-append-drop}
 use Rattle.judy_sets.specs.declared.keep.Keep.{Keep}
 use Rattle.judy_model.specs.Keys.{word_order}
 use Rattle.judy_sets.specs.Merges.{Pairs, Ascends, pick, IsMerged}

@@ -1,5 +1,5 @@
 -- The pairs of an array that are still to come, some of which were read ahead.
-use Rattle.std.specs.Prelude.{◌≡◌, ℕ, ◌+◌, ◌<◌, ◌≤◌, ◌⊎◌, List, [], ◌++◌, length, take, None, Bool, IsSome, IsTrue, MatchBool, if◌then◌else◌}
+use Rattle.std.specs.Prelude.{◌≡◌, ℕ, ◌+◌, ◌<◌, ◌≤◌, ◌⊎◌, List, [], ◌++◌, length, take, None, IsTrue, if◌then◌else◌}
 use Rattle.std.specs.Ordering.{is_le}
 use Rattle.std.specs.FinMap.{FinMap, find, get, contains_key}
 use Rattle.std.specs.Option.{option_or}

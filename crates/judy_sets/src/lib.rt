@@ -7,10 +7,10 @@
 //! of a range in, or turns them round.
 //!
 //! Counts and relations go down both trees at once: meets.rt meets each node of the one with those of the other that
-//! have its words. What makes new arrays goes through both side by side, a page of 64 pairs at a time: pages.rt reads
-//! them ahead, merges.rt goes through two slices of them, and steps.rt through two arrays. Where one has far fewer
-//! keys, lookups.rt looks these up in the other. keep.rt says which keys a result takes. downward.rt tells keys in
-//! descending order. Its tests stand in judy_sets_tests.
+//! have its words, and leaves.rt goes through two leaves side by side. What makes new arrays goes through both side by
+//! side, a page of 64 pairs at a time: pages.rt reads them ahead, merges.rt goes through two slices of them, and
+//! steps.rt through two arrays. Where one has far fewer keys, lookups.rt looks these up in the other. keep.rt says
+//! which keys a result takes. downward.rt tells keys in descending order. Its tests stand in judy_sets_tests.
 //!
 //! The crate stands on the nodes of judy_node, the walks and ways of judy_query and judy_word's public calls, and
 //! changes no node itself.
@@ -21,6 +21,7 @@ mod counts;
 mod downward;
 mod fills;
 mod keep;
+mod leaves;
 mod lookups;
 mod meets;
 mod merges;

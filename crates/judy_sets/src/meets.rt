@@ -1,12 +1,12 @@
-//! The keys of one array that another has, or lacks, counted node by node: two bitmap leaves by their words, and a node
-//! beside which the other has nothing, or all words, by the number of its keys.
+//! The keys of one array that another has, or lacks, counted node by node: two bitmap leaves by their words, two leaves
+//! side by side, and a node beside which the other has nothing, or all words, by the number of its keys.
 
-ghost use Rattle.std.specs.Prelude.{◌≡◌, ◌+◌, ◌*◌, ◌^◌, ◌<◌, ◌≤◌, length, nat_lt, if◌then◌else◌};
+ghost use Rattle.std.specs.Prelude.{◌≡◌, ◌+◌, ◌-◌, ◌*◌, ◌^◌, ◌<◌, ◌≤◌, length, nat_lt, if◌then◌else◌};
 ghost use Rattle.std.specs.FinMap as map;
 ghost use Rattle.std.specs.FinMap.Entries.{where_key};
 ghost use Rattle.judy_model.specs.Keys.{word_order};
 ghost use Rattle.judy_leaf.specs.KeyLists.{shift};
-ghost use Rattle.judy_node.specs.Trees.{IsChild, branch_pairs};
+ghost use Rattle.judy_node.specs.Trees.{IsChild, IsMap, branch_pairs};
 ghost use Rattle.judy_node.specs.Branches.{IsWholeBranch};
 ghost use Rattle.judy_node.specs.Views.{view_pairs};
 ghost use Rattle.judy_query.specs.Maps.{map_of};
@@ -14,8 +14,9 @@ ghost use Rattle.judy_query.specs.Parts.{IsEnd, IsShown, width_of};
 ghost use Rattle.judy_sets.specs.LookUps.{is_wanted};
 ghost use Rattle.judy_sets.specs.Meets.{IsCounted, IsPlaced, found, is_sought};
 
+use crate::leaves::common_in;
 use judy_bits::{Meter, moved_up};
-use judy_leaf::{BitRef, Words};
+use judy_leaf::{BitRef, LeafRef, Words};
 use judy_node::{BranchOf, ChildOf, NodeOf, Step, ViewOf};
 use judy_query::{byte_from, entry_in, is_full, len_in, lookup_below, passed, start_at};
 use judy_unmetered::UNMETERED;
@@ -164,7 +165,7 @@ fn count_below<V: Words + Drop>(
             by,
         );
     };
-    match lot_of(branch, width, by) {
+    match lot_for(child, branch, width, by) {
         Lot::In(place, rest) => {
             let part = &branch.children[place];
             if is_full(part, branch.width) {
@@ -180,6 +181,21 @@ fn count_below<V: Words + Drop>(
             other,
             by,
         ),
+    }
+}
+
+// Where the words of a node lie in a branch, but of one or two keys, which are sooner looked up from there.
+fn lot_for<V: Words + Drop>(child: &ChildOf<V>, branch: &BranchOf<V>, width: u8, by: u64) -> Lot
+    requires level { IsWholeBranch V.WORDS branch.now }
+    requires narrow { width ≤ 7 }
+    requires fits { by + 256 ^ width ≤ 256 ^ (length branch.now.skip + 1 + branch.now.width) }
+    ensures { IsPlaced width by branch.now.width branch.now.skip branch.now.bytes
+        branch.now.children.items result }
+{
+    if child.pop() <= 2 {
+        Lot::Spread
+    } else {
+        lot_of(branch, width, by)
     }
 }
 
@@ -230,6 +246,11 @@ fn count_keys<V: Words + Drop>(
             }
         }
     }
+    if let ViewOf::Leaf(list) = one {
+        if let ViewOf::Leaf(other_list) = other {
+            return count_leaves(sought.wanted, list, other_list, by);
+        }
+    }
     count_each(sought.wanted, one, other, by)
 }
 
@@ -242,6 +263,27 @@ fn count_bits<V: Words + Drop>(wanted: bool, one: &BitRef<'_, V>, other: &BitRef
         common as u64
     } else {
         (one.len() - common) as u64
+    }
+}
+
+// The same of a leaf whose keys are each so much higher in the other's words.
+fn count_leaves<V: Words + Drop>(
+    wanted: bool,
+    one: &LeafRef<'_, V>,
+    other: &LeafRef<'_, V>,
+    by: u64,
+) -> u64
+    requires map { IsMap V.WORDS 0 (256 ^ one.now.width) one.now.pairs }
+    requires other_map { IsMap V.WORDS 0 (256 ^ other.now.width) other.now.pairs }
+    requires fits { by + 256 ^ one.now.width ≤ 256 ^ other.now.width }
+    ensures { result ≡ found wanted by one.now.pairs other.now.pairs }
+{
+    other.law();
+    let common = common_in(one, other, by);
+    if wanted {
+        common
+    } else {
+        one.len() as u64 - common
     }
 }
 

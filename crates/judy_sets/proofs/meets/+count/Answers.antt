@@ -1,4 +1,4 @@
-use Rattle.std.proofs.Common.{◌≡◌, ℕ, suc, ◌+◌, ◌-◌, ◌*◌, ◌^◌, ◌<◌, ◌≤◌, not, cond, length, sym, ap, ◌∙◌, subst, arith, eqb-true}
+use Rattle.std.proofs.Common.{◌+◌, ◌*◌, ◌^◌, ◌<◌, ◌≤◌, not, cond, length, sym, ap, ◌∙◌, subst, arith, eqb-true}
 use Rattle.std.proofs.Math.Nat.{pow-le-pow_right}
 use Rattle.judy_model.specs.WordBytes.{number_of}
 use Rattle.judy_model.proofs.lemmas.orders.ByteLemmas.{unit_pos}
@@ -10,7 +10,6 @@ use Rattle.judy_node.proofs.Counts.{branch_population}
 use Rattle.judy_query.specs.Parts.{IsStart, width_of}
 use Rattle.judy_query.proofs.BranchRooms.{bytes_ascend, rank_zero}
 use Rattle.judy_query.proofs.Downs.{kid_is, start_room}
-use Rattle.judy_query.proofs.Splits.{rest_of}
 use Rattle.judy_sets.specs.Meets.{found, IsCounted}
 use Rattle.judy_sets.proofs.LotFacts.{lot_inside, shown_branch, part_shown, found_there, found_full, found_free, found_next, found_behind}
 use Rattle.judy_sets.proofs.MeetFacts.{counted_as, found-most}

@@ -1,4 +1,4 @@
-use Rattle.std.proofs.Common.{true, false, refl, sym, ap, ◌∙◌, arith}
+use Rattle.std.proofs.Common.{true, refl, sym, ap, ◌∙◌, arith}
 use Rattle.judy_sets.specs.Meets.{found}
 use Rattle.judy_sets.proofs.MeetFacts.{found-common, found-lacking, found-most}
 use Rattle.judy_sets.proofs.meets.count_bits.Goals as goal

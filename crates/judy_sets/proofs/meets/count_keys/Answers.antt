@@ -1,10 +1,9 @@
-use Rattle.std.proofs.Common.{◌≡◌, ◌+◌, ◌-◌, ◌*◌, ◌^◌, ◌<◌, ◌≤◌, sym, ap, ◌∙◌, subst, arith}
-use Rattle.std.proofs.Math.Nat.{pow-le-pow_right, pow-suc}
-use Rattle.judy_leaf.specs.KeyLists.{shift}
+use Rattle.std.proofs.Common.{ℕ, ◌+◌, ◌*◌, ◌^◌, ◌≤◌, sym, ap, ◌∙◌, subst, arith}
+use Rattle.std.proofs.Math.Nat.{pow-le-pow_right}
 use Rattle.judy_node.specs.Views.{view_pairs, IsPlace}
 use Rattle.judy_query.specs.Parts.{width_of}
 use Rattle.judy_sets.specs.Meets.{found}
-use Rattle.judy_sets.proofs.LotFacts.{front_word, front_within}
+use Rattle.judy_sets.proofs.LotFacts.{front_word, front_within, leaf_map}
 use Rattle.judy_sets.proofs.MeetFacts.{found-level}
 use Rattle.judy_sets.proofs.meets.count_keys.Goals as goal
 
@@ -34,3 +33,19 @@ returns-then-by-front g c =
     ∙ sym (found-level wanted words c.args.by (c.in-BitLeaf.front * 256) (c.in-BitLeaf-other.other_front * 256) c.in-BitLeaf.bits.pairs c.in-BitLeaf-other.others.pairs place.2
     c.if-by-front.true)
     ∙ (λ t. found wanted c.args.by (view_pairs (sym c.in-BitLeaf.is t)) (view_pairs (sym c.in-BitLeaf-other.is t)))
+
+pub count_leaves-requires-clause-map : goal.count_leaves-requires-clause-map
+count_leaves-requires-clause-map g c = leaf_map g.V.Words.WORDS c.args.one.now c.in-Leaf.list c.in-Leaf.is c.requires.shown
+
+pub count_leaves-requires-clause-other_map : goal.count_leaves-requires-clause-other_map
+count_leaves-requires-clause-other_map g c = leaf_map g.V.Words.WORDS c.args.other.now c.in-Leaf-other.other_list c.in-Leaf-other.is c.requires.other_shown
+
+pub count_leaves-requires-clause-fits : goal.count_leaves-requires-clause-fits
+count_leaves-requires-clause-fits g c =
+    let ours = ap width_of c.in-Leaf.is in
+    let theirs = ap width_of c.in-Leaf-other.is in
+    subst (λ (w : ℕ). c.args.by + 256 ^ w ≤ 256 ^ c.in-Leaf-other.other_list.width) ours (subst (λ (w : ℕ). c.args.by + 256 ^ width_of c.args.one.now ≤ 256 ^ w) theirs c.requires.fits)
+
+pub returns-in-Leaf-other : goal.returns-in-Leaf-other
+returns-in-Leaf-other g c =
+    c.count_leaves.ensures ∙ (λ t. found c.args.sought.wanted c.args.by (view_pairs (sym c.in-Leaf.is t)) (view_pairs (sym c.in-Leaf-other.is t)))
