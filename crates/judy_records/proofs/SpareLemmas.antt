@@ -1,17 +1,16 @@
 -- A page with a free place that isn't the one to be filled next.
-use Rattle.std.proofs.Common.{◌≡◌, ◌≢◌, ℕ, ◌+◌, ◌<◌, ◌^◌, ◌⊎◌, length, get_or, Option, None, Some, inl, inr, refl, sym, ap, subst, ◌∙◌, arith}
-use Rattle.std.proofs.lemmas.Option.{same_Some}
+use Rattle.std.proofs.Common.{◌≡◌, ℕ, ◌+◌, ◌<◌, length, Option, None, Some, inl, inr, refl, sym, ap, subst, ◌∙◌, arith}
 use Rattle.judy_records.specs.declared.records.Records.TheInside.{Inside}
-use Rattle.judy_records.specs.Kinds.{Kinds, full, roomy, gone, kind_of, first_of}
+use Rattle.judy_records.specs.Kinds.{roomy, first_of}
 use Rattle.judy_records.specs.Kinds as kinds
 use Rattle.judy_records.specs.Pages.{per_of, start_of, page_of, rest_of, places_of, IsAt}
 use Rattle.judy_records.specs.Spots.{RecordList, free, IsHeld, spot_at}
 use Rattle.judy_records.specs.PageSpots.{PageList, spot_in}
-use Rattle.judy_records.specs.Inside.{page_at, spots_to, spot_of, next_by, list_of, AreRecords}
+use Rattle.judy_records.specs.Inside.{page_at, spot_of, next_by, list_of, AreRecords}
 use Rattle.judy_records.specs.Memory.{HasFree, IsSpare}
 use Rattle.judy_records.proofs.PageOf.{per-is}
 use Rattle.judy_records.proofs.SpotsTo.{length-to, get-to}
-use Rattle.judy_records.proofs.PagesHold.{place-at, spot-at, page-in, rest-in, of-kind, full-held, not-gone, kind-cases}
+use Rattle.judy_records.proofs.PagesHold.{place-at, spot-at, rest-in, of-kind, full-held, not-gone, kind-cases}
 use Rattle.judy_records.proofs.ListHolds.{per, some, seen-there, at-held}
 
 -- A record in a spare page has a free place beside it.

@@ -1,11 +1,11 @@
 -- A text in a page with a free place: one as long finds a place beside it.
-use Rattle.std.proofs.Common.{◌≡◌, ◌<◌, ◌≤◌, ◌+◌, ◌%◌, ◌/◌, ℕ, List, [], length, map, get_or, None, IsSome, eqb, refl, sym, ap, subst, ◌∙◌, arith}
+use Rattle.std.proofs.Common.{◌≡◌, ◌<◌, ◌≤◌, ◌%◌, ◌/◌, ℕ, List, [], length, map, get_or, None, IsSome, eqb, refl, sym, ap, subst, ◌∙◌, arith}
 use Rattle.std.proofs.Math.ListN.{get_or-map}
 use Rattle.std.proofs.lemmas.Bool.{eq-eqb, false≢true}
 use Rattle.std.proofs.lemmas.List.{length-map, get_or_read}
 use Rattle.std.proofs.lemmas.Map.Keys.{apart_from_distinct}
 use Rattle.judy_records.specs.Pages.{per_of, page_of}
-use Rattle.judy_records.specs.Texts.{words_for, words_of, text_in}
+use Rattle.judy_records.specs.Texts.{words_for, text_in}
 use Rattle.judy_records.specs.Spots.{Spot, free, RecordList, IsHeld, text_of, empty_list, spot_at}
 use Rattle.judy_records.specs.Memory as records
 use Rattle.judy_records.proofs.TextLemmas.{length-words}

@@ -1,5 +1,4 @@
-use Rattle.std.proofs.Common.{ap, length, sym, ◌∙◌, subst, arith}
-use Rattle.judy_records.specs.Spots.{text_of}
+use Rattle.std.proofs.Common.{arith}
 use Rattle.judy_tails.proofs.ListLemmas.{seen-inside, list-held}
 use Rattle.judy_tails.proofs.SpareTails.{text-short, free-beside}
 use Rattle.judy_tails.proofs.short.ShortTails.is_spare.Goals as goal
