@@ -4,7 +4,7 @@ use Rattle.std.specs.FinMap.{get, len}
 use Rattle.std.proofs.lemmas.Bool.{cases_eq}
 use Rattle.std.proofs.lemmas.List.{map-set, get_or-map, length-map}
 use Rattle.std.proofs.lemmas.Option.{none-some, same_Some}
-use Rattle.judy_model.specs.Keys.{word_order, byte_order}
+use Rattle.judy_model.specs.Keys.{word_order}
 use Rattle.judy_model.specs.Arrays.{ArrayOf}
 use Rattle.judy_model.specs.Tables.{table, bytes_keys}
 use Rattle.judy_hs.specs.declared.group.GroupPlace.{GroupPlace}
@@ -14,7 +14,7 @@ use Rattle.judy_hs.specs.Groups.{Group, none, short, long, in_group}
 use Rattle.judy_hs.specs.GroupPlaces.{group_of, groups_of, link_of, links_of}
 use Rattle.judy_hs.specs.Keyed.{Keyed, in_place}
 use Rattle.judy_hs.specs.Parts.{part_of}
-use Rattle.judy_hs.specs.Kept.{IsUsed, IsChain, IsLong, IsGroup, IsKeyed, value_of, map_of, array_of, IsHs}
+use Rattle.judy_hs.specs.Kept.{IsUsed, IsChain, IsLong, IsGroup, value_of, map_of, array_of, IsHs}
 use Rattle.judy_hs.specs.Relaid.{keys_of, IsRelaid, IsRelaidGroup, AreRelaid, IsRelaidKeyed}
 use Rattle.judy_hs.proofs.ListLemmas.{set_same}
 use Rattle.judy_hs.proofs.TwoLevels.{get_or-set_here, get_or-set_there}

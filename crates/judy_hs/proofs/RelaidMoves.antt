@@ -11,7 +11,7 @@ use Rattle.judy_model.proofs.lemmas.maps.ChangesLemmas.{get-write_same, get-writ
 use Rattle.judy_records.specs.Texts.{words_of, bytes_in}
 use Rattle.judy_records.specs.Spots.{Spot, free, held, RecordList, IsHeld, IsNext, spot_at, value_of, text_of}
 use Rattle.judy_hs.specs.Chains.{Pairs}
-use Rattle.judy_hs.specs.LongGroups.{Long, put_at, chain_at}
+use Rattle.judy_hs.specs.LongGroups.{put_at, chain_at}
 use Rattle.judy_hs.specs.LongRecords.{others_at, pairs_of, IsSpelled, AreLongRecords}
 use Rattle.judy_hs.specs.Relaid.{keys_of, IsRelaid}
 use Rattle.judy_hs.proofs.LongLemmas.{key-back, spells-long, pairs-at, long_of}

@@ -1,4 +1,4 @@
-use Rattle.std.proofs.Common.{◌≡◌, ℕ, List, Some, length, set, sym, ap, ◌∙◌}
+use Rattle.std.proofs.Common.{List, set, sym, ap, ◌∙◌}
 use Rattle.std.specs.FinMap.{get, insert}
 use Rattle.judy_model.specs.Arrays.{with_map}
 use Rattle.judy_records.specs.Texts.{words_for}
