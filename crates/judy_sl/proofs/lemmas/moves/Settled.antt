@@ -90,12 +90,6 @@ level-taken Free is = is
 level-taken (Tail rest) is = tt
 level-taken (Level keys words) is = tt
 
--- What is taken there is a level.
-pub taken-there : (child : Child) (words : FinMap word_order ℕ) → node_of child ≡ level words → IsLevelChild child
-taken-there Free words e = absurd (cc)
-taken-there (Tail rest) words e = absurd (cc)
-taken-there (Level keys held) words e = tt
-
 -- An entry stands in a level.
 abbrev pub StandsIn : World → ℕ → ℕ × ℕ → Type 0
 StandsIn world seat entry = (map : FinMap word_order ℕ) × (world seat ≡ level map) × (get map entry.0 ≡ Some entry.1)
