@@ -88,8 +88,8 @@ static void make(const sellumaq_judy1 sets[2], const sellumaq_judyl maps[2]) {
     sellumaq_judyl_free(&map);
 }
 
-/* A word of a pattern: a dense one, one of a run, one of so many bits, one beside a few that are far from all others, or
- * any of these. */
+/* A word of a pattern: a dense one, one of a run, one of so many bits, one beside a few that are far from all others,
+ * or any of these. */
 static uint64_t word_of(unsigned pattern, unsigned bits) {
     uint64_t at = any() % (2 * MOST_KEYS), far = any() >> (64 - bits);
     switch (pattern) {
