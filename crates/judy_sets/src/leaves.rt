@@ -6,10 +6,7 @@ ghost use Rattle.judy_bits.specs.ByteSets as set;
 ghost use Rattle.judy_leaf.specs.KeyLists.{keys_of, shift};
 ghost use Rattle.judy_node.specs.Trees.{IsMap};
 
-use judy_leaf::{LeafRef, Words};
-
-// How many keys a leaf holds at most.
-const MOST: usize = 32;
+use judy_leaf::{LEAF_ROOM, LeafRef, Words};
 
 /// How many keys of a leaf, each so much higher, another leaf has. The keys of both are written out once.
 pub fn common_in<V: Words + Drop>(one: &LeafRef<'_, V>, other: &LeafRef<'_, V>, by: u64) -> u64
@@ -23,8 +20,8 @@ pub fn common_in<V: Words + Drop>(one: &LeafRef<'_, V>, other: &LeafRef<'_, V>, 
 {
     let (count, many) = (one.len(), other.len());
     other.law();
-    let mut ours = [0; MOST];
-    let mut theirs = [0; MOST];
+    let mut ours = [0; LEAF_ROOM];
+    let mut theirs = [0; LEAF_ROOM];
     one.fill_from(0, by, &mut ours[..count]);
     other.fill_from(0, 0, &mut theirs[..many]);
     count_met(&ours[..count], &theirs[..many])
