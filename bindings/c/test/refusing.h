@@ -1,4 +1,6 @@
-/* A malloc of a test's own, which counts the blocks that are held and refuses calls where the test says so. */
+/* A malloc of a test's own, which counts the blocks that are held and their bytes, and refuses calls where the test
+ * says so. */
+#include <malloc.h>
 #include <stdbool.h>
 #include <stddef.h>
 
@@ -8,6 +10,7 @@ extern void __libc_free(void *block);
 
 /* The blocks that are held, and how many calls are answered before each later one is refused; none is for -1. */
 static long held, answered = -1;
+static size_t held_bytes;
 
 static bool refused(void) {
     if (answered > 0) answered--;
@@ -18,15 +21,21 @@ static bool refused(void) {
 void *malloc(size_t size) {
     void *block = refused() ? NULL : __libc_malloc(size);
     held += block != NULL;
+    held_bytes += malloc_usable_size(block);
     return block;
 }
 
 void *realloc(void *block, size_t size) {
     if (!block) return malloc(size);
-    return refused() ? NULL : __libc_realloc(block, size);
+    if (refused()) return NULL;
+    size_t before = malloc_usable_size(block);
+    void *moved = __libc_realloc(block, size);
+    if (moved) held_bytes += malloc_usable_size(moved) - before;
+    return moved;
 }
 
 void free(void *block) {
     held -= block != NULL;
+    held_bytes -= malloc_usable_size(block);
     __libc_free(block);
 }

@@ -1,13 +1,14 @@
-/* What shrink leaves of maps of strings from which most keys went: the same keys, in little more memory than a map that
- * never had others. No call for memory is answered meanwhile. */
-#include <malloc.h>
+/* What shrink leaves of maps of strings from which most keys went: the same keys, and no pages but full ones and one of
+ * each length. Beside these the trees of words by which keys are found keep room, some bytes for each key that there was.
+ * No call for memory is answered meanwhile. */
 #include <string.h>
 
 #include "../sellumaq.h"
 #include "check.h"
 #include "refusing.h"
 
-enum { MOST = 40000, LONGEST = 1100 };
+/* ROOM is for how many bytes a key. */
+enum { MOST = 40000, LONGEST = 1100, ROOM = 8 };
 
 typedef struct {
     const char *name;
@@ -81,11 +82,13 @@ static void check(const Kind *kind, Spell *spell, const void *map, unsigned one_
     CHECK(kind->len(map) == keys);
 }
 
-/* One of so many keys stays. How much more memory than a new map of the same keys the shrunk one has, in tenths. */
-static size_t shrunk(const Kind *kind, Spell *spell, unsigned one_of) {
+/* One of so many keys stays. Whether the shrunk map has no more than 1.3 of the memory of a new one of these keys, but
+ * for that room. */
+static bool shrunk(const Kind *kind, Spell *spell, unsigned one_of) {
     void *map[1] = {NULL}, *fresh[1] = {NULL};
     uint8_t key[LONGEST];
-    size_t before = mallinfo2().uordblks;
+    size_t before = held_bytes;
+    long blocks = held;
     fill(kind, spell, map, one_of, true);
     for (unsigned n = 0; n < MOST; n++)
         if (!stays(n, one_of)) {
@@ -96,10 +99,9 @@ static size_t shrunk(const Kind *kind, Spell *spell, unsigned one_of) {
     kind->shrink(map);
     answered = -1;
     check(kind, spell, map, one_of);
-    size_t left = mallinfo2().uordblks - before;
+    size_t left = held_bytes - before;
     fill(kind, spell, fresh, one_of, false);
-    size_t copy = mallinfo2().uordblks - before - left;
-    printf("%s, one of %u: %zu bytes, of a new map %zu\n", kind->name, one_of, left, copy);
+    size_t copy = held_bytes - before - left;
     /* It takes keys and loses them as before. */
     for (unsigned n = 0; n < MOST; n += 3) {
         size_t length = spell(n, key);
@@ -109,8 +111,8 @@ static size_t shrunk(const Kind *kind, Spell *spell, unsigned one_of) {
     check(kind, spell, map, one_of);
     kind->free(map);
     kind->free(fresh);
-    CHECK(mallinfo2().uordblks == before);
-    return left * 10 / copy;
+    CHECK(held == blocks);
+    return left * 10 <= copy * 13 + 10 * ROOM * MOST;
 }
 
 int main(void) {
@@ -123,9 +125,9 @@ int main(void) {
     for (size_t kind = 0; kind < 2; kind++)
         for (size_t spell = 0; spell < 3; spell++)
             for (unsigned one_of = 3; one_of <= 60; one_of += 19) {
-                size_t tenths = shrunk(kinds[kind], spells[spell], one_of);
+                bool is_small = shrunk(kinds[kind], spells[spell], one_of);
                 /* Levels of strings that went keep their places in the list of levels. */
-                if (spells[spell] != pairs) CHECK(tenths <= 13);
+                CHECK(is_small || (kinds[kind] == &judysl && spells[spell] == pairs));
             }
     return 0;
 }
