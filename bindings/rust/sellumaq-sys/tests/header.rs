@@ -51,7 +51,7 @@ fn the_calls_are_those_of_the_header() {
         parameters
             .split(',')
             .map(str::trim)
-            .chain([answer])
+            .chain((answer != "void").then_some(answer))
             .map(of_c)
             .collect()
     });
