@@ -1,6 +1,6 @@
 /* What shrink leaves of maps of strings from which most keys went: the same keys, and no pages but full ones and one of
- * each length. Beside these the trees of words by which keys are found keep room, some bytes for each key that there was.
- * No call for memory is answered meanwhile. */
+ * each length. Beside these the trees of words by which keys are found keep room, some bytes for each key that there
+ * was. No call for memory is answered meanwhile. */
 #include <string.h>
 
 #include "../sellumaq.h"
@@ -42,7 +42,9 @@ KIND(judyhs)
 /* The key of a number. */
 typedef size_t Spell(unsigned n, uint8_t *key);
 
-static size_t digits(unsigned n, uint8_t *key) { return (size_t)sprintf((char *)key, "%016llu", 0x9E3779B97F4A7C15ull * n >> 12); }
+static size_t digits(unsigned n, uint8_t *key) {
+    return (size_t)sprintf((char *)key, "%016llu", 0x9E3779B97F4A7C15ull * n >> 12);
+}
 
 /* Keys of 64 lengths. */
 static size_t lengths(unsigned n, uint8_t *key) {
