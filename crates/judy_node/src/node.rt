@@ -155,6 +155,20 @@ impl<V: Words + Drop> NodeOf<V> {
         }
     }
 
+    /// A copy of the tree: the same keys, values and form, in blocks with the same room. So it asks for as much memory
+    /// as the tree takes, a node at a time, and reads no key. No visit is counted, which takes leave. The error is want
+    /// of memory; nothing is kept then.
+    pub fn try_clone(&self, leave: Unmetered, alloc: Global) -> Result<NodeOf<V>, AllocError>
+        ensures { IfOk result (λ copy. copy ≡ self.now) }
+    {
+        let kind = match &self.place.kind {
+            RootOf::Empty => RootOf::Empty,
+            RootOf::One(key, value) => RootOf::One(*key, *value),
+            RootOf::Many(child) => RootOf::Many(child.try_clone(leave, alloc)?),
+        };
+        Ok(NodeOf::close(kind))
+    }
+
     /// The tight tree of pairs whose keys strictly ascend; their values are 0 where keys have no values. The error is
     /// want of memory; nothing is kept then.
     pub fn from_sorted(alloc: Global, pairs: &[(u64, u64)]) -> Result<NodeOf<V>, AllocError>
