@@ -3,6 +3,7 @@
 ghost use Rattle.std.specs.Prelude.{◌≡◌, ◌≤◌, not, true, false, OnOk, OnErr, IfOk, IfErr, IsOk, IsFalse};
 ghost use Rattle.std.specs.FinMap as map;
 ghost use Rattle.judy_model.specs.Arrays as array;
+ghost use Rattle.judy_node.specs.Trees.{IsTight};
 ghost use Rattle.judy_change.specs.Removals.{Has33};
 ghost use Rattle.judy_word.specs.Held.{map_in, array_in, with_new, with_value};
 ghost use Rattle.judy_word.specs.Refusals.{IsRefusal};
@@ -135,23 +136,35 @@ impl<V: Words + Drop> TreeArray<V> {
         if !self.loose {
             return Ok(());
         }
-        self.root.law();
-        let pairs = self.root.gather(UNMETERED, self.alloc)?;
-        self.root = NodeOf::from_sorted(self.alloc, &pairs)?;
+        self.root = self.tight_root()?;
         self.loose = false;
         Ok(())
     }
 
+    // The tight tree of the keys with their values. The error is want of memory.
+    fn tight_root(&self) -> Result<NodeOf<V>, AllocError>
+        requires one { V.WORDS ≤ 1 }
+        ensures pairs { IfOk result (λ tree. tree.pairs ≡ self.now.tree.pairs) }
+        ensures tight { IfOk result (λ tree. IsTight tree) }
+    {
+        self.root.law();
+        let pairs = self.root.gather(UNMETERED, self.alloc)?;
+        NodeOf::from_sorted(self.alloc, &pairs)
+    }
+
     /// An array of its own with the same limit, keys and values, each node as small as its keys allow. The error is
-    /// want of memory.
+    /// want of memory. The nodes are copied as they are, with the room that they have to spare; where the array is
+    /// loose, they are made anew, which takes 16 bytes a key meanwhile.
     pub fn try_clone(&self) -> Result<TreeArray<V>, AllocError>
         requires one { V.WORDS ≤ 1 }
         ensures same { IfOk result (λ copy. array_in copy ≡ array_in self.now) }
         ensures tight { IfOk result (λ copy. copy.loose ≡ false) }
     {
-        self.root.law();
-        let pairs = self.root.gather(UNMETERED, self.alloc)?;
-        let root = NodeOf::from_sorted(self.alloc, &pairs)?;
+        let root = if self.loose {
+            self.tight_root()?
+        } else {
+            self.root.try_clone(UNMETERED, self.alloc)?
+        };
         Ok(TreeArray {
             limit: self.limit,
             root,
