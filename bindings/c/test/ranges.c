@@ -22,7 +22,8 @@ static uint64_t compare(const sellumaq_judy1 *set, const sellumaq_judyl *map, co
     return inside;
 }
 
-/* Takes a range out of a copy of each, with so many calls for memory answered. What is left, which may be loose, is copied too. */
+/* Takes a range out of a copy of each, with so many calls for memory answered, and copies what is left: it may be
+ * loose. */
 static void take_out(const sellumaq_judy1 *old, const sellumaq_judyl *old_map, uint64_t from, uint64_t to, long calls) {
     sellumaq_judy1 set = { 0 }, left = { 0 };
     sellumaq_judyl map = { 0 }, left_map = { 0 };
@@ -99,7 +100,7 @@ static void try_ranges(const sellumaq_judy1 *set, const sellumaq_judyl *map, uns
         }
 }
 
-/* Keys of so many bits; in every third turn three runs of a few hundred words, far apart, which bitmap leaves hold that skip bytes. */
+/* Keys of so many bits; in every third turn three runs of words, far apart, whose bitmap leaves skip bytes. */
 static uint64_t any_key(unsigned turn, unsigned bits) {
     uint64_t key = any() >> (64 - bits);
     return turn % 3 ? key : key % 3 << 40 | any() % 300;
