@@ -1,6 +1,6 @@
 //! A copy of a tree, node by node.
 
-ghost use Rattle.std.specs.Prelude.{◌≡◌, IfOk};
+ghost use Rattle.std.specs.Prelude.{◌≡◌, ℕ, IfOk};
 ghost use Rattle.judy_node.specs.Branches.{IsWholeBranch, tree_below};
 ghost use Rattle.judy_node.specs.Populations.{AreSums};
 
@@ -65,11 +65,13 @@ fn clone_branch<V: Words + Drop>(
     Ok(Box::new(alloc, copy)?)
 }
 
-// A block with the same words, tag and room. The error is want of memory; nothing is kept then.
+// A block with the same words and tag, and no more room than these take: an even number of words, since memory is given
+// out by sixteen bytes. The error is want of memory; nothing is kept then.
 fn clone_block(block: &Block, alloc: Global) -> Result<Block, AllocError>
-    ensures { IfOk result (λ copy. copy ≡ block.now) }
+    ensures { IfOk result
+        (λ copy. (room : ℕ) × (copy ≡ record block.now { capacity = room })) }
 {
-    // That the words have room.
-    let _ = block.len();
-    Block::of_words(alloc, block.capacity(), block.tag(), block.words())
+    let most = block.capacity();
+    let room = ((block.len().max(1) + 1) / 2 * 2).min(most);
+    Block::of_words(alloc, room, block.tag(), block.words())
 }

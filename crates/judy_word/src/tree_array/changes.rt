@@ -153,8 +153,8 @@ impl<V: Words + Drop> TreeArray<V> {
     }
 
     /// An array of its own with the same limit, keys and values, each node as small as its keys allow. The error is
-    /// want of memory. The nodes are copied as they are, with the room that they have to spare; where the array is
-    /// loose, they are made anew, which takes 16 bytes a key meanwhile.
+    /// want of memory. The nodes are copied one by one; those of a loose array are made anew, which takes 16 bytes a
+    /// key meanwhile.
     pub fn try_clone(&self) -> Result<TreeArray<V>, AllocError>
         requires one { V.WORDS ≤ 1 }
         ensures same { IfOk result (λ copy. array_in copy ≡ array_in self.now) }

@@ -109,6 +109,7 @@ impl Judy1 {
     }
 
     /// A set of its own with the same limit and keys, each node as small as these allow. The error is want of memory.
+    /// The nodes are copied one by one; those of a loose set are made anew.
     pub fn try_clone(&self) -> Result<Judy1, AllocError>
         ensures same { IfOk result (λ copy. array_of copy ≡ array_of self.now) }
         ensures tight { IfOk result (λ copy. copy.loose ≡ false) }

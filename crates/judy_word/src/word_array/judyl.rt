@@ -275,7 +275,7 @@ impl JudyL {
     }
 
     /// An array of its own with the same limit and keys with their values, each node as small as these allow. The error
-    /// is want of memory.
+    /// is want of memory. The nodes are copied one by one; those of a loose array are made anew.
     pub fn try_clone(&self) -> Result<JudyL, AllocError>
         ensures same { IfOk result (λ copy. array_of copy ≡ array_of self.now) }
         ensures tight { IfOk result (λ copy. copy.loose ≡ false) }
