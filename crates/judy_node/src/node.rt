@@ -155,9 +155,9 @@ impl<V: Words + Drop> NodeOf<V> {
         }
     }
 
-    /// A copy of the tree: the same keys, values and form, in blocks that have no more room than these take. It asks for
-    /// memory a node at a time. No visit is counted, which takes leave. The error is want of memory; nothing is kept
-    /// then.
+    /// A copy of the tree: the same keys, values and form, in blocks that have no more room than these take. It asks
+    /// for memory a node at a time. No visit is counted, which takes leave. The error is want of memory; nothing is
+    /// kept then.
     pub fn try_clone(&self, leave: Unmetered, alloc: Global) -> Result<NodeOf<V>, AllocError>
         ensures { IfOk result (λ copy. copy ≡ self.now) }
     {
