@@ -12,8 +12,8 @@ use crate::entry::HsEntry;
 use crate::error::HsError;
 use crate::groups::{Groups, KeyPlace};
 use crate::hash::ByteHash;
+use crate::insert::find_or_add;
 use crate::part::part_of;
-use crate::trial::Trial;
 use judy_word::{JudyL, WordMap};
 use std::alloc::{AllocError, Global};
 use std::marker::Model;
@@ -90,38 +90,16 @@ impl<H: ByteHash + Drop> JudyHs<H> {
         if key.len() > H::LONGEST {
             return Err(HsError::TooLong);
         }
-        let part = part_of(&self.hasher, key);
-        let alloc = self.groups.allocator();
-        let tries = self.expects_new && !is_full;
-        match self.groups.try_add(alloc, tries, part, key) {
-            Trial::Added(spot) => {
-                self.count += 1;
-                self.groups.slot_of(spot, key)
-            }
-            Trial::Refused => Err(HsError::NoMemory),
-            Trial::Open => {
-                let way = self.groups.way(part, key);
-                match self.groups.find(way, part, key) {
-                    Some(spot) => {
-                        self.expects_new = false;
-                        self.groups.slot_of(spot, key)
-                    }
-                    None => {
-                        if is_full {
-                            return Err(HsError::Full);
-                        }
-                        match self.groups.add(alloc, way, part, key) {
-                            Ok(spot) => {
-                                self.count += 1;
-                                self.expects_new = true;
-                                self.groups.slot_of(spot, key)
-                            }
-                            Err(_) => Err(HsError::NoMemory),
-                        }
-                    }
-                }
-            }
-        }
+        let placed = find_or_add(
+            &self.hasher,
+            &mut self.groups,
+            self.expects_new,
+            is_full,
+            key,
+        )?;
+        self.count += u64::from(placed.is_new);
+        self.expects_new = placed.is_new;
+        self.groups.slot_of(placed.spot, key)
     }
 
     /// The slot of a key, and `None` where it is absent, as every key of more than `H::LONGEST` bytes is. What the
@@ -190,7 +168,7 @@ impl<H: ByteHash + Drop> JudyHs<H> {
     pub fn shrink(&mut self)
         ensures { self.new ≡ self.old }
     {
-        self.groups.shrink();
+        self.groups.shrink(u64::MAX);
     }
 
     /// The value of a key, and `None` where it is absent, as every key of more than `H::LONGEST` bytes is. (Manual:
