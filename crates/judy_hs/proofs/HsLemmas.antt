@@ -18,7 +18,7 @@ use Rattle.judy_hs.specs.declared.group.Inside.{Inside}
 use Rattle.judy_hs.specs.Groups.{Group, none, short, long, IsInside, IsUsable, IsEmptyGroup, value_inside, group_with, group_with_key, group_without}
 use Rattle.judy_hs.specs.Keyed.{Keyed, no_keys, group_at, in_place, IsSpot, IsNewSpot, keyed_with, with_group, added_keyed, keyed_without, without_group}
 use Rattle.judy_hs.specs.Parts.{part_of}
-use Rattle.judy_hs.specs.Kept.{value_of, map_of, array_of, IsHs}
+use Rattle.judy_hs.specs.Kept.{value_of, map_of, array_of, IsKeyed, IsHs}
 use Rattle.judy_hs.specs.Slots.{with_value}
 use Rattle.judy_hs.proofs.GroupSteps.{some_none}
 use Rattle.judy_hs.proofs.GroupChanges.{group-write, group-add, group-remove, inside-usable, value-inside, inside-some, empty-none, set_within}

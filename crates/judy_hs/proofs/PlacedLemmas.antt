@@ -89,7 +89,7 @@ module _ (hash_of : List ℕ → ℕ) (longest : ℕ) where
   -- ---- in an array
 
   module _ (limit count : ℕ) (before : Keyed) (is : IsHs hash_of longest limit count before) (after : Keyed) (key : List ℕ) where
-    module _ (spot : KeyPlace) (is_new : Bool) (placed : IsPlaced hash_of longest before after key spot is_new) (room : IsTrue is_new → count ≢ limit) where
+    module _ (spot : KeyPlace) (is_new : Bool) (placed : IsPlaced hash_of longest before after key spot is_new) (room : IsTrue is_new → IsFalse (count == limit)) where
       -- How many keys there are then, and that the limit isn't reached before, by whether the key was there.
       record IsCounted : Type 0 where
         counted : count + from_bool is_new ≡ len (map_of hash_of longest after)
@@ -101,7 +101,7 @@ module _ (hash_of : List ℕ → ℕ) (longest : ℕ) where
       by_found None none =
           let new : is_new ≡ true = placed.new_is ∙ ap (λ (o : Option ℕ). not (is_some o)) none in
           let map_is = placed.map_is ∙ ins_absent (map_of hash_of longest before) key none in
-          let differs = room new in
+          let differs : count ≢ limit = λ e. false≢true (sym (room new) ∙ eq-eqb count limit e) in
           let below = is.within_limit in
           record {
             counted =

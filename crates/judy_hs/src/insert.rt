@@ -1,6 +1,6 @@
 //! How an insert finds the place of a key, or makes one.
 
-ghost use Rattle.std.specs.Prelude.{◌≡◌, ◌≤◌, IfOk, IfErr, None, IsTrue, IsFalse, length};
+ghost use Rattle.std.specs.Prelude.{◌≡◌, ◌≤◌, IfOk, IfErr, None, IsTrue, IsFalse, false, length};
 ghost use Rattle.judy_hs.specs.Kept.{IsKeyed, value_of};
 ghost use Rattle.judy_hs.specs.Placed.{IsPlaced, IsUnplaced};
 
