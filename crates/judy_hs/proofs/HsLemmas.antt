@@ -1,18 +1,17 @@
 -- Arrays: what the changes of their groups make of them.
-use Rattle.std.proofs.Common.{◌≡◌, ◌≢◌, ℕ, ◌+◌, ◌-◌, ◌<◌, ◌≤◌, ◌==◌, Bool, true, false, not, cond, List, length, get_or, set, Option, Some, None, is_some, IsSome, Result, Ok, Err}
-use Rattle.std.proofs.Common.{IsOk, IfOk, OnOk, IfErr, MutBor, IsTrue, IsFalse, ◌↔◌, eq-eqb, refl, sym, ap, ◌∙◌, subst, ◌⊎◌, inl, inr, ⊎_elim, arith}
+use Rattle.std.proofs.Common.{◌≡◌, ℕ, ◌+◌, ◌-◌, ◌<◌, ◌≤◌, ◌==◌, true, false, cond, List, length, get_or, set, Option, Some, None, is_some, Result, Ok, Err}
+use Rattle.std.proofs.Common.{IsOk, IfOk, OnOk, IfErr, MutBor, IsTrue, ◌↔◌, eq-eqb, refl, sym, ap, ◌∙◌, subst, ◌⊎◌, inl, inr, ⊎_elim, arith}
 use Rattle.std.specs.FinMap.{FinMap, get, insert, remove, empty, len, contains_key, len-empty, len-insert, len-remove, get-empty, empty_of_len}
 use Rattle.std.specs.Borrow.{name_if_ok}
 use borrow.Follows.Closed.{read_of}
-use Rattle.std.proofs.lemmas.Bool.{ne_eqb, false≢true}
+use Rattle.std.proofs.lemmas.Bool.{false≢true}
 use Rattle.std.proofs.lemmas.Bool.Decides.{Decides-eqb}
 use Rattle.std.proofs.lemmas.List.{get_or_default}
 use Rattle.judy_model.specs.Keys.{word_order, byte_order}
 use Rattle.judy_model.specs.KeyLengths.{IsBytesKeyTo}
-use Rattle.judy_model.specs.Arrays.{ArrayOf, with_map, empty_array, ins, del, is_full}
+use Rattle.judy_model.specs.Arrays.{ArrayOf, with_map, empty_array, del}
 use Rattle.judy_model.proofs.lemmas.maps.TableLemmas.{bytes_keys-all, byte_order_total, byte_order_same, get-table, get-table_bad, table_none}
-use Rattle.judy_model.proofs.lemmas.maps.ChangesLemmas.{write-write, del_absent}
-use Rattle.judy_model.proofs.lemmas.maps.Inserts.{ins_present, ins_absent, is_full_present, is_full_absent}
+use Rattle.judy_model.proofs.lemmas.maps.ChangesLemmas.{del_absent}
 use Rattle.judy_hs.specs.declared.error.HsError.{HsError}
 use Rattle.judy_hs.specs.declared.group.Inside.{Inside}
 use Rattle.judy_hs.specs.Groups.{Group, none, short, long, IsInside, IsUsable, IsEmptyGroup, value_inside, group_with, group_with_key, group_without}

@@ -1,6 +1,6 @@
 -- What an insert makes of the groups of an array, and so of the array.
-use Rattle.std.proofs.Common.{◌≡◌, ◌≢◌, ℕ, ◌+◌, ◌≤◌, ◌==◌, Bool, true, false, not, cond, List, length, Option, Some, None, is_some, IsSome, IsTrue, IsFalse, eq-eqb, refl, sym, ap, ◌∙◌, subst, arith}
-use Rattle.std.specs.FinMap.{FinMap, get, insert, len, contains_key, len-insert}
+use Rattle.std.proofs.Common.{◌≡◌, ◌≢◌, ℕ, ◌+◌, ◌≤◌, ◌==◌, Bool, true, false, not, cond, List, length, Option, Some, None, is_some, IsTrue, IsFalse, eq-eqb, refl, sym, ap, ◌∙◌, subst, arith}
+use Rattle.std.specs.FinMap.{FinMap, get, len, contains_key, len-insert}
 use Rattle.std.specs.Int.{from_bool}
 use Rattle.std.proofs.lemmas.Bool.{ne_eqb, false≢true}
 use Rattle.judy_model.specs.Keys.{byte_order}
@@ -11,16 +11,15 @@ use Rattle.judy_model.proofs.lemmas.maps.ChangesLemmas.{write-write}
 use Rattle.judy_model.proofs.lemmas.maps.Inserts.{ins_present, ins_absent, is_full_present, is_full_absent}
 use Rattle.judy_hs.specs.declared.error.HsError.{HsError}
 use Rattle.judy_hs.specs.declared.groups.KeyPlace.{KeyPlace}
-use Rattle.judy_hs.specs.Groups.{IsUsable, value_inside}
+use Rattle.judy_hs.specs.Groups.{value_inside}
 use Rattle.judy_hs.specs.Keyed.{Keyed, group_at, IsSpot, IsNewSpot, keyed_with, added_keyed}
 use Rattle.judy_hs.specs.Parts.{part_of}
 use Rattle.judy_hs.specs.Kept.{value_of, map_of, array_of, IsKeyed, IsHs}
 use Rattle.judy_hs.specs.Placed.{IsPlaced, IsUnplaced, why_not}
-use Rattle.judy_hs.specs.Refusals.{IsRefusal}
 use Rattle.judy_hs.specs.Relaid.{IsRelaidKeyed}
 use Rattle.judy_hs.specs.Slots.{with_value}
-use Rattle.judy_hs.proofs.HsLemmas.{get_is, spot-value, spot-usable, spot-some, added, array-written, IsHs-written}
-use Rattle.judy_hs.proofs.RelaidLemmas.{relaid-map, relaid-keyed}
+use Rattle.judy_hs.proofs.HsLemmas.{get_is, spot-value, spot-some, added, array-written, IsHs-written}
+use Rattle.judy_hs.proofs.RelaidLemmas.{relaid-map}
 
 module _ (hash_of : List ℕ → ℕ) (longest : ℕ) where
   -- ---- in groups
@@ -138,14 +137,6 @@ module _ (hash_of : List ℕ → ℕ) (longest : ℕ) where
         limit_fits = is.limit_fits;
       }
 
-      pub placed-usable : IsUsable (group_at after spot.group) spot.inside key
-      placed-usable = spot-usable hash_of longest after key placed.is_key spot.group spot.inside placed.is_spot
-
-      pub placed-some : IsSome (value_inside (group_at after spot.group) spot.inside key)
-      placed-some =
-          let held = spot-some hash_of longest after key placed.is_key spot.group spot.inside placed.is_spot in
-          ap (λ (found : Option ℕ). is_some found) (sym (spot-value hash_of longest after key placed.is_key spot.group spot.inside placed.is_spot) ∙ held.1)
-
       pub placed-value : (slot : ℕ) → Some slot ≡ value_inside (group_at after spot.group) spot.inside key → Some slot ≡ get (ins (map_of hash_of longest before) key) key
       placed-value slot e =
           e ∙ sym (spot-value hash_of longest after key placed.is_key spot.group spot.inside placed.is_spot) ∙ ap (λ (map : FinMap byte_order ℕ). get map key) placed.map_is
@@ -158,23 +149,3 @@ module _ (hash_of : List ℕ → ℕ) (longest : ℕ) where
       written-array value =
           array-written hash_of longest limit (count + from_bool is_new) after placed-hs key placed.is_key spot.group spot.inside placed.is_spot value
           ∙ ap (λ (map : FinMap byte_order ℕ). record { limit = limit; map = map }) (is_counted.written value)
-
-    module _ (error : HsError) (unplaced : IsUnplaced hash_of longest before after key (count == limit) error) where
-      pub unplaced-hs : IsHs hash_of longest limit count after
-      unplaced-hs = record {
-        is_keyed = unplaced.is_keyed;
-        counted = is.counted ∙ ap len (sym unplaced.map_is);
-        within_limit = is.within_limit;
-        holds_some = is.holds_some;
-        limit_fits = is.limit_fits;
-      }
-
-      pub unplaced-array : array_of hash_of longest limit after ≡ array_of hash_of longest limit before
-      unplaced-array = ap (λ (map : FinMap byte_order ℕ). record { limit = limit; map = map }) unplaced.map_is
-
-      by_full : (full : Bool) → (count == limit) ≡ full → length key ≤ longest → IsRefusal longest (array_of hash_of longest limit before) key (why_not full)
-      by_full true e fits = (fits, is_full_absent (array_of hash_of longest limit before) key unplaced.absent ∙ ap (λ n. n == limit) (sym is.counted) ∙ e)
-      by_full false e fits = (fits, unplaced.absent, is_full_absent (array_of hash_of longest limit before) key unplaced.absent ∙ ap (λ n. n == limit) (sym is.counted) ∙ e)
-
-      pub unplaced-refusal : length key ≤ longest → IsRefusal longest (array_of hash_of longest limit before) key error
-      unplaced-refusal fits = subst (IsRefusal longest (array_of hash_of longest limit before) key) (sym unplaced.error_is) (by_full (count == limit) refl fits)

@@ -10,8 +10,8 @@ use crate::hash::ByteHash;
 use crate::part::part_of;
 use crate::trial::Trial;
 
-// A walk that is to make room for a key that was refused memory takes at most so many steps for each key that went
-// since the last one.
+// A walk over the keys of a length that is to make room takes at most so many steps for each of them that went since
+// the last one. So inserts that are refused one after another, with few deletes between them, take no walk each.
 const MOST_STEPS: u64 = 32;
 
 // Where a key stands, and whether it is new there.

@@ -78,6 +78,9 @@ impl<H: ByteHash + Drop> JudyHs<H> {
     /// The first that applies: `TooLong` where the key has more than `H::LONGEST` bytes; `Full` where it is absent and
     /// the array holds as many keys as its limit (both limits are this project's own); `NoMemory`, only where it is
     /// absent and the array isn't full. Each leaves the array as it was.
+    ///
+    /// Where memory is refused, keys move together as by `shrink`, of each length of which at least one went for each 32
+    /// that are there; and where one moved, the insert is tried once more. (This project's own.)
     pub fn ins(&mut self, key: &[u8]) -> Result<&mut u64, HsError>
         ensures* writes_back { sem 𝓛 (LendsIns H.row H.ByteHash self.entry key.now result) }
         ensures value { IfOk result
@@ -155,8 +158,9 @@ impl<H: ByteHash + Drop> JudyHs<H> {
     }
 
     /// Moves keys together, so that memory which deletes left free within the array's pages goes back: one walk over
-    /// all keys, of use after many deletes. Then the keys of each length have at most one page with free places. It
-    /// asks for no memory and can't fail, and changes no key and no value. (This project's own.)
+    /// the keys of each length of which some went since, of use after many deletes. Then the keys of each length have
+    /// at most one page with free places. It asks for no memory and can't fail, and changes no key and no value. (This
+    /// project's own.)
     ///
     /// A key that shares its hash with another one stays where it is, and so does one of more than 1,024 bytes. Keys of
     /// up to 8 bytes stand in no page.

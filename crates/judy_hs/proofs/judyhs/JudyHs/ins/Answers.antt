@@ -1,4 +1,3 @@
-use Rattle.std.proofs.Common.{◌≡◌, IsTrue, IsFalse, ◌==◌}
 use Rattle.judy_hs.proofs.HsLemmas.{ok_only, on_ok, if_ok, if_err}
 use Rattle.judy_hs.proofs.PlacedLemmas.{placed-hs, placed-value, placed-accepted, written-hs, written-array}
 use Rattle.judy_hs.proofs.judyhs.JudyHs.ins.Goals as goal
