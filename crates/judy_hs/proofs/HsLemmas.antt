@@ -14,13 +14,13 @@ use Rattle.judy_model.proofs.lemmas.maps.TableLemmas.{bytes_keys-all, byte_order
 use Rattle.judy_model.proofs.lemmas.maps.ChangesLemmas.{del_absent}
 use Rattle.judy_hs.specs.declared.error.HsError.{HsError}
 use Rattle.judy_hs.specs.declared.group.Inside.{Inside}
-use Rattle.judy_hs.specs.Groups.{Group, none, short, long, IsInside, IsUsable, IsEmptyGroup, value_inside, group_with, group_with_key, group_without}
+use Rattle.judy_hs.specs.Groups.{Group, none, short, long, IsInside, IsEmptyGroup, value_inside, group_with, group_with_key, group_without}
 use Rattle.judy_hs.specs.Keyed.{Keyed, no_keys, group_at, in_place, IsSpot, IsNewSpot, keyed_with, with_group, added_keyed, keyed_without, without_group}
 use Rattle.judy_hs.specs.Parts.{part_of}
 use Rattle.judy_hs.specs.Kept.{value_of, map_of, array_of, IsKeyed, IsHs}
 use Rattle.judy_hs.specs.Slots.{with_value}
 use Rattle.judy_hs.proofs.GroupSteps.{some_none}
-use Rattle.judy_hs.proofs.GroupChanges.{group-write, group-add, group-remove, inside-usable, value-inside, inside-some, empty-none, set_within}
+use Rattle.judy_hs.proofs.GroupChanges.{group-write, group-add, group-remove, value-inside, inside-some, empty-none, set_within}
 use Rattle.judy_hs.proofs.TwoLevels.{get_or-set_here, same_or_not}
 use Rattle.judy_hs.proofs.KeyedSteps.{IsMade, IsPut, made-set, made-without, made-gone, put-group}
 
@@ -72,9 +72,6 @@ module _ (hash_of : List ℕ → ℕ) (longest : ℕ) where
     module _ (is_key : IsBytesKeyTo longest key) (place : ℕ) (inside : Inside) (spot : IsSpot keyed (part_of hash_of key) key place inside) where
       pub spot-value : get (map_of hash_of longest keyed) key ≡ value_inside (group_at keyed place) inside key
       spot-value = get_is is_key ∙ ap (λ found. in_place keyed found (part_of hash_of key) key) spot.leads ∙ value-inside hash_of key is_key.is_byte_string (group_at keyed place) inside spot.is_inside
-
-      pub spot-usable : IsUsable (group_at keyed place) inside key
-      spot-usable = inside-usable hash_of key is_key.is_byte_string (group_at keyed place) inside spot.is_inside
 
       pub spot-some : (value : ℕ) × (get (map_of hash_of longest keyed) key ≡ Some value)
       spot-some =

@@ -79,8 +79,8 @@ impl<H: ByteHash + Drop> JudyHs<H> {
     /// the array holds as many keys as its limit (both limits are this project's own); `NoMemory`, only where it is
     /// absent and the array isn't full. Each leaves the array as it was.
     ///
-    /// Where memory is refused, keys move together as by `shrink`, of each length of which at least one went for each 32
-    /// that are there; and where one moved, the insert is tried once more. (This project's own.)
+    /// Where memory is refused, keys move together as by `shrink`, of each length of which at least one went for each
+    /// 32 that are there; and where one moved, the insert is tried once more. (This project's own.)
     pub fn ins(&mut self, key: &[u8]) -> Result<&mut u64, HsError>
         ensures* writes_back { sem 𝓛 (LendsIns H.row H.ByteHash self.entry key.now result) }
         ensures value { IfOk result
