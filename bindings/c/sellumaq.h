@@ -566,7 +566,8 @@ bool sellumaq_judyhs_walk(const sellumaq_judyhs *map, size_t behind, uint8_t *by
 uint64_t sellumaq_judyhs_len(const sellumaq_judyhs *map);
 
 /* Moves keys together, as sellumaq_judysl_shrink does. A key of at most 8 bytes or of more than 1,024, and one that
- * shares its hash with another, stays where it is. */
+ * shares its hash with another, stays where it is. An insert that is refused memory after many deletes does the same
+ * itself, and is tried once more before it answers. */
 void sellumaq_judyhs_shrink(sellumaq_judyhs *map);
 
 /* Gives all memory back, and answers how many keys there were. The handle is the empty array then. */

@@ -1,14 +1,16 @@
 /* What shrink leaves of maps of strings from which most keys went: the same keys, and no pages but full ones and one of
  * each length. Beside these the trees of words by which keys are found keep room, some bytes for each key that there
- * was. No call for memory is answered meanwhile. */
+ * was. No call for memory is answered meanwhile. And what an insert does itself that is refused memory: it shrinks the
+ * map, and is tried once more. */
 #include <string.h>
 
 #include "../sellumaq.h"
 #include "check.h"
 #include "refusing.h"
 
-/* ROOM is for how many bytes a key. */
-enum { MOST = 40000, LONGEST = 1100, ROOM = 8 };
+/* ROOM is for how many bytes a key, CAP how many bytes a map may take that is filled. JUDYSL_SHRINKS says whether an
+ * insert into a judysl that is refused memory shrinks the map, as one into a judyhs does. */
+enum { MOST = 40000, LONGEST = 1100, ROOM = 8, CAP = 4 << 20, JUDYSL_SHRINKS = 0 };
 
 typedef struct {
     const char *name;
@@ -117,6 +119,63 @@ static bool shrunk(const Kind *kind, Spell *spell, unsigned one_of) {
     return left * 10 <= copy * 13 + 10 * ROOM * MOST;
 }
 
+/* The key of a number below a million that has so many bytes, from 9 to 32: keys of two lengths begin differently. */
+static size_t key_of(unsigned n, size_t length, uint8_t *key) {
+    sprintf((char *)key, "%016llx%016x", 0x9E3779B97F4A7C15ull * (length * 1000000 + n), n);
+    return length;
+}
+
+/* Puts keys of so many bytes in until one is refused, and answers how many there were. */
+static unsigned fill_up(const Kind *kind, void *map, size_t length) {
+    uint8_t key[LONGEST];
+    unsigned n = 0;
+    while (kind->put(map, key, key_of(n, length, key), n) == SELLUMAQ_ADDED) n++;
+    return n;
+}
+
+/* One key of each page stays, or a few: the records of a new map stand in the order in which they came. */
+static bool is_left(unsigned n) { return n % 128 == 0 && (n < 64 * 128 || n % 1024 == 0); }
+
+static void check_left(const Kind *kind, const void *map, size_t length, unsigned keys) {
+    uint8_t key[LONGEST];
+    uint64_t value;
+    for (unsigned n = 0; n < keys; n++) {
+        bool there = kind->get(map, key, key_of(n, length, key), &value);
+        CHECK(there == is_left(n) && (!there || value == n));
+    }
+}
+
+static void check_filled(const Kind *kind, const void *map, size_t length, unsigned keys) {
+    uint8_t key[LONGEST];
+    uint64_t value;
+    for (unsigned n = 0; n < keys; n++) CHECK(kind->get(map, key, key_of(n, length, key), &value) && value == n);
+    CHECK(!kind->get(map, key, key_of(keys, length, key), &value));
+}
+
+/* A map has all the memory that it may take, and keeps one key of each page. Then at least 95 % as many keys of another
+ * length have room, whose records take no more words. */
+static void filled_again(const Kind *kind, size_t length, size_t other) {
+    void *map[1] = {NULL};
+    uint8_t key[LONGEST];
+    uint64_t left = 0;
+    long blocks = held;
+    most_bytes = held_bytes + CAP;
+    unsigned first = fill_up(kind, map, length);
+    for (unsigned n = 0; n < first; n++) {
+        if (is_left(n)) left++;
+        else CHECK(kind->del(map, key, key_of(n, length, key)));
+    }
+    unsigned then = fill_up(kind, map, other);
+    CHECK(then * 100ull >= first * 95ull);
+    CHECK(kind->len(map) == left + then);
+    check_left(kind, map, length, first);
+    check_filled(kind, map, other, then);
+    most_bytes = (size_t)-1;
+    CHECK(kind->put(map, key, key_of(then, other, key), then) == SELLUMAQ_ADDED);
+    CHECK(kind->free(map) == left + then + 1);
+    CHECK(held == blocks);
+}
+
 int main(void) {
     static Spell *const spells[] = {digits, lengths, pairs};
     static const Kind *const kinds[] = {&judysl, &judyhs};
@@ -131,5 +190,7 @@ int main(void) {
                 /* Levels of strings that went keep their places in the list of levels. */
                 CHECK(is_small || (kinds[kind] == &judysl && spells[spell] == pairs));
             }
+    filled_again(&judyhs, 16, 15);
+    if (JUDYSL_SHRINKS) filled_again(&judysl, 24, 16);
     return 0;
 }

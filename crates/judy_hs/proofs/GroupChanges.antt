@@ -13,7 +13,7 @@ use Rattle.judy_hs.specs.declared.group.Inside.{Inside}
 use Rattle.judy_hs.specs.declared.group.Inside.TheVariants.{Word, Chained}
 use Rattle.judy_hs.specs.Chains.{Pairs, value_in, with_value, joined, without, AreApart}
 use Rattle.judy_hs.specs.LongGroups.{Long, chain_at, in_chain, IsLongPlace, IsFound, added_long, hashes_without, put_at}
-use Rattle.judy_hs.specs.Groups.{Group, none, short, long, in_group, IsInside, IsNewInside, IsUsable, IsEmptyGroup, value_inside, group_with, group_with_key, group_without}
+use Rattle.judy_hs.specs.Groups.{Group, none, short, long, in_group, IsInside, IsNewInside, IsEmptyGroup, value_inside, group_with, group_with_key, group_without}
 use Rattle.judy_hs.specs.Parts.{part_of}
 use Rattle.judy_hs.specs.Kept.{IsUsed, IsLong, IsGroup}
 use Rattle.judy_hs.proofs.ChainLemmas.{has_some, some_is, value_in-head, value_in-written, value_in-written_other, value_in-joined, value_in-joined_other, value_in-without}
@@ -86,12 +86,6 @@ module _ (hash_of : List ℕ → ℕ) (key : List ℕ) (bytes : IsByteString key
       }
 
   -- What stands there is in the group, and has the value of the key.
-  pub inside-usable : (group : Group) (inside : Inside) → IsInside group (part_of hash_of key) key inside → IsUsable group inside key
-  inside-usable none inside there = tt
-  inside-usable (short words) inside there = tt
-  inside-usable (long group) (Word word) there = tt
-  inside-usable (long group) (Chained place) there = (there.within, there.is_there)
-
   pub value-inside : (group : Group) (inside : Inside) → IsInside group (part_of hash_of key) key inside → in_group group (part_of hash_of key) key ≡ value_inside group inside key
   value-inside none inside there = absurd there
   value-inside (short words) (Word word) there = ap (get words.map) (sym there.0)

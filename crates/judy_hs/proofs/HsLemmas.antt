@@ -1,27 +1,26 @@
 -- Arrays: what the changes of their groups make of them.
-use Rattle.std.proofs.Common.{◌≡◌, ◌≢◌, ℕ, ◌+◌, ◌-◌, ◌<◌, ◌≤◌, ◌==◌, Bool, true, false, not, cond, List, length, get_or, set, Option, Some, None, is_some, IsSome, Result, Ok, Err}
-use Rattle.std.proofs.Common.{IsOk, IfOk, OnOk, IfErr, MutBor, IsTrue, IsFalse, ◌↔◌, eq-eqb, refl, sym, ap, ◌∙◌, subst, ◌⊎◌, inl, inr, ⊎_elim, arith}
+use Rattle.std.proofs.Common.{◌≡◌, ℕ, ◌+◌, ◌-◌, ◌<◌, ◌≤◌, ◌==◌, true, false, cond, List, length, get_or, set, Option, Some, None, is_some, Result, Ok, Err}
+use Rattle.std.proofs.Common.{IsOk, IfOk, OnOk, IfErr, MutBor, IsTrue, ◌↔◌, eq-eqb, refl, sym, ap, ◌∙◌, subst, ◌⊎◌, inl, inr, ⊎_elim, arith}
 use Rattle.std.specs.FinMap.{FinMap, get, insert, remove, empty, len, contains_key, len-empty, len-insert, len-remove, get-empty, empty_of_len}
 use Rattle.std.specs.Borrow.{name_if_ok}
 use borrow.Follows.Closed.{read_of}
-use Rattle.std.proofs.lemmas.Bool.{ne_eqb, false≢true}
+use Rattle.std.proofs.lemmas.Bool.{false≢true}
 use Rattle.std.proofs.lemmas.Bool.Decides.{Decides-eqb}
 use Rattle.std.proofs.lemmas.List.{get_or_default}
 use Rattle.judy_model.specs.Keys.{word_order, byte_order}
 use Rattle.judy_model.specs.KeyLengths.{IsBytesKeyTo}
-use Rattle.judy_model.specs.Arrays.{ArrayOf, with_map, empty_array, ins, del, is_full}
+use Rattle.judy_model.specs.Arrays.{ArrayOf, with_map, empty_array, del}
 use Rattle.judy_model.proofs.lemmas.maps.TableLemmas.{bytes_keys-all, byte_order_total, byte_order_same, get-table, get-table_bad, table_none}
-use Rattle.judy_model.proofs.lemmas.maps.ChangesLemmas.{write-write, del_absent}
-use Rattle.judy_model.proofs.lemmas.maps.Inserts.{ins_present, ins_absent, is_full_present, is_full_absent}
+use Rattle.judy_model.proofs.lemmas.maps.ChangesLemmas.{del_absent}
 use Rattle.judy_hs.specs.declared.error.HsError.{HsError}
 use Rattle.judy_hs.specs.declared.group.Inside.{Inside}
-use Rattle.judy_hs.specs.Groups.{Group, none, short, long, IsInside, IsUsable, IsEmptyGroup, value_inside, group_with, group_with_key, group_without}
+use Rattle.judy_hs.specs.Groups.{Group, none, short, long, IsInside, IsEmptyGroup, value_inside, group_with, group_with_key, group_without}
 use Rattle.judy_hs.specs.Keyed.{Keyed, no_keys, group_at, in_place, IsSpot, IsNewSpot, keyed_with, with_group, added_keyed, keyed_without, without_group}
 use Rattle.judy_hs.specs.Parts.{part_of}
-use Rattle.judy_hs.specs.Kept.{value_of, map_of, array_of, IsHs}
+use Rattle.judy_hs.specs.Kept.{value_of, map_of, array_of, IsKeyed, IsHs}
 use Rattle.judy_hs.specs.Slots.{with_value}
 use Rattle.judy_hs.proofs.GroupSteps.{some_none}
-use Rattle.judy_hs.proofs.GroupChanges.{group-write, group-add, group-remove, inside-usable, value-inside, inside-some, empty-none, set_within}
+use Rattle.judy_hs.proofs.GroupChanges.{group-write, group-add, group-remove, value-inside, inside-some, empty-none, set_within}
 use Rattle.judy_hs.proofs.TwoLevels.{get_or-set_here, same_or_not}
 use Rattle.judy_hs.proofs.KeyedSteps.{IsMade, IsPut, made-set, made-without, made-gone, put-group}
 
@@ -74,13 +73,37 @@ module _ (hash_of : List ℕ → ℕ) (longest : ℕ) where
       pub spot-value : get (map_of hash_of longest keyed) key ≡ value_inside (group_at keyed place) inside key
       spot-value = get_is is_key ∙ ap (λ found. in_place keyed found (part_of hash_of key) key) spot.leads ∙ value-inside hash_of key is_key.is_byte_string (group_at keyed place) inside spot.is_inside
 
-      pub spot-usable : IsUsable (group_at keyed place) inside key
-      spot-usable = inside-usable hash_of key is_key.is_byte_string (group_at keyed place) inside spot.is_inside
-
       pub spot-some : (value : ℕ) × (get (map_of hash_of longest keyed) key ≡ Some value)
       spot-some =
           let found = inside-some hash_of key is_key.is_byte_string (group_at keyed place) inside spot.is_inside in
           (found.0, get_is is_key ∙ ap (λ found. in_place keyed found (part_of hash_of key) key) spot.leads ∙ found.1)
+
+  -- ---- a key put in
+
+  module _ (keyed : Keyed) (is : IsKeyed hash_of longest keyed) (key : List ℕ) (is_key : IsBytesKeyTo longest key) where
+    put_key : (place : ℕ) (inside : Inside) (found : Option ℕ) → get keyed.lengths.map (length key) ≡ found → in_place keyed found (part_of hash_of key) key ≡ None →
+        IsNewSpot keyed (part_of hash_of key) key found place inside
+        → IsPut hash_of longest keyed is key is_key (added_keyed keyed (part_of hash_of key) key found place inside) place inside
+    put_key place inside None leads absent new =
+        subst (λ i. IsPut hash_of longest keyed is key is_key (with_group keyed (part_of hash_of key) key place) place i) (sym new.1)
+        (put-group hash_of longest keyed is key is_key place leads new.0)
+    put_key place inside (Some held) leads absent new =
+        let group = group_at keyed held in
+        let grown = group-add hash_of key is_key.is_byte_string group inside (is.groups (length key) held leads) absent new.2 in
+        record {
+          made = made-set hash_of longest keyed is key is_key held leads new.1 (group_with_key group (part_of hash_of key) key inside) 0 grown.changed;
+          spot = record {
+            leads = leads ∙ ap (λ (p : ℕ). Some p) (sym new.0);
+            within = set_within keyed.groups held place (group_with_key group (part_of hash_of key) key inside) new.0 new.1;
+            is_inside = subst (λ p. IsInside (get_or (set keyed.groups held (group_with_key group (part_of hash_of key) key inside)) p none) (part_of hash_of key) key inside) (sym new.0)
+                (subst (λ (g : Group). IsInside g (part_of hash_of key) key inside) (sym (get_or-set_here keyed.groups held
+                (group_with_key group (part_of hash_of key) key inside) none new.1)) grown.there);
+          };
+        }
+
+    pub added : (place : ℕ) (inside : Inside) → value_of hash_of keyed key ≡ None → IsNewSpot keyed (part_of hash_of key) key (get keyed.lengths.map (length key)) place inside →
+        IsPut hash_of longest keyed is key is_key (added_keyed keyed (part_of hash_of key) key (get keyed.lengths.map (length key)) place inside) place inside
+    added place inside absent new = put_key place inside (get keyed.lengths.map (length key)) refl absent new
 
   module _ (limit count : ℕ) (keyed : Keyed) (is : IsHs hash_of longest limit count keyed) (key : List ℕ) (is_key : IsBytesKeyTo longest key) where
     -- ---- a value written
@@ -103,52 +126,6 @@ module _ (hash_of : List ℕ → ℕ) (longest : ℕ) where
             is_keyed = made_with.is;
             counted = is.counted ∙ sym same;
             within_limit = is.within_limit;
-            holds_some = is.holds_some;
-            limit_fits = is.limit_fits;
-          }
-
-    -- ---- a key put in
-
-    put_key : (place : ℕ) (inside : Inside) (found : Option ℕ) → get keyed.lengths.map (length key) ≡ found → in_place keyed found (part_of hash_of key) key ≡ None →
-        IsNewSpot keyed (part_of hash_of key) key found place inside
-        → IsPut hash_of longest keyed is.is_keyed key is_key (added_keyed keyed (part_of hash_of key) key found place inside) place inside
-    put_key place inside None leads absent new =
-        subst (λ i. IsPut hash_of longest keyed is.is_keyed key is_key (with_group keyed (part_of hash_of key) key place) place i) (sym new.1)
-        (put-group hash_of longest keyed is.is_keyed key is_key place leads new.0)
-    put_key place inside (Some held) leads absent new =
-        let group = group_at keyed held in
-        let grown = group-add hash_of key is_key.is_byte_string group inside (is.is_keyed.groups (length key) held leads) absent new.2 in
-        record {
-          made = made-set hash_of longest keyed is.is_keyed key is_key held leads new.1 (group_with_key group (part_of hash_of key) key inside) 0 grown.changed;
-          spot = record {
-            leads = leads ∙ ap (λ (p : ℕ). Some p) (sym new.0);
-            within = set_within keyed.groups held place (group_with_key group (part_of hash_of key) key inside) new.0 new.1;
-            is_inside = subst (λ p. IsInside (get_or (set keyed.groups held (group_with_key group (part_of hash_of key) key inside)) p none) (part_of hash_of key) key inside) (sym new.0)
-                (subst (λ (g : Group). IsInside g (part_of hash_of key) key inside) (sym (get_or-set_here keyed.groups held
-                (group_with_key group (part_of hash_of key) key inside) none new.1)) grown.there);
-          };
-        }
-
-    module _ (place : ℕ) (inside : Inside) (absent : value_of hash_of keyed key ≡ None) (new : IsNewSpot keyed (part_of hash_of key) key (get keyed.lengths.map (length key)) place inside) where
-      put : IsPut hash_of longest keyed is.is_keyed key is_key (added_keyed keyed (part_of hash_of key) key (get keyed.lengths.map (length key)) place inside) place inside
-      put = put_key place inside (get keyed.lengths.map (length key)) refl absent new
-
-      pub added-spot : IsSpot (added_keyed keyed (part_of hash_of key) key (get keyed.lengths.map (length key)) place inside) (part_of hash_of key) key place inside
-      added-spot = put.spot
-
-      pub added-map : map_of hash_of longest (added_keyed keyed (part_of hash_of key) key (get keyed.lengths.map (length key)) place inside) ≡ insert (map_of hash_of longest keyed) key 0
-      added-map = put.made.map_is
-
-      pub IsHs-added : count ≢ limit → IsHs hash_of longest limit (count + 1) (added_keyed keyed (part_of hash_of key) key (get keyed.lengths.map (length key)) place inside)
-      IsHs-added room =
-          let within = is.within_limit in
-          let more : len (map_of hash_of longest (added_keyed keyed (part_of hash_of key) key (get keyed.lengths.map (length key)) place inside)) ≡ len (map_of hash_of longest keyed) + 1 =
-          ap len put.made.map_is ∙ len-insert byte_order_total (map_of hash_of longest keyed) key 0 ∙
-          ap (λ (found : Option ℕ). cond (is_some found) (len (map_of hash_of longest keyed)) (len (map_of hash_of longest keyed) + 1)) (get_is keyed key is_key ∙ absent) in
-          record {
-            is_keyed = put.made.is;
-            counted = ap (λ n. n + 1) is.counted ∙ sym more;
-            within_limit = omega arith;
             holds_some = is.holds_some;
             limit_fits = is.limit_fits;
           }
@@ -236,10 +213,6 @@ counts_one map key value count held counted = ⊎_elim
 
 -- ---- an insert
 
--- Where a key is tried as a new one, there is room.
-pub room-tried : (count limit : ℕ) (tries : Bool) → tries ≡ not (count == limit) → IsTrue tries → count ≢ limit
-room-tried count limit tries is tried full = false≢true (sym (ap not (eq-eqb count limit full)) ∙ sym is ∙ tried)
-
 -- A result that is Ok lends alike where it lends alike for each value.
 pub ok_only : {D : Type 0} (r : Result (MutBor ℕ) HsError) → IsOk r → (one two : ℕ → D) (x y : D) → ((w : ℕ) → one w ≡ two w)
     → read_of (name_if_ok (λ (b : MutBor ℕ). b.ghost_name) r) one x ≡ read_of (name_if_ok (λ (b : MutBor ℕ). b.ghost_name) r) two y
@@ -257,51 +230,3 @@ if_err (Err error) P is = absurd (false≢true is)
 pub if_ok : (r : Result (MutBor ℕ) HsError) (P Q : MutBor ℕ → Type 0) → ((slot : MutBor ℕ) → P slot → Q slot) → IfOk r P → IfOk r Q
 if_ok (Ok slot) P Q f h = f slot h
 if_ok (Err error) P Q f h = tt
-
-module _ (hash_of : List ℕ → ℕ) (longest limit count : ℕ) (keyed : Keyed) (is : IsHs hash_of longest limit count keyed) (key : List ℕ) (is_key : IsBytesKeyTo longest key) where
-  pub full-absent : value_of hash_of keyed key ≡ None → count ≡ limit → IsTrue (is_full (array_of hash_of longest limit keyed) key)
-  full-absent absent full = is_full_absent (array_of hash_of longest limit keyed) key (get_is hash_of longest keyed key is_key ∙ absent) ∙ eq-eqb _ _ (sym is.counted ∙ full)
-
-  pub room-absent : value_of hash_of keyed key ≡ None → count ≢ limit → IsFalse (is_full (array_of hash_of longest limit keyed) key)
-  room-absent absent room = is_full_absent (array_of hash_of longest limit keyed) key (get_is hash_of longest keyed key is_key ∙ absent) ∙ ne_eqb _ _ (λ e. room (is.counted ∙ e))
-
-  module _ (place : ℕ) (inside : Inside) (spot : IsSpot keyed (part_of hash_of key) key place inside) where
-    pub present-some : IsSome (value_inside (group_at keyed place) inside key)
-    present-some =
-        let held = spot-some hash_of longest keyed key is_key place inside spot in ap (λ (found : Option ℕ). is_some found)
-        (sym (spot-value hash_of longest keyed key is_key place inside spot) ∙ held.1)
-
-    pub present-room : IsFalse (is_full (array_of hash_of longest limit keyed) key)
-    present-room = let held = spot-some hash_of longest keyed key is_key place inside spot in is_full_present (array_of hash_of longest limit keyed) key held.0 held.1
-
-    pub present-value : (slot : ℕ) → Some slot ≡ value_inside (group_at keyed place) inside key → Some slot ≡ get (ins (map_of hash_of longest keyed) key) key
-    present-value slot e =
-        let held = spot-some hash_of longest keyed key is_key place inside spot in
-        e ∙ sym (spot-value hash_of longest keyed key is_key place inside spot) ∙ ap (λ (map : FinMap byte_order ℕ). get map key) (sym (ins_present (map_of hash_of longest keyed) key held.0 held.1))
-
-  module _ (place : ℕ) (inside : Inside) (absent : value_of hash_of keyed key ≡ None) (new : IsNewSpot keyed (part_of hash_of key) key (get keyed.lengths.map (length key)) place inside)
-      (after : Keyed) (made : after ≡ added_keyed keyed (part_of hash_of key) key (get keyed.lengths.map (length key)) place inside) where
-    pub after-spot : IsSpot after (part_of hash_of key) key place inside
-    after-spot = subst (λ k. IsSpot k (part_of hash_of key) key place inside) (sym made) (added-spot hash_of longest limit count keyed is key is_key place inside absent new)
-
-    after_map : map_of hash_of longest after ≡ insert (map_of hash_of longest keyed) key 0
-    after_map = ap (map_of hash_of longest) made ∙ added-map hash_of longest limit count keyed is key is_key place inside absent new
-
-    pub after-hs : count ≢ limit → IsHs hash_of longest limit (count + 1) after
-    after-hs room = subst (IsHs hash_of longest limit (count + 1)) (sym made) (IsHs-added hash_of longest limit count keyed is key is_key place inside absent new room)
-
-    pub after-some : IsSome (value_inside (group_at after place) inside key)
-    after-some =
-        let held = spot-some hash_of longest after key is_key place inside after-spot in ap (λ (found : Option ℕ). is_some found)
-        (sym (spot-value hash_of longest after key is_key place inside after-spot) ∙ held.1)
-
-    pub after-value : (slot : ℕ) → Some slot ≡ value_inside (group_at after place) inside key → Some slot ≡ get (ins (map_of hash_of longest keyed) key) key
-    after-value slot e =
-        e ∙ sym (spot-value hash_of longest after key is_key place inside after-spot)
-        ∙ ap (λ (map : FinMap byte_order ℕ). get map key) (after_map ∙ sym (ins_absent (map_of hash_of longest keyed) key (get_is hash_of longest keyed key is_key ∙ absent)))
-
-    pub after-written : count ≢ limit → (value : ℕ) → array_of hash_of longest limit (keyed_with after place inside key value) ≡ with_value (array_of hash_of longest limit keyed) key value
-    after-written room value =
-        array-written hash_of longest limit (count + 1) after (after-hs room) key is_key place inside after-spot value
-        ∙ ap (λ (map : FinMap byte_order ℕ). record { limit = limit; map = map })
-        (ap (λ (map : FinMap byte_order ℕ). insert map key value) after_map ∙ write-write byte_order_total (map_of hash_of longest keyed) key byte_order_same 0 value)

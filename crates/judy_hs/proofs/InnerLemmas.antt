@@ -12,7 +12,7 @@ use Rattle.judy_model.specs.WordBytes.{number_of, low_bytes}
 use Rattle.judy_model.proofs.lemmas.orders.ByteLemmas.{length-low_bytes, number_of-low_bytes}
 use Rattle.judy_model.proofs.lemmas.maps.TableLemmas.{bytes_keys-all, get-table, table_some}
 use Rattle.judy_hs.specs.LongGroups.{Long, chain_at, in_chain}
-use Rattle.judy_hs.specs.Groups.{Group, none, short, long, in_group, words_of, IsOfLength}
+use Rattle.judy_hs.specs.Groups.{Group, none, short, long, in_group, words_of}
 use Rattle.judy_hs.specs.Keyed.{Keyed, group_at, in_place, words_at}
 use Rattle.judy_hs.specs.Parts.{part_of}
 use Rattle.judy_hs.specs.Kept.{IsShort, IsLong, IsGroup, IsKeyed, value_of, map_of}
@@ -177,19 +177,6 @@ module _ (hash_of : List ℕ → ℕ) (longest : ℕ) (keyed : Keyed) (is : IsKe
         | None ↦ λ e. tt
         | Some place ↦ λ e. long_form n place e many (group_at keyed place) refl (is.groups n place e)
       ] refl
-
-module _ (hash_of : List ℕ → ℕ) (longest : ℕ) (keyed : Keyed) (is : IsKeyed hash_of longest keyed) where
-  of_length : (group : Group) (n : ℕ) (key : List ℕ) → IsGroup hash_of n group → length key ≡ n → IsOfLength group key
-  of_length none n key is same = tt
-  of_length (short words) n key is same = tt
-  of_length (long group) n key is same = same ∙ sym is.length_is
-
-  -- The keys of a group are as long as the length that leads to it.
-  pub length-led : (key : List ℕ) → IfSome (get keyed.lengths.map (length key)) (λ place. IsOfLength (group_at keyed place) key)
-  length-led key = elim (get keyed.lengths.map (length key)) as (λ lead. get keyed.lengths.map (length key) ≡ lead → IfSome lead (λ place. IsOfLength (group_at keyed place) key)) [
-    | None ↦ λ e. tt
-    | Some place ↦ λ e. of_length (group_at keyed place) (length key) key (is.groups (length key) place e) refl
-  ] refl
 
 -- ---- what a reference shows
 

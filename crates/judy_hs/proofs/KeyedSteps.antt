@@ -3,7 +3,7 @@ use Rattle.std.proofs.Common.{◌≡◌, ◌≢◌, ℕ, zero, suc, ◌^◌, ◌
 use Rattle.std.specs.FinMap.{FinMap, get, insert, remove, empty, get-empty, nat_cmp-IsAntisymmetric}
 use Rattle.std.specs.Cmp.{nat_cmp_total}
 use Rattle.std.proofs.lemmas.Bool.{le-leb, lt-leb, cases_order}
-use Rattle.judy_model.specs.Keys.{word_order, byte_order, IsByteString}
+use Rattle.judy_model.specs.Keys.{word_order, byte_order}
 use Rattle.judy_model.specs.KeyLengths.{IsBytesKeyTo}
 use Rattle.judy_model.proofs.lemmas.maps.TableLemmas.{bytes_keys-all, table_insert, table_remove}
 use Rattle.judy_model.proofs.lemmas.orders.ByteLemmas.{number_of-lt}

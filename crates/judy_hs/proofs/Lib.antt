@@ -18,6 +18,7 @@ pub mod KeyedSteps
 pub mod HsLemmas
 pub mod InnerLemmas
 pub mod RelaidLemmas
+pub mod PlacedLemmas
 pub mod ValueLemmas
 pub mod WalkLemmas
 pub mod SortLemmas

@@ -14,7 +14,7 @@ use Rattle.judy_hs.specs.Groups.{Group, none, short, long, in_group}
 use Rattle.judy_hs.specs.GroupPlaces.{group_of, groups_of, link_of, links_of}
 use Rattle.judy_hs.specs.Keyed.{Keyed, in_place}
 use Rattle.judy_hs.specs.Parts.{part_of}
-use Rattle.judy_hs.specs.Kept.{IsUsed, IsChain, IsLong, IsGroup, value_of, map_of, array_of, IsHs}
+use Rattle.judy_hs.specs.Kept.{IsUsed, IsChain, IsLong, IsGroup, IsKeyed, value_of, map_of, array_of, IsHs}
 use Rattle.judy_hs.specs.Relaid.{keys_of, IsRelaid, IsRelaidGroup, AreRelaid, IsRelaidKeyed}
 use Rattle.judy_hs.proofs.ListLemmas.{set_same}
 use Rattle.judy_hs.proofs.TwoLevels.{get_or-set_here, get_or-set_there}
@@ -149,26 +149,29 @@ module _ (before after : Keyed) (relaid : IsRelaidKeyed before after) where
   led word place leads = ap (λ (array : ArrayOf word_order). get array.map word) (sym relaid.lengths) ∙ leads
 
   module _ (hash_of : List ℕ → ℕ) where
-    relaid-value : (key : List ℕ) → value_of hash_of after key ≡ value_of hash_of before key
+    pub relaid-value : (key : List ℕ) → value_of hash_of after key ≡ value_of hash_of before key
     relaid-value key =
         ap (λ (array : ArrayOf word_order). in_place after (get array.map (length key)) (part_of hash_of key) key) relaid.lengths
         ∙ relaid-in_place (get before.lengths.map (length key)) (part_of hash_of key) key
 
     module _ (longest : ℕ) where
-      relaid-map : map_of hash_of longest after ≡ map_of hash_of longest before
+      pub relaid-map : map_of hash_of longest after ≡ map_of hash_of longest before
       relaid-map = ap (table (bytes_keys longest)) (λ t key. relaid-value key t)
 
       pub relaid-array : (limit : ℕ) → array_of hash_of longest limit after ≡ array_of hash_of longest limit before
       relaid-array limit = λ t. record { limit = limit; map = relaid-map t }
 
+      pub relaid-keyed : IsKeyed hash_of longest before → IsKeyed hash_of longest after
+      relaid-keyed is = record {
+        within = λ key_length place leads. is.within key_length place (led key_length place leads);
+        apart = λ one other place first second. is.apart one other place (led one place first) (led other place second);
+        groups = λ key_length place leads. relaid-group hash_of key_length (get_or before.groups place none) (get_or after.groups place none) (relaid.groups place)
+            (is.groups key_length place (led key_length place leads));
+      }
+
       pub relaid-IsHs : (limit count : ℕ) → IsHs hash_of longest limit count before → IsHs hash_of longest limit count after
       relaid-IsHs limit count is = record {
-        is_keyed = record {
-          within = λ key_length place leads. is.is_keyed.within key_length place (led key_length place leads);
-          apart = λ one other place first second. is.is_keyed.apart one other place (led one place first) (led other place second);
-          groups = λ key_length place leads. relaid-group hash_of key_length (get_or before.groups place none) (get_or after.groups place none) (relaid.groups place)
-              (is.is_keyed.groups key_length place (led key_length place leads));
-        };
+        is_keyed = relaid-keyed is.is_keyed;
         counted = is.counted ∙ ap len (sym relaid-map);
         within_limit = is.within_limit;
         holds_some = is.holds_some;

@@ -21,3 +21,4 @@ pub mod Listed
 pub mod Trials
 pub mod Found
 pub mod Relaid
+pub mod Placed

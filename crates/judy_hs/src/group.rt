@@ -177,15 +177,16 @@ impl GroupPlace {
         }
     }
 
-    // Moves records of long keys out of pages with free places.
-    pub fn shrink(&mut self)
+    // Moves records of long keys out of pages with free places, where a walk over the keys takes at most so many steps
+    // for each that went since the last one, and says whether one was moved.
+    pub fn shrink(&mut self, steps: u64) -> bool
         ensures keys { IsRelaidGroup (group_of self.old) (group_of self.new) }
         ensures links { link_of self.new ≡ link_of self.old }
     {
         match self {
-            GroupPlace::Short(_) => {}
-            GroupPlace::Long(group) => group.shrink(),
-            GroupPlace::Free(_) => {}
+            GroupPlace::Short(_) => false,
+            GroupPlace::Long(group) => group.shrink(steps),
+            GroupPlace::Free(_) => false,
         }
     }
 

@@ -284,11 +284,12 @@ impl Groups {
         }
     }
 
-    // Moves records of long keys out of pages with free places. It asks for no memory.
-    pub fn shrink(&mut self)
+    // Moves records of long keys out of pages with free places, where a walk over the keys of a group takes at most so
+    // many steps for each that went since the last one, and says whether one was moved. It asks for no memory.
+    pub fn shrink(&mut self, steps: u64) -> bool
         ensures { IsRelaidKeyed self.old self.new }
     {
-        shrink_all(&mut self.groups);
+        shrink_all(&mut self.groups, steps)
     }
 
     // The array of the lengths.
@@ -350,14 +351,16 @@ impl Groups {
     }
 }
 
-// Moves records of long keys out of pages with free places, group by group.
-fn shrink_all(groups: &mut [GroupPlace])
+// The same, group by group.
+fn shrink_all(groups: &mut [GroupPlace], steps: u64) -> bool
     ensures keys { AreRelaid (groups_of groups.old) (groups_of groups.new) }
     ensures links { links_of groups.new ≡ links_of groups.old }
 {
+    let mut moved = false;
     for place in 0..groups.len() {
-        groups[place].shrink();
+        moved = groups[place].shrink(steps) || moved;
     }
+    moved
 }
 
 // What the first free place is linked to, and none where no place is free.

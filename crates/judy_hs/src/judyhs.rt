@@ -12,8 +12,8 @@ use crate::entry::HsEntry;
 use crate::error::HsError;
 use crate::groups::{Groups, KeyPlace};
 use crate::hash::ByteHash;
+use crate::insert::find_or_add;
 use crate::part::part_of;
-use crate::trial::Trial;
 use judy_word::{JudyL, WordMap};
 use std::alloc::{AllocError, Global};
 use std::marker::Model;
@@ -78,6 +78,9 @@ impl<H: ByteHash + Drop> JudyHs<H> {
     /// The first that applies: `TooLong` where the key has more than `H::LONGEST` bytes; `Full` where it is absent and
     /// the array holds as many keys as its limit (both limits are this project's own); `NoMemory`, only where it is
     /// absent and the array isn't full. Each leaves the array as it was.
+    ///
+    /// Where memory is refused, keys move together as by `shrink`, of each length of which at least one went for each
+    /// 32 that are there; and where one moved, the insert is tried once more. (This project's own.)
     pub fn ins(&mut self, key: &[u8]) -> Result<&mut u64, HsError>
         ensures* writes_back { sem 𝓛 (LendsIns H.row H.ByteHash self.entry key.now result) }
         ensures value { IfOk result
@@ -90,38 +93,16 @@ impl<H: ByteHash + Drop> JudyHs<H> {
         if key.len() > H::LONGEST {
             return Err(HsError::TooLong);
         }
-        let part = part_of(&self.hasher, key);
-        let alloc = self.groups.allocator();
-        let tries = self.expects_new && !is_full;
-        match self.groups.try_add(alloc, tries, part, key) {
-            Trial::Added(spot) => {
-                self.count += 1;
-                self.groups.slot_of(spot, key)
-            }
-            Trial::Refused => Err(HsError::NoMemory),
-            Trial::Open => {
-                let way = self.groups.way(part, key);
-                match self.groups.find(way, part, key) {
-                    Some(spot) => {
-                        self.expects_new = false;
-                        self.groups.slot_of(spot, key)
-                    }
-                    None => {
-                        if is_full {
-                            return Err(HsError::Full);
-                        }
-                        match self.groups.add(alloc, way, part, key) {
-                            Ok(spot) => {
-                                self.count += 1;
-                                self.expects_new = true;
-                                self.groups.slot_of(spot, key)
-                            }
-                            Err(_) => Err(HsError::NoMemory),
-                        }
-                    }
-                }
-            }
-        }
+        let placed = find_or_add(
+            &self.hasher,
+            &mut self.groups,
+            self.expects_new,
+            is_full,
+            key,
+        )?;
+        self.count += u64::from(placed.is_new);
+        self.expects_new = placed.is_new;
+        self.groups.slot_of(placed.spot, key)
     }
 
     /// The slot of a key, and `None` where it is absent, as every key of more than `H::LONGEST` bytes is. What the
@@ -177,8 +158,9 @@ impl<H: ByteHash + Drop> JudyHs<H> {
     }
 
     /// Moves keys together, so that memory which deletes left free within the array's pages goes back: one walk over
-    /// all keys, of use after many deletes. Then the keys of each length have at most one page with free places. It
-    /// asks for no memory and can't fail, and changes no key and no value. (This project's own.)
+    /// the keys of each length of which some went since, of use after many deletes. Then the keys of each length have
+    /// at most one page with free places. It asks for no memory and can't fail, and changes no key and no value. (This
+    /// project's own.)
     ///
     /// A key that shares its hash with another one stays where it is, and so does one of more than 1,024 bytes. Keys of
     /// up to 8 bytes stand in no page.
@@ -190,7 +172,7 @@ impl<H: ByteHash + Drop> JudyHs<H> {
     pub fn shrink(&mut self)
         ensures { self.new ≡ self.old }
     {
-        self.groups.shrink();
+        self.groups.shrink(u64::MAX);
     }
 
     /// The value of a key, and `None` where it is absent, as every key of more than `H::LONGEST` bytes is. (Manual:

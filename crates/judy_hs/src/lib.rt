@@ -9,9 +9,10 @@
 //! Inside, keys are grouped by their length (groups.rt, group.rt). A key of at most 8 bytes is a word (part.rt), and
 //! its group a `JudyL` from these words to the values; longer keys are found by their hash (hash.rt), which leads to
 //! the record of the key (long_group.rt), or to a chain of the keys that share it (shared.rt, chain.rt); their bytes
-//! decide. An insert is tried as that of a new key where the last one was (trial.rt). A record that goes to another
-//! place is copied to the stack meanwhile (spare.rt). judyhs.rt has the array, entry.rt its entries as a list has them,
-//! and error.rt why an insert is refused.
+//! decide. An insert (insert.rt) is tried as that of a new key where the last one was (trial.rt), and once more where
+//! it was refused memory and records can move together. A record that goes to another place is copied to the stack
+//! meanwhile (spare.rt). judyhs.rt has the array, entry.rt its entries as a list has them, and error.rt why an insert
+//! is refused.
 #![tactic(auto)]
 
 mod chain;
@@ -20,6 +21,7 @@ mod error;
 mod group;
 mod groups;
 mod hash;
+mod insert;
 mod judyhs;
 mod long_group;
 mod part;

@@ -32,6 +32,8 @@ pub struct LongGroup {
     records: Records,
     chains: BTreeMap<usize, Chain>,
     key_length: usize,
+    // How many keys went since records were last moved together.
+    gone: u64,
 }
 
 impl Model for LongGroup {
@@ -111,6 +113,7 @@ impl LongGroup {
             records,
             chains: BTreeMap::new(alloc),
             key_length: key.len(),
+            gone: 0,
         })
     }
 
@@ -238,6 +241,7 @@ impl LongGroup {
         requires is_there { IsSome (value_in (chain_at self.old place) key.now) }
         ensures { self.new ≡ without_key self.old hash place key.now }
     {
+        self.gone = self.gone.saturating_add(1);
         if !is_own(&self.records, &self.chains, self.key_length, place, key) {
             leave(&mut self.chains, place, key);
             return;
@@ -251,9 +255,24 @@ impl LongGroup {
         }
     }
 
-    // Moves records out of pages that have a free place and aren't filled next, each once, by their hashes. Then at
-    // most one page has free places, but for records that stay (`copy_of_spare`). It asks for no memory.
-    pub fn shrink(&mut self)
+    // Moves records out of pages that have a free place and aren't filled next, where a walk over the hashes takes at
+    // most so many steps for each key that went since the last one. It says whether a record was moved, which then has
+    // the place that was next, and asks for no memory.
+    pub fn shrink(&mut self, steps: u64) -> bool
+        ensures { IsRelaid self.old self.new }
+    {
+        if self.hashes.len() > self.gone.saturating_mul(steps) {
+            return false;
+        }
+        self.gone = 0;
+        let next = self.records.next_place();
+        self.move_all();
+        self.records.next_place() != next
+    }
+
+    // Moves each of them once, by their hashes. Then at most one page has free places, but for records that stay
+    // (`copy_of_spare`).
+    fn move_all(&mut self)
         ensures { IsRelaid self.old self.new }
     {
         let mut from = Some(0);

@@ -1,5 +1,5 @@
 use Rattle.judy_hs.proofs.RelaidLemmas.{relaid-same, relaid-on}
-use Rattle.judy_hs.proofs.long_group.LongGroup.shrink.Goals as goal
+use Rattle.judy_hs.proofs.long_group.LongGroup.move_all.Goals as goal
 
 pub loop-init : goal.loop-init
 loop-init c = relaid-same c.args.self.now
