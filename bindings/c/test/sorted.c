@@ -19,7 +19,7 @@ static void make_keys(unsigned spread) {
     }
 }
 
-/* Whether walks down from the greatest word, by pages of so many keys, tell the first keys from the last of them down. */
+/* Whether walks down from the greatest word, by pages of so many keys, tell the first keys, and nothing else. */
 static void compare_down(const sellumaq_judy1 *set, const sellumaq_judyl *map, size_t count, size_t page) {
     static uint64_t walked[KEYS];
     static sellumaq_pair told[KEYS];

@@ -35,7 +35,8 @@ static bool lent(bool answer, const uint64_t *found, uint64_t *const *slot, int 
     return told(answer, found, place) && (!answer || **slot == values[place]);
 }
 
-/* Whether the walks from a place on, or down from it, write the table's keys, as many as fit and no word behind them. */
+/* Whether the walks from a place on, or down from it, write the table's keys, as many as fit and no word behind
+ * them. */
 static void walks(sellumaq_judy1 *set, sellumaq_judyl *map, int from, size_t capacity, bool down) {
     uint64_t keys[WORDS + 1], word = word_at((unsigned)from);
     sellumaq_pair pairs[WORDS + 1];
@@ -135,7 +136,7 @@ static void none_down(const sellumaq_judy1 *set, const sellumaq_judyl *map) {
     CHECK(pair.key == 7 && pair.value == 8);
 }
 
-/* Walks down of null handles, of the least word from both ends, with room and without, and of arrays that were emptied. */
+/* Walks down of null handles, of the least word from both ends, and of arrays that were emptied. */
 static void ends_down(sellumaq_judy1 *set, sellumaq_judyl *map) {
     uint64_t key = 7;
     sellumaq_pair pair = {7, 8};

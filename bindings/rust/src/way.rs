@@ -75,9 +75,9 @@ pub trait Walked {
     fn count_between(&self, from: u64, to: u64) -> u64;
 }
 
-/// What is still to come of a range: the keys that were brought, in the order in which they come, which lie below the
-/// words left where the way goes up, and above them where it goes down. In a set they may be a run of keys without a gap, which a count tells, and so
-/// none is brought.
+/// What is still to come of a range: the keys that were brought, in the order in which they come. They lie below the
+/// words left where the way goes up, and above them where it goes down. In a set they may be a run of keys without a
+/// gap, which a count tells, and so none is brought.
 #[derive(Clone)]
 pub struct Way<T: Told> {
     words: Span,

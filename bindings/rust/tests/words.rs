@@ -140,7 +140,7 @@ fn a_map_is_a_map() {
     assert_eq!(map.nth(7), plain.iter().nth(7).map(|it| (*it.0, *it.1)));
 }
 
-/// Walks down from any word to any other, over fewer keys than a call brings and over more, and turned round on the way.
+/// Walks down from any word to any other, over fewer keys than a call brings and over more, some turned on the way.
 #[test]
 fn walks_that_go_down() {
     let mut words = Words(5);
