@@ -87,11 +87,7 @@ pub extern "C" fn sellumaq_judyl_walk(
 /// The keys of a map from a word down with their values, by descending key, as many as the buffer has room for; answers
 /// how many these are. Fewer than there is room for are the last ones. It goes as `sellumaq_judy1_walk_down` does.
 #[unsafe(no_mangle)]
-pub extern "C" fn sellumaq_judyl_walk_down(
-    handle: &mut Map,
-    from: u64,
-    pairs: &mut [Pair],
-) -> usize
+pub extern "C" fn sellumaq_judyl_walk_down(handle: &mut Map, from: u64, pairs: &mut [Pair]) -> usize
     ensures filled { IsFilled (pairs_down (map_of handle.old) from) pairs.old result pairs.new }
     ensures same { handle.new ≡ handle.old }
 {
