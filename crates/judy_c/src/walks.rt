@@ -52,8 +52,8 @@ pub extern "C" fn sellumaq_judy1_walk(
 }
 
 /// The keys of a set from a word down, in descending order, as many as the buffer has room for; answers how many these
-/// are. Fewer than there is room for are the last ones. The last of them is found by its place, and from there on a node
-/// at a time is copied.
+/// are. Fewer than there is room for are the last ones. The last of them is found by its place, and from there on a
+/// node at a time is copied.
 #[unsafe(no_mangle)]
 pub extern "C" fn sellumaq_judy1_walk_down(handle: &mut Set, from: u64, keys: &mut [u64]) -> usize
     ensures filled { IsFilled (keys_down (set_of handle.old) from) keys.old result keys.new }
