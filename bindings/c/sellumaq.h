@@ -133,6 +133,11 @@ bool sellumaq_judy1_prev_empty(const sellumaq_judy1 *set, uint64_t from, uint64_
  * last key; the array may change between the two. A walk of 64 keys a call takes a small part of the time of `next`. */
 size_t sellumaq_judy1_walk(const sellumaq_judy1 *set, uint64_t from, uint64_t *keys, size_t capacity);
 
+/* The keys from `from` down, in descending order, as many as the buffer has room for; answers how many these are, and
+ * leaves what stands behind them, as `sellumaq_judy1_walk` does. The next call goes on from below the last key. A call
+ * first counts its keys and finds the last of them by its place, so ask for many at once. */
+size_t sellumaq_judy1_walk_down(const sellumaq_judy1 *set, uint64_t from, uint64_t *keys, size_t capacity);
+
 /* Makes the set one of `count` keys that strictly ascend, in place of what it held, whose memory is given back:
  * SELLUMAQ_ADDED. It takes a part of the time of as many `set`, and 16 bytes more for each key while it is at work.
  * Else the set is as it was. SELLUMAQ_BAD_KEY: a key isn't above the one before it, and `*place` is the place of the
@@ -289,6 +294,10 @@ typedef struct { uint64_t key, value; } sellumaq_pair;
 /* The keys from `from` on with their values, by ascending key, as many as the buffer has room for; answers how many
  * these are, as `sellumaq_judy1_walk` does. */
 size_t sellumaq_judyl_walk(const sellumaq_judyl *map, uint64_t from, sellumaq_pair *pairs, size_t capacity);
+
+/* The keys from `from` down with their values, by descending key, as many as the buffer has room for; answers how many
+ * these are, as `sellumaq_judy1_walk_down` does. */
+size_t sellumaq_judyl_walk_down(const sellumaq_judyl *map, uint64_t from, sellumaq_pair *pairs, size_t capacity);
 
 /* Makes the map one of `count` keys that strictly ascend, each with its value, as `sellumaq_judy1_from_sorted` does. */
 uint32_t sellumaq_judyl_from_sorted(sellumaq_judyl *map, const sellumaq_pair *pairs, size_t count, size_t *place);

@@ -63,6 +63,8 @@ static void compare_set(const sellumaq_judy1 *set, const list *list) {
     CHECK(sellumaq_judy1_len(set) == list->count);
     CHECK(sellumaq_judy1_walk(set, 0, keys, list->count + 1) == list->count);
     for (size_t at = 0; at < list->count; at++) CHECK(keys[at] == list->pairs[at].key);
+    CHECK(sellumaq_judy1_walk_down(set, UINT64_MAX, keys, list->count + 1) == list->count);
+    for (size_t at = 0; at < list->count; at++) CHECK(keys[at] == list->pairs[list->count - 1 - at].key);
 }
 
 static void compare_map(const sellumaq_judyl *map, const list *list) {
@@ -71,6 +73,11 @@ static void compare_map(const sellumaq_judyl *map, const list *list) {
     CHECK(sellumaq_judyl_walk(map, 0, pairs, list->count + 1) == list->count);
     for (size_t at = 0; at < list->count; at++)
         CHECK(pairs[at].key == list->pairs[at].key && pairs[at].value == list->pairs[at].value);
+    CHECK(sellumaq_judyl_walk_down(map, UINT64_MAX, pairs, list->count + 1) == list->count);
+    for (size_t at = 0; at < list->count; at++) {
+        const sellumaq_pair *last = &list->pairs[list->count - 1 - at];
+        CHECK(pairs[at].key == last->key && pairs[at].value == last->value);
+    }
 }
 
 /* The calls that may want memory. Sets alone have the last two. */

@@ -19,6 +19,23 @@ static void make_keys(unsigned spread) {
     }
 }
 
+/* Whether walks down from the greatest word, by pages of so many keys, tell the first keys, and nothing else. */
+static void compare_down(const sellumaq_judy1 *set, const sellumaq_judyl *map, size_t count, size_t page) {
+    static uint64_t walked[KEYS];
+    static sellumaq_pair told[KEYS];
+    uint64_t from = UINT64_MAX;
+    size_t many = page;
+    while (many == page) {
+        many = count < page ? count : page;
+        CHECK(sellumaq_judy1_walk_down(set, from, walked, page) == many && sellumaq_judyl_walk_down(map, from, told, page) == many);
+        for (size_t at = 0; at < many; at++, count--)
+            CHECK(walked[at] == keys[count - 1] && told[at].key == keys[count - 1] && told[at].value == pairs[count - 1].value);
+        if (many > 0) from = walked[many - 1] - 1;
+        if (count == 0 && from == UINT64_MAX) return;
+    }
+    CHECK(count == 0);
+}
+
 /* Whether the arrays have the first keys, and nothing else. */
 static void compare(const sellumaq_judy1 *set, const sellumaq_judyl *map, size_t count) {
     static uint64_t walked[KEYS + 1];
@@ -27,6 +44,9 @@ static void compare(const sellumaq_judy1 *set, const sellumaq_judyl *map, size_t
     CHECK(sellumaq_judy1_walk(set, 0, walked, KEYS + 1) == count && sellumaq_judyl_walk(map, 0, told, KEYS + 1) == count);
     for (size_t at = 0; at < count; at++)
         CHECK(walked[at] == keys[at] && told[at].key == keys[at] && told[at].value == pairs[at].value);
+    static const size_t pages[] = { 1, 2, 64, 1000, KEYS };
+    for (size_t at = 0; at < sizeof pages / sizeof *pages; at++)
+        if (count <= 200 * pages[at]) compare_down(set, map, count, pages[at]);
 }
 
 /* Arrays made at once can be changed like any other. */

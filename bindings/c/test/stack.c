@@ -27,6 +27,7 @@ static void *sets(void *dense) {
     uint64_t key;
     size_t place;
     for (size_t at = 0; at < KEYS; at++) CHECK(sellumaq_judy1_set(&set, word(at, dense)) == SELLUMAQ_ADDED);
+    CHECK(sellumaq_judy1_walk_down(&set, UINT64_MAX, keys, KEYS) == KEYS);
     CHECK(sellumaq_judy1_walk(&set, 0, keys, KEYS) == KEYS && sellumaq_judy1_from_sorted(&made, keys, KEYS, &place) == SELLUMAQ_ADDED);
     for (size_t at = 0; at < PAGE; at++) {
         CHECK(sellumaq_judy1_test(&set, keys[at]) && sellumaq_judy1_by_count(&set, at + 1, &key) && sellumaq_judy1_count(&set, 0, key) == at + 1);
@@ -43,6 +44,7 @@ static void *maps(void *dense) {
     uint64_t key, value, *slot;
     size_t place;
     for (size_t at = 0; at < KEYS; at++) CHECK(sellumaq_judyl_put(&map, word(at, dense), at) == SELLUMAQ_ADDED);
+    CHECK(sellumaq_judyl_walk_down(&map, UINT64_MAX, pairs, KEYS) == KEYS);
     CHECK(sellumaq_judyl_walk(&map, 0, pairs, KEYS) == KEYS && sellumaq_judyl_from_sorted(&made, pairs, KEYS, &place) == SELLUMAQ_ADDED);
     for (size_t at = 0; at < KEYS; at++) keys[at] = pairs[at].key;
     CHECK(sellumaq_judyl_get_many(&map, keys, PAGE, found, PAGE) == PAGE);

@@ -35,18 +35,19 @@ static bool lent(bool answer, const uint64_t *found, uint64_t *const *slot, int 
     return told(answer, found, place) && (!answer || **slot == values[place]);
 }
 
-/* Whether the walks from a place on write the table's keys, as many as fit and no word behind them. */
-static void walks(sellumaq_judy1 *set, sellumaq_judyl *map, int from, size_t capacity) {
-    uint64_t keys[WORDS + 1];
+/* Whether the walks from a place on, or down from it, write the table's keys, as many as fit and no word behind
+ * them. */
+static void walks(sellumaq_judy1 *set, sellumaq_judyl *map, int from, size_t capacity, bool down) {
+    uint64_t keys[WORDS + 1], word = word_at((unsigned)from);
     sellumaq_pair pairs[WORDS + 1];
     memset(keys, 0x5a, sizeof keys);
     memset(pairs, 0x5a, sizeof pairs);
-    uint64_t beyond = keys[0], left = held_in(from, WORDS - 1);
+    uint64_t beyond = keys[0], left = down ? held_in(0, from) : held_in(from, WORDS - 1);
     size_t count = left < capacity ? left : capacity;
-    CHECK(sellumaq_judy1_walk(set, word_at((unsigned)from), keys, capacity) == count);
-    CHECK(sellumaq_judyl_walk(map, word_at((unsigned)from), pairs, capacity) == count);
-    int place = next_held(from);
-    for (size_t n = 0; n < count; n++, place = next_held(place + 1))
+    CHECK((down ? sellumaq_judy1_walk_down : sellumaq_judy1_walk)(set, word, keys, capacity) == count);
+    CHECK((down ? sellumaq_judyl_walk_down : sellumaq_judyl_walk)(map, word, pairs, capacity) == count);
+    int place = down ? prev_held(from) : next_held(from);
+    for (size_t n = 0; n < count; n++, place = down ? prev_held(place - 1) : next_held(place + 1))
         CHECK(keys[n] == word_at((unsigned)place) && pairs[n].key == keys[n] && pairs[n].value == values[place]);
     for (size_t n = count; n <= WORDS; n++) CHECK(keys[n] == beyond && pairs[n].key == beyond && pairs[n].value == beyond);
 }
@@ -101,7 +102,7 @@ static void compare(sellumaq_judy1 *set, sellumaq_judyl *map, int place) {
     CHECK(lent(sellumaq_judyl_by_count_slot(map, n, &found, &slot), &found, &slot, n ? prev_held(place) : -1));
     CHECK(sellumaq_judy1_len(set) == held_in(0, WORDS - 1) && sellumaq_judyl_len(map) == held_in(0, WORDS - 1));
     if (sellumaq_judyl_first_slot(map, from, &found, &slot)) values[next_held(place)] = *slot = 3 * *slot + 1;
-    walks(set, map, place, place % 3 ? (size_t)place % 16 : WORDS);
+    for (int down = 0; down < 2; down++) walks(set, map, place, place % 3 ? (size_t)place % 16 : WORDS, down);
     looks(set, map, place, (size_t)place % 70, place % 2 ? WORDS : (size_t)place % 40);
 }
 
@@ -126,10 +127,35 @@ static void empties(sellumaq_judy1 *set, sellumaq_judyl *map) {
     CHECK(sellumaq_judy1_free(set) == 6 && sellumaq_judyl_free(map) == 6);
 }
 
+/* A walk down of no keys writes nothing. */
+static void none_down(const sellumaq_judy1 *set, const sellumaq_judyl *map) {
+    uint64_t key = 7;
+    sellumaq_pair pair = {7, 8};
+    CHECK(sellumaq_judy1_walk_down(set, 0, &key, 1) == 0 && sellumaq_judy1_walk_down(set, UINT64_MAX, &key, 1) == 0 && key == 7);
+    CHECK(sellumaq_judyl_walk_down(map, 0, &pair, 1) == 0 && sellumaq_judyl_walk_down(map, UINT64_MAX, &pair, 1) == 0);
+    CHECK(pair.key == 7 && pair.value == 8);
+}
+
+/* Walks down of null handles, of the least word from both ends, and of arrays that were emptied. */
+static void ends_down(sellumaq_judy1 *set, sellumaq_judyl *map) {
+    uint64_t key = 7;
+    sellumaq_pair pair = {7, 8};
+    none_down(set, map);
+    CHECK(set->array == NULL && map->array == NULL);
+    CHECK(sellumaq_judy1_set(set, 0) == SELLUMAQ_ADDED && sellumaq_judyl_put(map, 0, 9) == SELLUMAQ_ADDED);
+    CHECK(sellumaq_judy1_walk_down(set, 0, &key, 0) == 0 && sellumaq_judyl_walk_down(map, 0, &pair, 0) == 0 && key == 7 && pair.value == 8);
+    CHECK(sellumaq_judy1_walk_down(set, 0, &key, 1) == 1 && key == 0);
+    CHECK(sellumaq_judyl_walk_down(map, UINT64_MAX, &pair, 1) == 1 && pair.key == 0 && pair.value == 9);
+    CHECK(sellumaq_judy1_unset(set, 0) && sellumaq_judyl_del(map, 0));
+    none_down(set, map);
+    CHECK(sellumaq_judy1_free(set) == 0 && sellumaq_judyl_free(map) == 0);
+}
+
 int main(void) {
     sellumaq_judy1 set = {0};
     sellumaq_judyl map = {0};
     empties(&set, &map);
+    ends_down(&set, &map);
     compare(&set, &map, 5);
     CHECK(set.array == NULL && map.array == NULL);
     for (int turn = 0; turn < 20000; turn++) {

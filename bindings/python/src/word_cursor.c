@@ -17,7 +17,7 @@ typedef struct {
     uint64_t seen;           /* and how many there were when pairs were taken */
     int most; /* how many are taken next */
     int left; /* how many of those that were taken are still to come */
-    int step; /* from a key to the next in `told`: through a set 1, through a map 2, and less than 0 backward */
+    int step; /* from a key to the next in `told`: through a set 1, through a map 2 */
     const uint64_t *told; /* the key that comes next, behind which its value stands in a map */
     union {
         uint64_t keys[PAIRS];       /* through a set */
@@ -38,7 +38,7 @@ PyObject *new_word_cursor(PyTypeObject *type, Words *words, enum part part, uint
     self->changes = part == KEYS ? &words->changes.keys : &words->changes.all;
     self->seen = *self->changes;
     self->most = FIRST_PAIRS;
-    self->step = (words->is_map ? 2 : 1) * (reverse ? -1 : 1);
+    self->step = words->is_map ? 2 : 1;
     return (PyObject *)self;
 }
 
@@ -52,31 +52,25 @@ static uint64_t key_at(const Cursor *self, int place)
     return self->words->is_map ? self->pairs[place].key : self->keys[place];
 }
 
-static int walk_from(Cursor *self, uint64_t from, int most)
+/* The next keys and, in a map, their values, from `from` on or, backward, down. */
+static size_t walk(Cursor *self)
 {
     Handle *handle = &self->words->handle;
-    return (int)(self->words->is_map ? sellumaq_judyl_walk(&handle->map, from, self->pairs, (size_t)most)
-                                     : sellumaq_judy1_walk(&handle->set, from, self->keys, (size_t)most));
+    size_t most = (size_t)self->most;
+    if (self->words->is_map)
+        return self->reverse ? sellumaq_judyl_walk_down(&handle->map, self->from, self->pairs, most)
+                             : sellumaq_judyl_walk(&handle->map, self->from, self->pairs, most);
+    return self->reverse ? sellumaq_judy1_walk_down(&handle->set, self->from, self->keys, most)
+                         : sellumaq_judy1_walk(&handle->set, self->from, self->keys, most);
 }
 
-static int take_up(Cursor *self)
+/* The same without those that lie beyond the last word. */
+static int take_within(Cursor *self)
 {
-    int taken = walk_from(self, self->from, self->most);
+    int taken = (int)walk(self);
     while (taken > 0 && is_beyond(self, key_at(self, taken - 1)))
         taken--;
     return taken;
-}
-
-/* The keys that lie last before `from`, up to it: they are counted, and the first of them is found by its place. */
-static int take_down(Cursor *self)
-{
-    Handle *handle = &self->words->handle;
-    const WordCalls *calls = self->words->calls;
-    uint64_t first, left = calls->count(handle, self->end, self->from);
-    int most = left < (uint64_t)self->most ? (int)left : self->most;
-    if (most == 0 || !calls->by_count(handle, calls->count(handle, 0, self->from) - (uint64_t)most + 1, &first))
-        return 0;
-    return walk_from(self, first, most);
 }
 
 /* Ends the walk, which lets the array go. */
@@ -110,11 +104,10 @@ static int take(Cursor *self)
         return 0;
     self->most = is_stale(self) ? FIRST_PAIRS : self->most;
     self->seen = *self->changes;
-    int taken = self->reverse ? take_down(self) : take_up(self), first = self->reverse ? taken - 1 : 0;
+    self->left = take_within(self);
     self->most = PAIRS;
-    self->left = taken;
-    self->told = self->words->is_map ? &self->pairs[first].key : &self->keys[first];
-    return taken;
+    self->told = self->words->is_map ? &self->pairs[0].key : self->keys;
+    return self->left;
 }
 
 static PyObject *cursor_next(PyObject *object)

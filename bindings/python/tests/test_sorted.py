@@ -134,6 +134,22 @@ class Tables(unittest.TestCase):
             self.assertEqual((list(words), list(words.values())), (keys, keys))
             self.assertEqual(list(reversed(words.items())), [(key, key) for key in reversed(keys)])
             self.assertEqual(list(words.irange(4, 3 * count - 4)), keys[2 : count - 1])
+            self.assertEqual(list(words.irange(4, 3 * count - 4, reverse=True)), keys[2 : count - 1][::-1])
+            self.assertEqual(list(reversed(Judy1(keys))), keys[::-1])
+
+    def test_a_walk_down_goes_on_while_words_come_and_go(self):
+        for count in (1, 9, 264, 600):
+            words, plain, last = Judy1(range(0, 3 * count, 3)), {*range(0, 3 * count, 3)}, 3 * count
+            for key in reversed(words):
+                self.assertEqual(key, max(it for it in plain if it < last))
+                last = key
+                if key % 4 == 0 and key > 2:
+                    words.discard(key - 3)
+                    plain.discard(key - 3)
+                if key % 5 == 0 and key > 4:
+                    words.add(key - 4)
+                    plain.add(key - 4)
+            self.assertFalse([it for it in plain if it < last])
 
     def test_walks_longer_than_a_page_of_strings(self):
         for count in (1, 2, 8, 9, 10, 72, 73, 74, 137, 300):

@@ -2,7 +2,7 @@
 use crate::array::array;
 use crate::saved::{saved, OfTypes};
 use crate::sorted::at_once;
-use crate::span::{Found, Span};
+use crate::span::Span;
 use crate::two::of_two;
 use crate::types::Key;
 use crate::walk::walks;
@@ -37,8 +37,8 @@ array!(
 );
 
 word_array!(
-    Judy1<K: Key>; u64, sellumaq_judy1_walk;
-    sellumaq_judy1_count, sellumaq_judy1_by_count, sellumaq_judy1_first_empty, sellumaq_judy1_last_empty,
+    Judy1<K: Key>; u64, sellumaq_judy1_walk, sellumaq_judy1_walk_down;
+    sellumaq_judy1_count, sellumaq_judy1_first_empty, sellumaq_judy1_last_empty,
     sellumaq_judy1_remove_range, sellumaq_judy1_retain_range, sellumaq_judy1_copy_range, sellumaq_judy1_split_off;
     "let array = sellumaq::Judy1::from([1, 2, 10]);"
 );
@@ -247,7 +247,9 @@ impl<K: Key> Judy1<K> {
     /// ```
     #[must_use]
     pub fn nth(&self, n: usize) -> Option<K> {
-        self.nth_word(n).map(K::of_word)
+        let place = (n as u64).checked_add(1)?;
+        let found = self.search(sys::sellumaq_judy1_by_count, place);
+        found.map(K::of_word)
     }
 
     /// The least key.

@@ -6,7 +6,7 @@ use crate::saved::{saved, OfTypes};
 use crate::sieve::Sieve;
 use crate::slots::slot_walks;
 use crate::sorted::at_once;
-use crate::span::{Found, Span};
+use crate::span::Span;
 use crate::two::of_two;
 use crate::types::{Key, Value, ZeroValue};
 use crate::walk::walks;
@@ -42,8 +42,8 @@ array!(
 );
 
 word_array!(
-    JudyL<V: Value, K: Key>; sys::sellumaq_pair, sellumaq_judyl_walk;
-    sellumaq_judyl_count, sellumaq_judyl_by_count, sellumaq_judyl_first_empty, sellumaq_judyl_last_empty,
+    JudyL<V: Value, K: Key>; sys::sellumaq_pair, sellumaq_judyl_walk, sellumaq_judyl_walk_down;
+    sellumaq_judyl_count, sellumaq_judyl_first_empty, sellumaq_judyl_last_empty,
     sellumaq_judyl_remove_range, sellumaq_judyl_retain_range, sellumaq_judyl_copy_range, sellumaq_judyl_split_off;
     "let array = sellumaq::JudyL::from([(1, 10), (2, 20), (10, 30)]);"
 );
@@ -131,11 +131,12 @@ impl<V: Value, K: Key> Walked for Lending<'_, V, K> {
         self.0.walk(from, to, &mut room[..count])
     }
 
-    fn walk_back(&self, from: u64, to: u64, room: &mut Room<sys::sellumaq_pair>) -> usize {
-        match room {
-            [only] => self.bring_one(sys::sellumaq_judyl_last, to, from..=to, only),
-            room => self.0.walk_back(from, to, room),
+    fn walk_down(&self, from: u64, to: u64, room: &mut Room<sys::sellumaq_pair>) -> usize {
+        if let [only] = room {
+            return self.bring_one(sys::sellumaq_judyl_last, to, from..=to, only);
         }
+        let count = self.0.count_words(from, to).min(room.len());
+        self.0.walk_down(from, to, &mut room[..count])
     }
 
     fn count_between(&self, from: u64, to: u64) -> u64 {

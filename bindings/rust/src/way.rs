@@ -68,16 +68,16 @@ pub trait Walked {
     /// is room for, and answers how many these are. Keys above these words may come behind them.
     fn walk(&self, from: u64, to: u64, room: &mut Room<Self::Told>) -> usize;
 
-    /// The same of the greatest keys from one word up to another, and of no others.
-    fn walk_back(&self, from: u64, to: u64, room: &mut Room<Self::Told>) -> usize;
+    /// The same in descending order. Keys below these words may come behind them.
+    fn walk_down(&self, from: u64, to: u64, room: &mut Room<Self::Told>) -> usize;
 
     /// How many keys there are from one word up to another.
     fn count_between(&self, from: u64, to: u64) -> u64;
 }
 
-/// What is still to come of a range: the keys that were brought, which lie below the words left where the way goes up,
-/// and above them where it goes down. In a set they may be a run of keys without a gap, which a count tells, and so
-/// none is brought.
+/// What is still to come of a range: the keys that were brought, in the order in which they come. They lie below the
+/// words left where the way goes up, and above them where it goes down. In a set they may be a run of keys without a
+/// gap, which a count tells, and so none is brought.
 #[derive(Clone)]
 pub struct Way<T: Told> {
     words: Span,
@@ -109,7 +109,7 @@ impl<T: Told> Way<T> {
 
     #[inline]
     pub fn next(&mut self, array: &impl Walked<Told = T>) -> Option<T::Item> {
-        if (self.goes_down || self.begin == self.end) && !self.bring_up(array) {
+        if (self.goes_down || self.begin == self.end) && !self.bring(array, false) {
             return None;
         }
         let told = self.told(self.begin);
@@ -119,11 +119,11 @@ impl<T: Told> Way<T> {
 
     #[inline]
     pub fn next_back(&mut self, array: &impl Walked<Told = T>) -> Option<T::Item> {
-        if (!self.goes_down || self.begin == self.end) && !self.bring_down(array) {
+        if (!self.goes_down || self.begin == self.end) && !self.bring(array, true) {
             return None;
         }
-        let told = self.told(self.end - 1);
-        self.end -= 1;
+        let told = self.told(self.begin);
+        self.begin += 1;
         Some(told.item())
     }
 
@@ -136,7 +136,7 @@ impl<T: Told> Way<T> {
         mut act: impl FnMut(B, T::Item) -> B,
     ) -> B {
         let mut done = start;
-        while !self.goes_down && self.begin < self.end || self.bring_up(array) {
+        while !self.goes_down && self.begin < self.end || self.bring(array, false) {
             done = (self.begin..self.end).fold(done, |done, at| act(done, self.told(at).item()));
             self.begin = self.end;
         }
@@ -152,10 +152,9 @@ impl<T: Told> Way<T> {
         mut act: impl FnMut(B, T::Item) -> B,
     ) -> B {
         let mut done = start;
-        while self.goes_down && self.begin < self.end || self.bring_down(array) {
-            let places = (self.begin..self.end).rev();
-            done = places.fold(done, |done, at| act(done, self.told(at).item()));
-            self.end = self.begin;
+        while self.goes_down && self.begin < self.end || self.bring(array, true) {
+            done = (self.begin..self.end).fold(done, |done, at| act(done, self.told(at).item()));
+            self.begin = self.end;
         }
         done
     }
@@ -165,19 +164,33 @@ impl<T: Told> Way<T> {
         if self.begin == self.end {
             return self.words.clone();
         }
-        let brought = (self.told(self.begin).key(), self.told(self.end - 1).key());
-        let (from, to) = self.words.ends().unwrap_or(brought);
-        Span::of(from.min(brought.0)..=to.max(brought.1))
+        let (one, other) = (self.told(self.begin).key(), self.told(self.end - 1).key());
+        let (least, greatest) = (one.min(other), one.max(other));
+        let (from, to) = self.words.ends().unwrap_or((least, greatest));
+        Span::of(from.min(least)..=to.max(greatest))
     }
 
     #[inline]
     fn told(&self, at: usize) -> T {
         debug_assert!(self.begin <= at && at < self.end);
-        if let Some(told) = self.run.and_then(|first| T::of_key(first + at as u64)) {
+        if let Some(told) = self
+            .run
+            .and_then(|first| T::of_key(self.step(first, at as u64)))
+        {
             return told;
         }
-        // SAFETY: `at` is from `begin` to `end`, between which a call of `walk` wrote.
+        // SAFETY: `at` is from `begin` to `end`, between which a call of `walk` or `walk_down` wrote.
         unsafe { self.brought[at].assume_init() }
+    }
+
+    // The word that comes so many behind another.
+    #[inline]
+    fn step(&self, word: u64, by: u64) -> u64 {
+        if self.goes_down {
+            word - by
+        } else {
+            word + by
+        }
     }
 
     // Turns the way round where it goes the other one.
@@ -196,10 +209,10 @@ impl<T: Told> Way<T> {
         room
     }
 
-    // Brings the least keys left; false where there are none.
+    // Brings the next keys left, the greatest where the way goes down, and else the least; false where there are none.
     #[inline(never)]
-    fn bring_up(&mut self, array: &impl Walked<Told = T>) -> bool {
-        self.turn(false);
+    fn bring(&mut self, array: &impl Walked<Told = T>, goes_down: bool) -> bool {
+        self.turn(goes_down);
         let (from, to) = match self.words.ends() {
             Some(ends) => ends,
             None => return false,
@@ -208,23 +221,41 @@ impl<T: Told> Way<T> {
             return true;
         }
         let room = self.widen();
-        let count = array.walk(from, to, &mut self.brought[..room]);
+        let brought = &mut self.brought[..room];
+        let count = if goes_down {
+            array.walk_down(from, to, brought)
+        } else {
+            array.walk(from, to, brought)
+        };
         (self.begin, self.end) = (0, count);
         self.look_for_gaps(count);
-        while self.end > 0 && self.told(self.end - 1).key() > to {
+        while self.end > 0 && !(from..=to).contains(&self.told(self.end - 1).key()) {
             self.end -= 1;
         }
         if self.end == room {
-            self.words.go_behind(self.told(room - 1).key(), to);
+            self.go_behind(self.told(room - 1).key(), from, to);
         } else {
             self.words = Span::NONE;
         }
         self.end > 0
     }
 
+    // Leaves the words from one up to another that come behind a key.
+    fn go_behind(&mut self, key: u64, from: u64, to: u64) {
+        if self.goes_down {
+            self.words = Span::of(from..key);
+        } else {
+            self.words.go_behind(key, to);
+        }
+    }
+
     // Where a whole buffer of keys has no gap, the next words are asked for as a run.
     fn look_for_gaps(&mut self, count: usize) {
-        if count == MOST && self.told(MOST - 1).key() - self.told(0).key() == MOST as u64 - 1 {
+        if count < MOST {
+            return;
+        }
+        let (first, last) = (self.told(0).key(), self.told(MOST - 1).key());
+        if first.abs_diff(last) == MOST as u64 - 1 {
             self.longest = MOST as u64;
         }
     }
@@ -236,44 +267,18 @@ impl<T: Told> Way<T> {
             return false;
         }
         let (first, last) = if self.goes_down {
-            (from.max(to.saturating_sub(self.longest - 1)), to)
+            (to, from.max(to.saturating_sub(self.longest - 1)))
         } else {
             (from, to.min(from.saturating_add(self.longest - 1)))
         };
-        if array.count_between(first, last) != last - first + 1 {
+        let count = first.abs_diff(last) + 1;
+        if array.count_between(first.min(last), first.max(last)) != count {
             self.longest = 0;
             return false;
         }
-        (self.begin, self.end, self.run) = (0, (last - first + 1) as usize, Some(first));
+        (self.begin, self.end, self.run) = (0, count as usize, Some(first));
         self.longest = (self.longest * 2).min(LONGEST_RUN);
-        if self.goes_down {
-            self.words = Span::of(from..first);
-        } else {
-            self.words.go_behind(last, to);
-        }
+        self.go_behind(last, from, to);
         true
-    }
-
-    // Brings the greatest keys left; false where there are none.
-    #[inline(never)]
-    fn bring_down(&mut self, array: &impl Walked<Told = T>) -> bool {
-        self.turn(true);
-        let (from, to) = match self.words.ends() {
-            Some(ends) => ends,
-            None => return false,
-        };
-        if self.take_run(array, from, to) {
-            return true;
-        }
-        let room = self.widen();
-        let count = array.walk_back(from, to, &mut self.brought[..room]);
-        (self.begin, self.end) = (0, count);
-        self.look_for_gaps(count);
-        self.words = if count == room {
-            Span::of(from..self.told(0).key())
-        } else {
-            Span::NONE
-        };
-        self.end > 0
     }
 }

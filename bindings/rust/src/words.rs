@@ -8,8 +8,8 @@ pub const MANY: usize = 64;
 /// it holds, of keys of the type `K`. `$sample` is a line of an example that makes `array` with the keys 1, 2 and 10.
 macro_rules! word_array {
     (
-        $array:ident<$($param:ident: $bound:path),+>; $told:ty, $walk:ident;
-        $count:ident, $by_count:ident, $first_empty:ident, $last_empty:ident,
+        $array:ident<$($param:ident: $bound:path),+>; $told:ty, $walk:ident, $walk_down:ident;
+        $count:ident, $first_empty:ident, $last_empty:ident,
         $remove_range:ident, $retain_range:ident, $copy_range:ident, $split_off:ident;
         $sample:literal
     ) => {
@@ -121,10 +121,6 @@ macro_rules! word_array {
                 self.count(..below)
             }
 
-            fn nth_word(&self, n: usize) -> Option<u64> {
-                self.search(sellumaq_sys::$by_count, (n as u64).checked_add(1)?)
-            }
-
             /// All that it holds, by ascending key.
             ///
             /// ```
@@ -194,17 +190,18 @@ macro_rules! word_array {
                 unsafe { sellumaq_sys::$walk(&handle, from, room.as_mut_ptr().cast(), room.len()) }
             }
 
-            fn walk_back(&self, from: u64, to: u64, room: &mut crate::way::Room<$told>) -> usize {
+            fn walk_down(&self, _from: u64, to: u64, room: &mut crate::way::Room<$told>) -> usize {
+                // One key is told by one search.
                 if let [only] = room {
-                    let found = self.greatest(to).filter(|told| told.key() >= from);
-                    return found
+                    return self
+                        .greatest(to)
                         .map(|told| only.write(crate::way::Told::of(told)))
                         .iter()
                         .len();
                 }
-                let count = self.count_words(from, to).min(room.len());
-                let first = self.nth_word(self.count_words(0, to) - count);
-                first.map_or(0, |first| self.walk(first, to, &mut room[..count]))
+                let handle = self.handle;
+                // SAFETY: as in `walk`.
+                unsafe { sellumaq_sys::$walk_down(&handle, to, room.as_mut_ptr().cast(), room.len()) }
             }
 
             fn count_between(&self, from: u64, to: u64) -> u64 {

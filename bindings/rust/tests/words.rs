@@ -140,6 +140,48 @@ fn a_map_is_a_map() {
     assert_eq!(map.nth(7), plain.iter().nth(7).map(|it| (*it.0, *it.1)));
 }
 
+/// Walks down from any word to any other, over fewer keys than a call brings and over more, some turned on the way.
+#[test]
+fn walks_that_go_down() {
+    let mut words = Words(5);
+    for (count, gap) in [
+        (0, 1),
+        (1, 7),
+        (2, 1 << 40),
+        (9, 3),
+        (136, 1),
+        (137, 256),
+        (1000, 1),
+        (1000, 65_537),
+    ] {
+        let plain: BTreeMap<u64, u64> = (0..count).map(|n| (u64::MAX - n * gap, n)).collect();
+        let set: Judy1 = plain.keys().copied().collect();
+        let mut map: JudyL = plain.iter().map(|(key, value)| (*key, *value)).collect();
+        for _ in 0..60 {
+            let mut end =
+                || u64::MAX - (words.any() % (count + 2) * gap).saturating_sub(words.any() % 2);
+            let (one, other) = (end(), end());
+            let (from, to) = (one.min(other), one.max(other));
+            let pairs = || plain.range(from..=to).map(|(key, value)| (*key, *value));
+            assert!(set
+                .range(from..=to)
+                .rev()
+                .eq(pairs().rev().map(|pair| pair.0)));
+            assert!(map.range(from..=to).rev().eq(pairs().rev()));
+            assert!(map
+                .range_mut(from..=to)
+                .rev()
+                .map(|(key, value)| (key, *value))
+                .eq(pairs().rev()));
+            let (mut ours, mut theirs) = (map.range(from..=to), pairs());
+            for _ in 0..words.any() % (count + 1) {
+                assert_eq!(ours.next_back(), theirs.next_back());
+            }
+            assert!(ours.clone().rev().eq(theirs.clone().rev()) && ours.eq(theirs));
+        }
+    }
+}
+
 #[test]
 fn both_ends_meet() {
     let set: Judy1 = [0, 5, u64::MAX].into_iter().collect();

@@ -22,3 +22,4 @@ pub mod SortedStrings
 pub mod CombinedAnswers
 pub mod SavedAnswers
 pub mod StringRanges
+pub mod DownWalks

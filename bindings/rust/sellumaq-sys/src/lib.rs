@@ -153,6 +153,12 @@ extern "C" {
         keys: *mut u64,
         capacity: usize,
     ) -> usize;
+    pub fn sellumaq_judy1_walk_down(
+        set: *const sellumaq_judy1,
+        from: u64,
+        keys: *mut u64,
+        capacity: usize,
+    ) -> usize;
     pub fn sellumaq_judy1_from_sorted(
         set: *mut sellumaq_judy1,
         keys: *const u64,
@@ -321,6 +327,12 @@ extern "C" {
     pub fn sellumaq_judyl_prev_empty(map: *const sellumaq_judyl, from: u64, word: *mut u64)
         -> bool;
     pub fn sellumaq_judyl_walk(
+        map: *const sellumaq_judyl,
+        from: u64,
+        pairs: *mut sellumaq_pair,
+        capacity: usize,
+    ) -> usize;
+    pub fn sellumaq_judyl_walk_down(
         map: *const sellumaq_judyl,
         from: u64,
         pairs: *mut sellumaq_pair,
