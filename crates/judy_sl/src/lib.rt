@@ -37,6 +37,7 @@ pub mod laws;
 mod level;
 mod level_list;
 mod lists;
+mod measure;
 mod moves;
 mod nearest_slots;
 mod nth;
@@ -51,8 +52,8 @@ mod zeros;
 
 pub use cursor::KeyCursor;
 pub use error::SlError;
-pub use judysl::JudySl;
-pub use keys::{KeyBuf, is_key};
+pub use judysl::{JudySl, LongStrings, StringsOf};
+pub use keys::{AnyLength, KeyBuf, KeyLength, StoreKeys, is_key};
 pub use scans::{Look, Side};
 pub use sorted::{SlSortedError, check_sorted};
 pub use zeros::are_nonzero;
