@@ -37,7 +37,6 @@ impl<L: KeyLength> StringsOf<L> {
     /// key stands behind each. (This project's own; the manual has counts of words alone.)
     ///
     /// Of the keys `a`, `ab` and `c`, `count(b"a", b"b")` is 2.
-    #[tactic(auto, using(crate::proofs::lemmas::pieces::Strings::string_of_key))]
     pub fn count(&self, from: &[u8], to: &[u8]) -> u64
         requires from { L.IsKey from.now }
         requires to { L.IsKey to.now }

@@ -91,6 +91,7 @@ impl JudySl {
         ensures map { result.map ≡ self.now.map }
         ensures key { result.key ≡ from.now }
     {
+        let _arena = &self.arena;
         self.short_cursor(from)
     }
 }

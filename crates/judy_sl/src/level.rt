@@ -41,7 +41,6 @@ impl<L: KeyLength> StringsOf<L> {
     /// stands what only the array itself can follow. `None` where no level stands there, as where no key, or only one,
     /// begins with `at`; the empty `at` has a level always, and so has one with which two keys begin. (This project's
     /// own.)
-    #[tactic(auto, using(crate::proofs::lemmas::pieces::Strings::string_of_key))]
     pub fn level(&self, at: &[u8]) -> Option<&JudyL>
         requires is_key { L.IsKey at.now }
         requires whole { length at.now % 8 ≡ 0 }

@@ -221,8 +221,10 @@ impl Arena {
     {
         let turn = self.turn(look, key)?;
         let mut measure = Measure { len: turn.depth };
-        self.follow(look, turn, &mut measure)?;
-        Some(measure.len)
+        match self.follow(look, turn, &mut measure) {
+            Some(_) => Some(measure.len),
+            None => None,
+        }
     }
 
     // The entry behind which the neighbour of the key stands.

@@ -1,4 +1,4 @@
-use Rattle.std.proofs.Common.{◌≡◌, ◌∙◌, ℕ, MutBor, Result, Ok, Err, sym, refl, ap, subst, inl, inr}
+use Rattle.std.proofs.Common.{◌≡◌, ◌∙◌, ℕ, max, MutBor, Result, Ok, Err, sym, refl, ap, subst, inl, inr, arith}
 use Rattle.std.specs.Result.{IsErrAnd}
 use Rattle.judy_model.specs.Arrays.{ArrayOf}
 use Rattle.judy_model.specs.Keys.{byte_order}
@@ -19,7 +19,7 @@ use Rattle.judy_sl.proofs.lemmas.counts.PassedLevels.{passed-few, list-fits}
 use Rattle.judy_sl.proofs.lemmas.seats.Keeping.{get-there, strings-written, array-written}
 use Rattle.judy_sl.proofs.lemmas.inserts.Inserted.{is-new, way-none, there-not_full, there-value, absent-full, absent-room, tried-room, strings-added, array-added, added-value}
 use Rattle.judy_sl.proofs.lemmas.inserts.Inserted.{strings-same, array-same}
-use Rattle.judy_sl.proofs.lemmas.pieces.Strings.{string_of_key, key_of_string}
+use Rattle.judy_sl.proofs.lemmas.pieces.Strings.{string_of_key, key-within, key_of_string}
 use Rattle.judy_sl.proofs.lemmas.counts.ListWrites.{listed_same, listed_tried, listed_slot}
 use Rattle.judy_sl.proofs.judysl.StringsOf.ins_noted.Goals as goal
 
@@ -39,12 +39,13 @@ as_slice-passed-requires g c = list-fits g.row.N c.requires.most
 pub invariant_of-self-lent : goal.invariant_of-self-lent
 invariant_of-self-lent g c w =
     let is_key = rw c.in-Some.is at c.in_ok-place.ensures.key in
-    let key = string_of_key c.args.key.now is_key in
+    let key = string_of_key g.L.KeyLength c.args.key.now is_key in
     let none = rw c.in-Some.is at c.in_ok-place.ensures.absent in
     let tried = rw c.in-Some.is at c.in_ok-place.ensures.tried in
     let added = rw c.in-Some.is at c.in_ok-place.ensures.added in
     let room = tried-room c.self.inside.expects_new c.self.inside.count c.self.inside.limit tried in
-    let after = strings-added _ _ _ c.self.invariant.0 c.args.key.now key none c.try_add.new.self c.in-Some.place added room is_key.is_bytes_key.within_limit in
+    let after = strings-added _ _ _ c.self.invariant.0 c.args.key.now key none c.try_add.new.self c.in-Some.place added room _
+    (c.max.ensures ∙ ap (max c.self.inside.longest) c.len.ensures) (key-within g.L.KeyLength c.args.key.now is_key) in
     let nothing = rw c.in-Some.is at c.in_ok-place.ensures.first in
     let stays = (rw c.in-Some.is at c.in_ok-place.ensures.stays) refl in
     let firsts = added_first c.self.inside.arena c.try_add.new.self c.args.key.now key none c.self.inside.firsts c.self.invariant.2 nothing c.in-Some.place added in (
@@ -59,19 +60,19 @@ invariant_of-self-lent g c w =
 pub returns-in-Some : goal.returns-in-Some
 returns-in-Some g c =
     let is_key = rw c.in-Some.is at c.in_ok-place.ensures.key in
-    let key = string_of_key c.args.key.now is_key in
+    let key = string_of_key g.L.KeyLength c.args.key.now is_key in
     let none = rw c.in-Some.is at c.in_ok-place.ensures.absent in
     let tried = rw c.in-Some.is at c.in_ok-place.ensures.tried in
     let added = rw c.in-Some.is at c.in_ok-place.ensures.added in
     let room = tried-room c.self.inside.expects_new c.self.inside.count c.self.inside.limit tried in (
       λ t. inl (
         c.lend.result.ghost_name,
-        λ w. (array-added _ _ _ c.self.invariant.0 c.args.key.now key none c.try_add.new.self c.in-Some.place added room is_key.is_bytes_key.within_limit w ∙
+        λ w. (array-added _ _ _ c.self.invariant.0 c.args.key.now key none c.try_add.new.self c.in-Some.place added w ∙
             ap (λ (s : ArrayOf byte_order). with_value s c.args.key.now w) c.self.view_is) t,
       ),
       rw (← c.self.view_is) (record {
         writes_back = tt;
-        value = sym c.lend.ensures.value ∙ added-value _ _ _ c.self.invariant.0 c.args.key.now key none c.try_add.new.self c.in-Some.place added room is_key.is_bytes_key.within_limit;
+        value = sym c.lend.ensures.value ∙ added-value _ _ _ c.self.invariant.0 c.args.key.now key none c.try_add.new.self c.in-Some.place added;
         accepted = (is_key, absent-room _ _ _ c.self.invariant.0 c.args.key.now key none room);
         refused = tt;
       }),
@@ -79,7 +80,7 @@ returns-in-Some g c =
 
 pub invariant_of-self : goal.invariant_of-self
 invariant_of-self g c = (
-  strings-same _ _ _ c.self.invariant.0 c.args.key.now (string_of_key c.args.key.now c.in_err-place.ensures.key) c.try_add.new.self c.in_err-place.ensures.refused,
+  strings-same _ _ _ c.self.invariant.0 c.args.key.now (string_of_key g.L.KeyLength c.args.key.now c.in_err-place.ensures.key) c.try_add.new.self c.in_err-place.ensures.refused,
   c.in_err-place.ensures.counted,
   firsts_same c.self.inside.arena c.try_add.new.self c.in_err-place.ensures.refused c.self.inside.firsts c.self.invariant.2,
   listed_same c.self.inside.arena c.try_add.new.self c.in_err-place.ensures.refused c.self.inside.lists c.self.invariant.3,
@@ -90,7 +91,7 @@ invariant_of-self g c = (
 pub invariant_of-self-lent-in-At : goal.invariant_of-self-lent-in-At
 invariant_of-self-lent-in-At g c w =
     let same = c.in_ok-place.ensures.open c.in_default.is in
-    let is : IsStrings c.self.inside.limit c.self.inside.count c.try_add.new.self = subst (IsStrings c.self.inside.limit c.self.inside.count) (sym same) c.self.invariant.0 in
+    let is : IsStrings g.L.KeyLength.LONGEST c.self.inside.longest c.self.inside.limit c.self.inside.count c.try_add.new.self = subst (IsStrings g.L.KeyLength.LONGEST c.self.inside.longest c.self.inside.limit c.self.inside.count) (sym same) c.self.invariant.0 in
     let key = c.in-At.ensures.there c.in-At.place refl in
     let found = c.in-At.ensures.way (text_of_key _ key) in
     let firsts = subst (λ (arena : Arena). AreFirsts (map_of arena) c.self.inside.firsts) (sym same) c.self.invariant.2 in
@@ -105,7 +106,7 @@ invariant_of-self-lent-in-At g c w =
 pub returns-in-At : goal.returns-in-At
 returns-in-At g c =
     let same = c.in_ok-place.ensures.open c.in_default.is in
-    let is : IsStrings c.self.inside.limit c.self.inside.count c.try_add.new.self = subst (IsStrings c.self.inside.limit c.self.inside.count) (sym same) c.self.invariant.0 in
+    let is : IsStrings g.L.KeyLength.LONGEST c.self.inside.longest c.self.inside.limit c.self.inside.count c.try_add.new.self = subst (IsStrings g.L.KeyLength.LONGEST c.self.inside.longest c.self.inside.limit c.self.inside.count) (sym same) c.self.invariant.0 in
     let view = ap (array_of c.self.inside.limit) same ∙ c.self.view_is in
     let key = c.in-At.ensures.there c.in-At.place refl in
     let found = c.in-At.ensures.way (text_of_key _ key) in (
@@ -114,7 +115,8 @@ returns-in-At g c =
         writes_back = tt;
         value = sym c.lend-in-At.ensures.value ∙ there-value _ _ _ is c.args.key.now key c.in-At.place found;
         accepted = (
-          key_of_string c.args.key.now key (is.short c.args.key.now found.value (get-there _ _ _ is c.args.key.now key c.in-At.place found)),
+          (let short = is.short c.args.key.now found.value (get-there _ _ _ is c.args.key.now key c.in-At.place found) in let most = is.longest_fits in
+          key_of_string g.L.KeyLength c.args.key.now key (omega (arith, short, most))),
           there-not_full _ _ _ is c.args.key.now key c.in-At.place found,
         );
         refused = tt;
@@ -123,27 +125,27 @@ returns-in-At g c =
 
 -- ---- absent
 
-pub invariant_of-self-then-not-is_key : goal.invariant_of-self-then-not-is_key
-invariant_of-self-then-not-is_key g c =
+pub invariant_of-self-then-not-is_key_of : goal.invariant_of-self-then-not-is_key_of
+invariant_of-self-then-not-is_key_of g c =
     let same = c.in_ok-place.ensures.open c.in_default.is in
     subst (λ (arena : Arena).
-    IsStrings c.self.inside.limit c.self.inside.count arena × AreCounted arena × AreFirsts (map_of arena) c.self.inside.firsts × AreListed (world_of arena) c.self.inside.lists)
+    IsStrings g.L.KeyLength.LONGEST c.self.inside.longest c.self.inside.limit c.self.inside.count arena × AreCounted arena × AreFirsts (map_of arena) c.self.inside.firsts × AreListed (world_of arena) c.self.inside.lists)
     (sym same) c.self.invariant
 
 pub invariant_of-self-then-self : goal.invariant_of-self-then-self
 invariant_of-self-then-self g c =
     let same = c.in_ok-place.ensures.open c.in_default.is in
     subst (λ (arena : Arena).
-    IsStrings c.self.inside.limit c.self.inside.count arena × AreCounted arena × AreFirsts (map_of arena) c.self.inside.firsts × AreListed (world_of arena) c.self.inside.lists)
+    IsStrings g.L.KeyLength.LONGEST c.self.inside.longest c.self.inside.limit c.self.inside.count arena × AreCounted arena × AreFirsts (map_of arena) c.self.inside.firsts × AreListed (world_of arena) c.self.inside.lists)
     (sym same) c.self.invariant
 
 pub returns-then-self : goal.returns-then-self
 returns-then-self g c =
     let same = c.in_ok-place.ensures.open c.in_default.is in
-    let is : IsStrings c.self.inside.limit c.self.inside.count c.try_add.new.self = subst (IsStrings c.self.inside.limit c.self.inside.count) (sym same) c.self.invariant.0 in
+    let is : IsStrings g.L.KeyLength.LONGEST c.self.inside.longest c.self.inside.limit c.self.inside.count c.try_add.new.self = subst (IsStrings g.L.KeyLength.LONGEST c.self.inside.longest c.self.inside.limit c.self.inside.count) (sym same) c.self.invariant.0 in
     let view = ap (array_of c.self.inside.limit) same ∙ c.self.view_is in
-    let is_key = c.is_key.ensures.0 c.if-not-is_key.false in
-    let key = string_of_key c.args.key.now is_key in
+    let is_key = c.is_key_of.ensures.0 c.if-not-is_key_of.false in
+    let key = string_of_key g.L.KeyLength c.args.key.now is_key in
     let none = get-map c.try_add.new.self c.args.key.now key ∙ way-none c.try_add.new.self c.args.key.now c.walk.result (c.walk.ensures.way (text_of_key _ key))
     (is-new c.walk.result c.in_default-walk.not-At) in
     (ap (λ a. inr a) view, rw (← view) (record { writes_back = tt; value = tt; accepted = tt; refused = (is_key, absent-full _ _ _ is c.args.key.now key none c.if-self.true) }))
@@ -151,9 +153,9 @@ returns-then-self g c =
 pub invariant_of-self-in-Break-branch-3 : goal.invariant_of-self-in-Break-branch-3
 invariant_of-self-in-Break-branch-3 g c =
     let same = c.in_ok-place.ensures.open c.in_default.is in
-    let is : IsStrings c.self.inside.limit c.self.inside.count c.try_add.new.self = subst (IsStrings c.self.inside.limit c.self.inside.count) (sym same) c.self.invariant.0 in
+    let is : IsStrings g.L.KeyLength.LONGEST c.self.inside.longest c.self.inside.limit c.self.inside.count c.try_add.new.self = subst (IsStrings g.L.KeyLength.LONGEST c.self.inside.longest c.self.inside.limit c.self.inside.count) (sym same) c.self.invariant.0 in
     let refused = c.in_err-made-in_default-walk.ensures.refused in (
-      strings-same _ _ _ is c.args.key.now (string_of_key c.args.key.now (c.is_key.ensures.0 c.if-not-is_key.false)) c.insert_counted.new.arena refused,
+      strings-same _ _ _ is c.args.key.now (string_of_key g.L.KeyLength c.args.key.now (c.is_key_of.ensures.0 c.if-not-is_key_of.false)) c.insert_counted.new.arena refused,
       c.insert_counted.ensures.counted,
       c.insert_counted.ensures.firsts,
       c.insert_counted.ensures.listed,
@@ -167,10 +169,10 @@ no_memory (Err error) is = ap (λ (e : SlError). Err e) is
 pub returns-in_err-made-in_default-walk : goal.returns-in_err-made-in_default-walk
 returns-in_err-made-in_default-walk g c =
     let same = c.in_ok-place.ensures.open c.in_default.is in
-    let is : IsStrings c.self.inside.limit c.self.inside.count c.try_add.new.self = subst (IsStrings c.self.inside.limit c.self.inside.count) (sym same) c.self.invariant.0 in
+    let is : IsStrings g.L.KeyLength.LONGEST c.self.inside.longest c.self.inside.limit c.self.inside.count c.try_add.new.self = subst (IsStrings g.L.KeyLength.LONGEST c.self.inside.longest c.self.inside.limit c.self.inside.count) (sym same) c.self.invariant.0 in
     let view = ap (array_of c.self.inside.limit) same ∙ c.self.view_is in
-    let is_key = c.is_key.ensures.0 c.if-not-is_key.false in
-    let key = string_of_key c.args.key.now is_key in
+    let is_key = c.is_key_of.ensures.0 c.if-not-is_key_of.false in
+    let key = string_of_key g.L.KeyLength c.args.key.now is_key in
     let none = get-map c.try_add.new.self c.args.key.now key ∙ way-none c.try_add.new.self c.args.key.now c.walk.result (c.walk.ensures.way (text_of_key _ key))
     (is-new c.walk.result c.in_default-walk.not-At) in
     rw (no_memory c.from_residual-in_err-made-in_default-walk.result c.from_residual-in_err-made-in_default-walk.ensures.1) (
@@ -181,13 +183,13 @@ returns-in_err-made-in_default-walk g c =
 pub invariant_of-self-lent-in_default-walk : goal.invariant_of-self-lent-in_default-walk
 invariant_of-self-lent-in_default-walk g c w =
     let same = c.in_ok-place.ensures.open c.in_default.is in
-    let is : IsStrings c.self.inside.limit c.self.inside.count c.try_add.new.self = subst (IsStrings c.self.inside.limit c.self.inside.count) (sym same) c.self.invariant.0 in
-    let is_key = c.is_key.ensures.0 c.if-not-is_key.false in
-    let key = string_of_key c.args.key.now is_key in
+    let is : IsStrings g.L.KeyLength.LONGEST c.self.inside.longest c.self.inside.limit c.self.inside.count c.try_add.new.self = subst (IsStrings g.L.KeyLength.LONGEST c.self.inside.longest c.self.inside.limit c.self.inside.count) (sym same) c.self.invariant.0 in
+    let is_key = c.is_key_of.ensures.0 c.if-not-is_key_of.false in
+    let key = string_of_key g.L.KeyLength c.args.key.now is_key in
     let none = get-map c.try_add.new.self c.args.key.now key ∙ way-none c.try_add.new.self c.args.key.now c.walk.result (c.walk.ensures.way (text_of_key _ key))
     (is-new c.walk.result c.in_default-walk.not-At) in
-    let after = strings-added _ _ _ is c.args.key.now key none c.insert_counted.new.arena c.in_ok-made-in_default-walk.made c.in_ok-made-in_default-walk.ensures.added c.if-self.false
-    is_key.is_bytes_key.within_limit in (
+    let after = strings-added _ _ _ is c.args.key.now key none c.insert_counted.new.arena c.in_ok-made-in_default-walk.made c.in_ok-made-in_default-walk.ensures.added c.if-self.false _
+    (c.max-in_default-walk.ensures ∙ ap (max c.self.inside.longest) c.len-in_default-walk.ensures) (key-within g.L.KeyLength c.args.key.now is_key) in (
       strings-written _ _ _ after c.args.key.now key c.in_ok-made-in_default-walk.made c.in_ok-made-in_default-walk.ensures.added.found w,
       counted_written c.insert_counted.new.arena c.in_ok-made-in_default-walk.ensures.added.is_arena c.args.key.now c.in_ok-made-in_default-walk.made
           c.in_ok-made-in_default-walk.ensures.added.found w c.insert_counted.ensures.counted,
@@ -198,23 +200,22 @@ invariant_of-self-lent-in_default-walk g c w =
 pub returns-in_ok-made-in_default-walk : goal.returns-in_ok-made-in_default-walk
 returns-in_ok-made-in_default-walk g c =
     let same = c.in_ok-place.ensures.open c.in_default.is in
-    let is : IsStrings c.self.inside.limit c.self.inside.count c.try_add.new.self = subst (IsStrings c.self.inside.limit c.self.inside.count) (sym same) c.self.invariant.0 in
+    let is : IsStrings g.L.KeyLength.LONGEST c.self.inside.longest c.self.inside.limit c.self.inside.count c.try_add.new.self = subst (IsStrings g.L.KeyLength.LONGEST c.self.inside.longest c.self.inside.limit c.self.inside.count) (sym same) c.self.invariant.0 in
     let view = ap (array_of c.self.inside.limit) same ∙ c.self.view_is in
-    let is_key = c.is_key.ensures.0 c.if-not-is_key.false in
-    let key = string_of_key c.args.key.now is_key in
+    let is_key = c.is_key_of.ensures.0 c.if-not-is_key_of.false in
+    let key = string_of_key g.L.KeyLength c.args.key.now is_key in
     let none = get-map c.try_add.new.self c.args.key.now key ∙ way-none c.try_add.new.self c.args.key.now c.walk.result (c.walk.ensures.way (text_of_key _ key))
     (is-new c.walk.result c.in_default-walk.not-At) in (
       λ t. inl (
         c.lend-in_default-walk.result.ghost_name,
-        λ w. (array-added _ _ _ is c.args.key.now key none c.insert_counted.new.arena c.in_ok-made-in_default-walk.made c.in_ok-made-in_default-walk.ensures.added c.if-self.false
-            is_key.is_bytes_key.within_limit w ∙
+        λ w. (array-added _ _ _ is c.args.key.now key none c.insert_counted.new.arena c.in_ok-made-in_default-walk.made c.in_ok-made-in_default-walk.ensures.added w ∙
             ap (λ (s : ArrayOf byte_order). with_value s c.args.key.now w) view) t,
       ),
       rw (← view) (record {
         writes_back = tt;
         value =
             sym c.lend-in_default-walk.ensures.value ∙ added-value _ _ _ is c.args.key.now key none c.insert_counted.new.arena c.in_ok-made-in_default-walk.made
-            c.in_ok-made-in_default-walk.ensures.added c.if-self.false is_key.is_bytes_key.within_limit;
+            c.in_ok-made-in_default-walk.ensures.added;
         accepted = (is_key, absent-room _ _ _ is c.args.key.now key none c.if-self.false);
         refused = tt;
       }),
@@ -233,12 +234,12 @@ insert_counted-requires-clause-led g c =
 -- The levels that the way passed are noted.
 pub insert_counted-requires-clause-passed : goal.insert_counted-requires-clause-passed
 insert_counted-requires-clause-passed g c =
-    let is_key = c.is_key.ensures.0 c.if-not-is_key.false in
-    let key = string_of_key c.args.key.now is_key in
+    let is_key = c.is_key_of.ensures.0 c.if-not-is_key_of.false in
+    let key = string_of_key g.L.KeyLength c.args.key.now is_key in
     c.as_slice-passed.ensures.value ∙ c.walk.ensures.passed (text_of_key _ key) (passed-few (world_of c.try_add.new.self) c.args.key.now g.row.N (c.requires.few is_key))
 
 pub insert_counted-requires-clause-is_key : goal.insert_counted-requires-clause-is_key
-insert_counted-requires-clause-is_key g c = string_of_key c.args.key.now (c.is_key.ensures.0 c.if-not-is_key.false)
+insert_counted-requires-clause-is_key g c = string_of_key g.L.KeyLength c.args.key.now (c.is_key_of.ensures.0 c.if-not-is_key_of.false)
 
 pub insert_counted-requires-clause-listed : goal.insert_counted-requires-clause-listed
 insert_counted-requires-clause-listed g c =

@@ -1,4 +1,4 @@
-use Rattle.std.proofs.Common.{◌∙◌, sym, ap, inl, take, arith}
+use Rattle.std.proofs.Common.{◌∙◌, sym, ap, inl, take}
 use Rattle.judy_model.specs.Arrays.{ArrayOf}
 use Rattle.judy_model.specs.Keys.{byte_order}
 use Rattle.judy_sl.specs.Arenas.{map_of}
@@ -35,4 +35,4 @@ returns-in-Some g c =
     )
 
 pub nearest_in-requires-clause-room : goal.nearest_in-requires-clause-room
-nearest_in-requires-clause-room g c = λ key value held. let few = c.self.invariant.0.short key value held in omega (arith, few, c.requires.room)
+nearest_in-requires-clause-room g c = rw (← c.self.view_is) at c.requires.room

@@ -14,13 +14,15 @@ plant_all-requires-clause-empty g c = planted-none c.new-arena.result c.new-aren
 pub of-requires-clause-strings : goal.of-requires-clause-strings
 of-requires-clause-strings g c =
     let entries = c.in_ok-entries.entries.items in
+    let longest = c.in_ok-entries.longest in
     let told = c.len.ensures in
     let few = c.in_ok-entries.ensures.few in
     let within = c.requires.few in
     let count : length entries ≡ c.len.result = omega arith in
-    subst (λ n. IsStrings c.args.limit n (record c.plant_all.new.arena { root = c.in-Ok.root })) count
+    subst (λ n. IsStrings g.L.KeyLength.LONGEST longest c.args.limit n (record c.plant_all.new.arena { root = c.in-Ok.root })) count
     (strings-planted c.plant_all.new.arena entries c.in_ok-entries.ensures.planted c.in-Ok.root c.in-Ok.ensures.limit
-    (c.in-Ok.ensures.pairs ∙ c.deref.ensures.value) c.args.limit c.requires.some c.requires.most (omega (arith, few, within)))
+    (c.in-Ok.ensures.pairs ∙ c.deref.ensures.value) g.L.KeyLength.LONGEST longest c.args.limit c.in_ok-entries.ensures.within c.in_ok-entries.ensures.most
+    c.requires.some c.requires.most (omega (arith, few, within)))
 
 pub of-requires-clause-counted : goal.of-requires-clause-counted
 of-requires-clause-counted g c =

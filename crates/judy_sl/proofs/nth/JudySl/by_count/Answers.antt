@@ -28,7 +28,8 @@ returns c =
     let got = c.nth.ensures.found in
     let owner = ap (λ (all : List ℕ × ℕ × ℕ). all.2) (c.nth.ensures.beyond c.nth.new.key.len (omega arith)) ∙ c.new-end.ensures.same in
     let short = c.self.invariant.0.short got.bytes got.are.value got.are.held in
-    let bytes = ap (λ (b : _). b.items) (c.key-1.given.1 (sym owner)) ∙ got.given.1 short in
+    let most = c.self.invariant.0.longest_fits in
+    let bytes = ap (λ (b : _). b.items) (c.key-1.given.1 (sym owner)) ∙ got.given.1 (omega (arith, short, most)) in
     let found = nth_counted map c.args.n c.if-n-eq0.false got.bytes got.are.at in
     record {
       key = rw (← c.self.view_is) (bytes ∙ sym (ap (λ one. unwrap_or one c.args.key.now.items) found));

@@ -2,7 +2,8 @@ use Rattle.std.proofs.Common.{◌≢◌, ◌≤◌, ◌∙◌, ℕ, List, length
 use Rattle.std.specs.List.{All}
 use Rattle.judy_model.specs.declared.keys.TheConstants.{LONGEST_KEY}
 use Rattle.judy_sl.specs.Pieces.{IsText}
-use Rattle.judy_sl.specs.Arenas.{world_of}
+use Rattle.judy_sl.specs.Arenas.{world_of, map_of}
+use Rattle.judy_sl.proofs.lemmas.pieces.Strings.{within-more}
 use Rattle.judy_sl.specs.Scans.{value_in, IsScanned}
 use Rattle.judy_sl.proofs.lemmas.scans.Fronts.{neighbour-fits}
 use Rattle.judy_sl.proofs.lemmas.scans.ScanMaps.{scanned}
@@ -24,7 +25,8 @@ returns-in-Some c =
     let are = subst (λ (bytes : List ℕ). IsScanned look (world_of arena) bytes c.neighbour.result got.bytes) seen got.are in
     let text = subst IsText seen c.neighbour.ensures.is_text in
     let most = subst (λ (bytes : List ℕ). length bytes ≤ LONGEST_KEY) seen c.neighbour.ensures.within in
-    let fits = neighbour-fits look arena LONGEST_KEY c.self.invariant.0.short key got.bytes (value_in c.neighbour.result) most are.0 in
+    let short = within-more (map_of arena) c.self.invariant.0.short c.self.invariant.0.longest_fits in
+    let fits = neighbour-fits look arena LONGEST_KEY short key got.bytes (value_in c.neighbour.result) most are.0 in
     let owner = ap (λ (all : List ℕ × ℕ × ℕ). all.2) (c.neighbour.ensures.beyond c.neighbour.new.key.len (omega arith)) ∙ c.new-end.ensures.same in
     let found = scanned look arena key text got.bytes (value_in c.neighbour.result) are.0 in
     record {
@@ -42,7 +44,8 @@ returns-in-None c =
     let are = subst (λ (bytes : List ℕ). IsScanned look (world_of arena) bytes c.neighbour.result got.bytes) seen got.are in
     let text = subst IsText seen c.neighbour.ensures.is_text in
     let most = subst (λ (bytes : List ℕ). length bytes ≤ LONGEST_KEY) seen c.neighbour.ensures.within in
-    let fits = neighbour-fits look arena LONGEST_KEY c.self.invariant.0.short key got.bytes (value_in c.neighbour.result) most are.0 in
+    let short = within-more (map_of arena) c.self.invariant.0.short c.self.invariant.0.longest_fits in
+    let fits = neighbour-fits look arena LONGEST_KEY short key got.bytes (value_in c.neighbour.result) most are.0 in
     let owner = ap (λ (all : List ℕ × ℕ × ℕ). all.2) (c.neighbour.ensures.beyond c.neighbour.new.key.len (omega arith)) ∙ c.new-end.ensures.same in
     let found = scanned look arena key text got.bytes (value_in c.neighbour.result) are.0 in
     record {
