@@ -3,6 +3,7 @@ use Rattle.std.proofs.Common.{◌≡◌, ◌≤◌, ◌∙◌, ℕ, List, Bool, 
 use Rattle.std.specs.Ordering.{eq_by_cmp}
 use Rattle.std.specs.FinMap.{FinMap, get, empty, insert, remove, get-empty, get-insert, get-remove}
 use Rattle.judy_model.specs.Keys.{byte_order}
+use Rattle.judy_model.specs.KeyLengths.{IsStringKeyTo}
 use Rattle.judy_model.specs.declared.keys.TheConstants.{LONGEST_STRING}
 use Rattle.judy_model.proofs.lemmas.maps.TableLemmas.{ListsAll, string_keys_to-all, byte_order_total, get-table}
 use Rattle.judy_sl.specs.Strings.{IsString, all_strings}
@@ -17,17 +18,19 @@ pub all_strings-all : ListsAll all_strings IsString
 unfolding all_strings
 all_strings-all = string_keys_to-all LONGEST_STRING
 
--- A key is a string,
+-- A string of at most so many bytes is one,
+pub string_to : {longest : ℕ} → longest ≤ LONGEST_STRING → (key : List ℕ) → IsStringKeyTo longest key → IsString key
+string_to most key is = record {
+  is_bytes_key = record {
+    is_byte_string = is.is_bytes_key.is_byte_string;
+    within_limit = (let within = is.is_bytes_key.within_limit in omega (arith, within, most));
+  };
+  without_zero = is.without_zero;
+}
+
+-- and so is a key,
 pub string_of_key : {Self : Type 0} (lengths : Ghosts Self) (key : List ℕ) → lengths.IsKey key → IsString key
-string_of_key lengths key is =
-    let string = lengths.string_of key is in
-    record {
-      is_bytes_key = record {
-        is_byte_string = string.is_bytes_key.is_byte_string;
-        within_limit = (let within = string.is_bytes_key.within_limit in let most = lengths.in_memory in omega (arith, within, most));
-      };
-      without_zero = string.without_zero;
-    }
+string_of_key lengths key is = string_to lengths.in_memory key (lengths.string_of key is)
 
 -- no longer than a key may be,
 pub key-within : {Self : Type 0} (lengths : Ghosts Self) (key : List ℕ) → lengths.IsKey key → length key ≤ lengths.LONGEST

@@ -33,12 +33,12 @@ pairs-preserved g c =
                 subst (λ e. AreBelow word e.items) (sym w.entries-is) (subst (AreBelow word) (sym entry.1)
                 (below-more c.pairs.entries.items (piece_of pair.0.now) entry.0 word (is.below word (omega (arith, above, less, low_is))) (omega (arith, less, low_is))));
             within = subst (λ (n : ℕ). AreWithin n (map_of (planted c.if-opens.arena c.if-opens.entries.items))) (sym w.longest-is)
-                (subst (λ (a : Arena). AreWithin w.max.result (map_of (planted a c.if-opens.entries.items))) (sym w.arena-is)
-                (subst (λ e. AreWithin w.max.result (map_of (planted w.plant.new.arena e.items))) (sym w.entries-is)
-                (subst (AreWithin w.max.result) (sym w.in_ok-plant.ensures.map)
-                (within-insert w.max.result _ pair.0.now pair.1 (within-more _ is.within (let more = w.max.ensures in omega (arith, more))) (let more = w.max.ensures in let len = w.len.ensures in omega (arith, more, len))))));
-            most = (let more = w.max.ensures in let len = w.len.ensures in let long = w.longest-is in let before = is.most in
-                let fits = key-within g.L.KeyLength pair.0.now (c.requires.keys c.pairs.pair-index none within) in omega (arith, more, len, long, before, fits));
+                (subst (λ (a : Arena). AreWithin w.max-longest.result (map_of (planted a c.if-opens.entries.items))) (sym w.arena-is)
+                (subst (λ e. AreWithin w.max-longest.result (map_of (planted w.plant.new.arena e.items))) (sym w.entries-is)
+                (subst (AreWithin w.max-longest.result) (sym w.in_ok-plant.ensures.map)
+                (within-insert w.max-longest.result _ pair.0.now pair.1 (within-more _ is.within (let more = w.max-longest.ensures in omega (arith, more))) (let more = w.max-longest.ensures in omega (arith, more))))));
+            most = (let more = w.max-longest.ensures in let long = w.longest-is in let before = is.most in
+                let fits = key-within g.L.KeyLength pair.0.now (c.requires.keys c.pairs.pair-index none within) in omega (arith, more, long, before, fits));
             few = (let count = ap length (ap (λ e. e.items) w.entries-is ∙ entry.1) ∙ length_push c.pairs.entries.items (piece_of pair.0.now, entry.0) in
                 let before = is.few in omega (arith, count, before));
             goes_on =
@@ -65,14 +65,14 @@ pairs-preserved g c =
     ]
 
 pub pairs-init : goal.pairs-init
-pairs-init g c = record {
+pairs-init g c = rw c.new-entries.ensures.items (record {
   are_in = c.requires.planted;
   below = λ word less. tt;
   few = omega arith;
   within = subst (AreWithin 0) (sym c.requires.empty) within-none;
   most = omega arith;
   goes_on = ap (λ (map : FinMap byte_order ℕ). with_pairs map (openers 0 (pairs_in c.args.pairs.now))) c.requires.empty;
-}
+})
 
 pub plant-requires-clause-is_key : goal.plant-requires-clause-is_key
 plant-requires-clause-is_key g c =

@@ -36,6 +36,6 @@ returns g c =
     let last = c.buffer-1.given.1.1 (sym owner) in
     let is = front-written before.buffer.now front.buffer.now front.len before.buffer.ghost_name front.buffer.ghost_name stays got.bytes (omega (arith, fits, room, long)) written in
     rw (← c.self.view_is) (record {
-      key = rw (c.len.ensures, last, found) (subst (λ all. IsFront got.bytes all front.len front.buffer.now) c.new-key.ensures.bytes is);
+      key = rw (c.len-2.ensures, last, found) (subst (λ all. IsFront got.bytes all front.len front.buffer.now) c.new-key.ensures.bytes is);
       value = got.are.answer ∙ sym got.are.held ∙ sym (ap (value_found map) found);
     })
