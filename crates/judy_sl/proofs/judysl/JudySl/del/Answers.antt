@@ -56,6 +56,3 @@ returns-else-found-clause-deleted c =
 
 pub del-found-requires-clause-is_key : goal.del-found-requires-clause-is_key
 del-found-requires-clause-is_key c = string_of_key c.args.key.now (c.is_key.ensures.0 c.if-not-is_key.false)
-
-pub del-found-requires-clause-short : goal.del-found-requires-clause-short
-del-found-requires-clause-short c = (c.is_key.ensures.0 c.if-not-is_key.false).is_bytes_key.within_limit
