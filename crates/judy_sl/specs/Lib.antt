@@ -27,6 +27,7 @@ pub mod Ranks
 pub mod Firsts
 pub mod Nth
 pub mod Stepped
+pub mod Noted
 pub mod Sorted
 pub mod Planted
 pub mod Listed

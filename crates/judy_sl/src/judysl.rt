@@ -11,7 +11,7 @@ use crate::arena::{Arena, Way};
 use crate::error::SlError;
 use crate::firsts;
 use crate::keys::{AnyLength, KeyLength, StoreKeys, is_key_of};
-use crate::passed::{FEW_PIECES, MOST_PIECES, Passed, are_few};
+use crate::passed::{FEW_PIECES, LevelNotes, MOST_PIECES, Number, Passed, are_few, are_listed};
 use crate::pieces::ends_in_zero;
 use judy_sums::{LevelSums, Sums};
 use std::alloc::Global;
@@ -134,17 +134,18 @@ impl<L: KeyLength> StringsOf<L> {
             return Err(SlError::BadKey);
         }
         if are_few(key) {
-            self.ins_noted::<FEW_PIECES>(key)
+            self.ins_noted::<Passed<FEW_PIECES>>(key)
+        } else if are_listed(key) {
+            self.ins_noted::<Passed<MOST_PIECES>>(key)
         } else {
-            self.ins_noted::<MOST_PIECES>(key)
+            self.ins_noted::<Number>(key)
         }
     }
 
-    // The same for bytes of which the last isn't zero, where so many levels at most are on a key's way.
-    fn ins_noted<const N: usize>(&mut self, key: &[u8]) -> Result<&mut u64, SlError>
-        requires most { N ≤ MOST_PIECES }
+    // The same for bytes of which the last isn't zero, by notes that are for as many levels as a key's way may pass.
+    fn ins_noted<N: LevelNotes + Drop>(&mut self, key: &[u8]) -> Result<&mut u64, SlError>
         requires ends { EndsWell key.now }
-        requires few { L.IsKey key.now → length key.now < 8 * N + 8 }
+        requires few { L.IsKey key.now → length key.now < 8 * N.most + 8 }
         ensures* writes_back { sem 𝓛 (LendsIns L.row L.KeyLength self.entry key.now result) }
         ensures value { IfOk result
             (λ slot. Some slot.now ≡ map.get (array.ins self.old.map key.now) key.now) }
@@ -159,7 +160,7 @@ impl<L: KeyLength> StringsOf<L> {
             self.added = true;
             return Ok(self.arena.lend(place));
         }
-        let mut passed = Passed::<N>::new();
+        let mut passed = N::none();
         match self.arena.walk(key, &mut passed) {
             Way::At(place) => {
                 self.expects_new = self.added;
@@ -173,7 +174,7 @@ impl<L: KeyLength> StringsOf<L> {
                 if self.count == self.limit {
                     return Err(SlError::Full);
                 }
-                let passed = passed.as_slice();
+                let passed = passed.noted();
                 let made = firsts::insert_counted(
                     &mut self.arena,
                     &mut self.firsts,

@@ -50,7 +50,7 @@ impl Arena {
     }
 
     // The entries of the first level, or of the level of a child.
-    fn entries_of(&self, child: Option<u64>) -> &WordMap
+    pub fn entries_of(&self, child: Option<u64>) -> &WordMap
         requires { IsLevelPlace self.now (place_in child 0) }
         ensures { world_of self.now (seat_in child) ≡ level result.now.map }
     {

@@ -51,7 +51,7 @@ many_level arena is at many = by (child_at arena at) refl
     by (Level told words) e = (told, words, e)
 
 -- An entry that leads on is one of a level.
-entry_level : (node : Node) (piece at : ℕ) → entry_under node piece ≡ Some at → (map : FinMap word_order ℕ) × (node ≡ level map) × (get map piece ≡ Some at)
+pub entry_level : (node : Node) (piece at : ℕ) → entry_under node piece ≡ Some at → (map : FinMap word_order ℕ) × (node ≡ level map) × (get map piece ≡ Some at)
 entry_level gone piece at entry = absurd (none-some at entry)
 entry_level (tail held value) piece at entry = absurd (none-some at entry)
 entry_level (level map) piece at entry = (map, refl, entry)

@@ -94,3 +94,7 @@ returns-in-Ok-clause-stays g c = λ some.
     let added = sym c.if-not-added.false ∙ c.in_ok-added.ensures.answer in
     tried-stays c.args.self.now c.requires.is_arena c.requires.led c.requires.counted c.args.key.now key c.first_piece-piece.result c.first_piece-piece.ensures
     (put-absent c.args.self.now.root.map c.first_piece-piece.result added) c.put_if_absent.new.self c.put_tail_next.new.self c.next_place-next.result _ (words_is g c) c.in-Ok.ensures.put
+
+pub returns-in_err-added-clause-counted : goal.returns-in_err-added-clause-counted
+returns-in_err-added-clause-counted g c =
+    counted-same c.args.self.now (record c.args.self.now { root = c.put_if_absent.new.self }) (record { root = c.in_err-added.ensures.unchanged; children = λ at. refl }) c.requires.counted

@@ -41,7 +41,7 @@ returns-then-added-clause-counted g c =
     let none = put-absent c.args.self.now.root.map c.first_piece-piece.result (sym c.if-added.true ∙ c.in_ok-added.ensures.answer) in
     let words = c.in_ok-added.ensures.put ∙ ap (with_map c.args.self.now.root) (put-new c.args.self.now.root.map c.first_piece-piece.result 0 (sym c.if-added.true ∙ c.in_ok-added.ensures.answer)) in
     short-counted c.args.self.now c.requires.is_arena c.requires.led c.requires.counted c.args.key.now key c.first_piece-piece.result c.first_piece-piece.ensures
-    none c.put_if_absent.new.self words (returns-then-added-clause-added c)
+    none c.put_if_absent.new.self words (returns-then-added-clause-added g c)
 
 pub returns-else-added-clause-counted : goal.returns-else-added-clause-counted
 returns-else-added-clause-counted g c =
@@ -55,3 +55,7 @@ returns-then-added-clause-stays g c = λ some.
     let words = c.in_ok-added.ensures.put ∙ ap (with_map c.args.self.now.root) (put-new c.args.self.now.root.map c.first_piece-piece.result 0 (sym c.if-added.true ∙ c.in_ok-added.ensures.answer)) in
     short-stays c.args.self.now c.requires.is_arena c.requires.led c.requires.counted c.args.key.now
     (string_of_key g.L.KeyLength c.args.key.now (c.is_key_of.ensures.0 c.if-not-is_key_of.false)) c.first_piece-piece.result c.first_piece-piece.ensures none c.put_if_absent.new.self words
+
+pub returns-in_err-added-clause-counted : goal.returns-in_err-added-clause-counted
+returns-in_err-added-clause-counted g c =
+    counted-same c.args.self.now (record c.args.self.now { root = c.put_if_absent.new.self }) (record { root = c.in_err-added.ensures.unchanged; children = λ at. refl }) c.requires.counted

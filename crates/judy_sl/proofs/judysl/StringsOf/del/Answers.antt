@@ -56,6 +56,3 @@ returns-else-found-clause-deleted g c =
 
 pub del-found-requires-clause-is_key : goal.del-found-requires-clause-is_key
 del-found-requires-clause-is_key g c = string_of_key g.L.KeyLength c.args.key.now (c.is_key_of.ensures.0 c.if-not-is_key_of.false)
-
-pub del-found-requires-clause-short : goal.del-found-requires-clause-short
-del-found-requires-clause-short g c = (c.is_key_of.ensures.0 c.if-not-is_key_of.false).is_bytes_key.within_limit

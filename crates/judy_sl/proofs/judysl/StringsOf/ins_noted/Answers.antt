@@ -1,4 +1,4 @@
-use Rattle.std.proofs.Common.{◌≡◌, ◌∙◌, ℕ, max, MutBor, Result, Ok, Err, sym, refl, ap, subst, inl, inr, arith}
+use Rattle.std.proofs.Common.{◌≡◌, ◌∙◌, ℕ, MutBor, Result, Ok, Err, sym, refl, ap, subst, inl, inr, arith}
 use Rattle.std.specs.Result.{IsErrAnd}
 use Rattle.judy_model.specs.Arrays.{ArrayOf}
 use Rattle.judy_model.specs.Keys.{byte_order}
@@ -8,6 +8,7 @@ use Rattle.judy_sl.specs.declared.error.SlError.{SlError}
 use Rattle.judy_sl.specs.declared.error.SlError.TheVariants.{NoMemory}
 use Rattle.judy_sl.specs.Arenas.{array_of, map_of, world_of, IsStrings}
 use Rattle.judy_sl.specs.WorldInvariants.{AllLed}
+use Rattle.judy_sl.specs.Ways.{levels_passed}
 use Rattle.judy_sl.specs.Counted.{AreCounted}
 use Rattle.judy_sl.specs.Firsts.{AreFirsts}
 use Rattle.judy_sl.specs.Listed.{AreListed}
@@ -15,24 +16,13 @@ use Rattle.judy_sl.proofs.lemmas.counts.FirstWays.{firsts_slot, firsts_same, add
 use Rattle.judy_sl.proofs.lemmas.counts.CountedWrites.{counted_written}
 use Rattle.judy_sl.proofs.lemmas.pieces.PieceLemmas.{text_of_key}
 use Rattle.judy_sl.proofs.lemmas.seats.Maps.{get-map}
-use Rattle.judy_sl.proofs.lemmas.counts.PassedLevels.{passed-few, list-fits}
+use Rattle.judy_sl.proofs.lemmas.counts.PassedLevels.{passed-few}
 use Rattle.judy_sl.proofs.lemmas.seats.Keeping.{get-there, strings-written, array-written}
 use Rattle.judy_sl.proofs.lemmas.inserts.Inserted.{is-new, way-none, there-not_full, there-value, absent-full, absent-room, tried-room, strings-added, array-added, added-value}
 use Rattle.judy_sl.proofs.lemmas.inserts.Inserted.{strings-same, array-same}
 use Rattle.judy_sl.proofs.lemmas.pieces.Strings.{string_of_key, key-within, key_of_string}
 use Rattle.judy_sl.proofs.lemmas.counts.ListWrites.{listed_same, listed_tried, listed_slot}
 use Rattle.judy_sl.proofs.judysl.StringsOf.ins_noted.Goals as goal
-
--- ---- the list of places
-
-pub new-passed-requires : goal.new-passed-requires
-new-passed-requires g c = list-fits g.row.N c.requires.most
-
-pub walk-requires-room-N-Notes : goal.walk-requires-room-N-Notes
-walk-requires-room-N-Notes g c κs = list-fits g.row.N c.requires.most
-
-pub as_slice-passed-requires : goal.as_slice-passed-requires
-as_slice-passed-requires g c = list-fits g.row.N c.requires.most
 
 -- ---- put in by one way down
 
@@ -45,7 +35,7 @@ invariant_of-self-lent g c w =
     let added = rw c.in-Some.is at c.in_ok-place.ensures.added in
     let room = tried-room c.self.inside.expects_new c.self.inside.count c.self.inside.limit tried in
     let after = strings-added _ _ _ c.self.invariant.0 c.args.key.now key none c.try_add.new.self c.in-Some.place added room _
-    (c.max.ensures ∙ ap (max c.self.inside.longest) c.len.ensures) (key-within g.L.KeyLength c.args.key.now is_key) in
+    (c.max-self-inside.ensures) (key-within g.L.KeyLength c.args.key.now is_key) in
     let nothing = rw c.in-Some.is at c.in_ok-place.ensures.first in
     let stays = (rw c.in-Some.is at c.in_ok-place.ensures.stays) refl in
     let firsts = added_first c.self.inside.arena c.try_add.new.self c.args.key.now key none c.self.inside.firsts c.self.invariant.2 nothing c.in-Some.place added in (
@@ -85,6 +75,22 @@ invariant_of-self g c = (
   firsts_same c.self.inside.arena c.try_add.new.self c.in_err-place.ensures.refused c.self.inside.firsts c.self.invariant.2,
   listed_same c.self.inside.arena c.try_add.new.self c.in_err-place.ensures.refused c.self.inside.lists c.self.invariant.3,
 )
+
+-- Want of memory, as `?` hands it on.
+no_memory : (result : Result (MutBor ℕ) SlError) → IsErrAnd result (λ error. error ≡ NoMemory) → result ≡ Err NoMemory
+no_memory (Ok slot) is = absurd is
+no_memory (Err error) is = ap (λ (e : SlError). Err e) is
+
+pub returns-in_err-place : goal.returns-in_err-place
+returns-in_err-place g c =
+    let is_key = c.in_err-place.ensures.key in
+    let key = string_of_key g.L.KeyLength c.args.key.now is_key in
+    let none = c.in_err-place.ensures.absent in
+    let room = tried-room c.self.inside.expects_new c.self.inside.count c.self.inside.limit c.in_err-place.ensures.tried in
+    rw (no_memory c.from_residual.result c.from_residual.ensures.1) (
+      ap (λ a. inr a) (array-same _ _ _ c.self.invariant.0 c.args.key.now key c.try_add.new.self c.in_err-place.ensures.refused ∙ c.self.view_is),
+      record { writes_back = tt; value = tt; accepted = tt; refused = rw (← c.self.view_is) (is_key, none, absent-room _ _ _ c.self.invariant.0 c.args.key.now key none room) },
+    )
 
 -- ---- there
 
@@ -161,11 +167,6 @@ invariant_of-self-in-Break-branch-3 g c =
       c.insert_counted.ensures.listed,
     )
 
--- Want of memory, as `?` hands it on.
-no_memory : (result : Result (MutBor ℕ) SlError) → IsErrAnd result (λ error. error ≡ NoMemory) → result ≡ Err NoMemory
-no_memory (Ok slot) is = absurd is
-no_memory (Err error) is = ap (λ (e : SlError). Err e) is
-
 pub returns-in_err-made-in_default-walk : goal.returns-in_err-made-in_default-walk
 returns-in_err-made-in_default-walk g c =
     let same = c.in_ok-place.ensures.open c.in_default.is in
@@ -180,8 +181,8 @@ returns-in_err-made-in_default-walk g c =
       record { writes_back = tt; value = tt; accepted = tt; refused = rw (← view) (is_key, none, absent-room _ _ _ is c.args.key.now key none c.if-self.false) },
     )
 
-pub invariant_of-self-lent-in_default-walk : goal.invariant_of-self-lent-in_default-walk
-invariant_of-self-lent-in_default-walk g c w =
+pub invariant_of-self-lent-2 : goal.invariant_of-self-lent-2
+invariant_of-self-lent-2 g c w =
     let same = c.in_ok-place.ensures.open c.in_default.is in
     let is : IsStrings g.L.KeyLength.LONGEST c.self.inside.longest c.self.inside.limit c.self.inside.count c.try_add.new.self = subst (IsStrings g.L.KeyLength.LONGEST c.self.inside.longest c.self.inside.limit c.self.inside.count) (sym same) c.self.invariant.0 in
     let is_key = c.is_key_of.ensures.0 c.if-not-is_key_of.false in
@@ -189,7 +190,7 @@ invariant_of-self-lent-in_default-walk g c w =
     let none = get-map c.try_add.new.self c.args.key.now key ∙ way-none c.try_add.new.self c.args.key.now c.walk.result (c.walk.ensures.way (text_of_key _ key))
     (is-new c.walk.result c.in_default-walk.not-At) in
     let after = strings-added _ _ _ is c.args.key.now key none c.insert_counted.new.arena c.in_ok-made-in_default-walk.made c.in_ok-made-in_default-walk.ensures.added c.if-self.false _
-    (c.max-in_default-walk.ensures ∙ ap (max c.self.inside.longest) c.len-in_default-walk.ensures) (key-within g.L.KeyLength c.args.key.now is_key) in (
+    (c.max-self-inside-in_default-walk.ensures) (key-within g.L.KeyLength c.args.key.now is_key) in (
       strings-written _ _ _ after c.args.key.now key c.in_ok-made-in_default-walk.made c.in_ok-made-in_default-walk.ensures.added.found w,
       counted_written c.insert_counted.new.arena c.in_ok-made-in_default-walk.ensures.added.is_arena c.args.key.now c.in_ok-made-in_default-walk.made
           c.in_ok-made-in_default-walk.ensures.added.found w c.insert_counted.ensures.counted,
@@ -197,8 +198,8 @@ invariant_of-self-lent-in_default-walk g c w =
       listed_slot _ _ _ after c.args.key.now key c.in_ok-made-in_default-walk.made c.in_ok-made-in_default-walk.ensures.added.found w c.insert_counted.new.lists c.insert_counted.ensures.listed,
     )
 
-pub returns-in_ok-made-in_default-walk : goal.returns-in_ok-made-in_default-walk
-returns-in_ok-made-in_default-walk g c =
+pub returns : goal.returns
+returns g c =
     let same = c.in_ok-place.ensures.open c.in_default.is in
     let is : IsStrings g.L.KeyLength.LONGEST c.self.inside.longest c.self.inside.limit c.self.inside.count c.try_add.new.self = subst (IsStrings g.L.KeyLength.LONGEST c.self.inside.longest c.self.inside.limit c.self.inside.count) (sym same) c.self.invariant.0 in
     let view = ap (array_of c.self.inside.limit) same ∙ c.self.view_is in
@@ -236,7 +237,8 @@ pub insert_counted-requires-clause-passed : goal.insert_counted-requires-clause-
 insert_counted-requires-clause-passed g c =
     let is_key = c.is_key_of.ensures.0 c.if-not-is_key_of.false in
     let key = string_of_key g.L.KeyLength c.args.key.now is_key in
-    c.as_slice-passed.ensures.value ∙ c.walk.ensures.passed (text_of_key _ key) (passed-few (world_of c.try_add.new.self) c.args.key.now g.row.N (c.requires.few is_key))
+    c.noted-passed.ensures (levels_passed (world_of c.try_add.new.self) c.args.key.now)
+    (passed-few (world_of c.try_add.new.self) c.args.key.now g.N.LevelNotes.most (c.requires.few is_key)) (c.walk.ensures.passed (text_of_key _ key))
 
 pub insert_counted-requires-clause-is_key : goal.insert_counted-requires-clause-is_key
 insert_counted-requires-clause-is_key g c = string_of_key g.L.KeyLength c.args.key.now (c.is_key_of.ensures.0 c.if-not-is_key_of.false)
