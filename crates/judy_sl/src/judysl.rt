@@ -265,12 +265,13 @@ impl<L: KeyLength> StringsOf<L> {
         self.count == 0
     }
 
-    /// A length that no key exceeds, and so room for the answer of each search: a walk asks for it once. It is the
-    /// length of the longest key that came in since the array was last empty. (This project's own.)
+    /// A length that no key exceeds, and so room for what each search finds: a walk asks for it once. It is the length
+    /// of the longest key that came in since the array was last empty, also where that key has gone. (This project's
+    /// own.)
     ///
-    ///     let mut buffer = vec![0; names.longest()];
+    ///     let mut buffer = Vec::from_elem(alloc, 0, names.longest())?;
     ///     let mut len = 0;
-    ///     let first = names.neighbour_in(Look::inclusive(Side::Above), &mut buffer, &mut len);
+    ///     let least = names.neighbour_in(Look::inclusive(Side::Above), &mut buffer, &mut len);
     pub fn longest(&self) -> usize
         ensures within { AreWithin result self.now.map }
         ensures most { result ≤ L.LONGEST }
@@ -313,7 +314,7 @@ impl<L: KeyLength> StringsOf<L> {
 }
 
 impl JudySl {
-    /// The same array as one whose keys may have any length. It costs nothing. (This project's own.)
+    /// The same array as one whose keys may have any length. It moves no key. (This project's own.)
     pub fn with_any_length(self) -> LongStrings
         ensures { result ≡ self }
     {

@@ -14,9 +14,9 @@ impl<L: KeyLength> StringsOf<L> {
 
     /// The slot of the neighbour of the key at the front of a buffer, which has `len` bytes; the neighbour then stands
     /// there, and `len` is its length. `None` where there is none, and both stay. What the caller leaves in the slot is
-    /// then the neighbour's value. The buffer has room for the neighbour; what it has behind that stays. The key holds no
-    /// zero byte, and needn't be one of the array. It asks for no memory. (Manual: JSLF, JSLN, JSLL, JSLP, whose answer
-    /// is this slot.)
+    /// then the neighbour's value. The buffer has room for the neighbour; what it has behind that stays. The key holds
+    /// no zero byte, and needn't be one of the array. It asks for no memory. (Manual: JSLF, JSLN, JSLL, JSLP, whose
+    /// answer is this slot.)
     ///
     /// It costs what [`StringsOf::neighbour_in`] does, and the step from the place that it finds to the slot.
     ///

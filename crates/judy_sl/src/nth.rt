@@ -50,8 +50,8 @@ impl<L: KeyLength> StringsOf<L> {
     /// The value of the `n`-th key in ascending order, counted from 1; that key then stands at the front of the buffer,
     /// and `len` is its length. `None` for 0, and for an `n` above the number of keys, and both stay. The buffer has
     /// room for the key: [`StringsOf::by_count_len`] tells how much that is, and [`StringsOf::longest`] how much is
-    /// always enough. What the buffer has behind the key stays. It costs what [`JudySl::by_count`] does. (This project's
-    /// own.)
+    /// always enough. What the buffer has behind the key stays. It asks for no memory, and costs what
+    /// [`JudySl::by_count`] does. (This project's own.)
     ///
     ///     let value = names.by_count_in(2, &mut buffer, &mut len);        // &buffer[..len] == b"ab"
     pub fn by_count_in(&self, n: u64, buffer: &mut [u8], len: &mut usize) -> Option<u64>
@@ -80,7 +80,9 @@ impl<L: KeyLength> StringsOf<L> {
             return None;
         }
         let mut measure = Measure { len: 0 };
-        let _ = self.arena.nth(&self.firsts, &self.lists, n - 1, &mut measure);
+        let _ = self
+            .arena
+            .nth(&self.firsts, &self.lists, n - 1, &mut measure);
         Some(measure.len)
     }
 }

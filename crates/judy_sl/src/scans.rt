@@ -447,15 +447,14 @@ impl JudySl {
             None => None,
         }
     }
-
 }
 
 impl<L: KeyLength> StringsOf<L> {
     /// The value of the neighbour of the key at the front of a buffer, which has `len` bytes; the neighbour then stands
-    /// there, and `len` is its length. `None` where there is none, and both stay. The buffer has room for the neighbour:
-    /// [`StringsOf::neighbour_len`] tells how much that is, and [`StringsOf::longest`] how much is always enough. What
-    /// the buffer has behind the neighbour stays. The key holds no zero byte, and needn't be one of the array. It asks
-    /// for no memory. (This project's own: a scan that writes no byte twice.)
+    /// there, and `len` is its length. `None` where there is none, and both stay. The buffer has room for the
+    /// neighbour: [`StringsOf::neighbour_len`] tells how much that is, and [`StringsOf::longest`] how much is always
+    /// enough. What the buffer has behind the neighbour stays. The key holds no zero byte, and needn't be one of the
+    /// array. It asks for no memory. (This project's own: a scan that writes no byte twice.)
     ///
     /// It searches a level for each eight bytes of the key, as far as there are levels, and then one for each eight
     /// bytes of the neighbour behind those that both begin with.
@@ -483,7 +482,7 @@ impl<L: KeyLength> StringsOf<L> {
     }
 
     /// How many bytes the neighbour of a key has, and `None` where there is none: the room that the same search wants.
-    /// The key holds no zero byte, and needn't be one of the array. It takes the way of [`StringsOf::neighbour_in`], and
+    /// The key holds no zero byte, and needn't be one of the array. It costs what [`StringsOf::neighbour_in`] does, and
     /// asks for no memory. (This project's own.)
     ///
     ///     names.neighbour_len(Look::exclusive(Side::Above), b"apple")        // Some(3) where "fig" comes next

@@ -78,10 +78,7 @@ fn comes_after(before: Option<&[u8]>, key: &[u8]) -> bool
 /// the first that doesn't fit, as `from_sorted` tells it. It asks for no memory.
 ///
 ///     check_sorted::<StoreKeys>(9, &[(b"pear", 1), (b"fig", 2)])       // Err(SlSortedError::NotAscending(1))
-pub fn check_sorted<L: KeyLength>(
-    limit: u64,
-    pairs: &[(&[u8], u64)],
-) -> Result<(), SlSortedError>
+pub fn check_sorted<L: KeyLength>(limit: u64, pairs: &[(&[u8], u64)]) -> Result<(), SlSortedError>
     ensures sorted { OnOk result (IsSorted L.IsKey limit (strings_in pairs.now)) }
     ensures refused { IfErr result (IsFault L.IsKey limit (strings_in pairs.now)) }
 {

@@ -71,7 +71,8 @@ written_keeps gone piece rest was value has = absurd has
 written_keeps (tail held kept) piece rest was value has = keeps-none (tail held kept) (node_with (tail held kept) piece value) (λ map e. cc)
 written_keeps (level map) piece rest was value has = keeps-insert map piece value (λ at inner entry. inner has.1)
 
-module _ {most longest : ℕ} (limit count : ℕ) (arena : Arena) (is : IsStrings most longest limit count arena) (key : List ℕ) (is_key : IsString key) (place : Place) (found : IsFound (world_of arena) key place) (value : ℕ) where
+module _ {most longest : ℕ} (limit count : ℕ) (arena : Arena) (is : IsStrings most longest limit count arena) (key : List ℕ) (is_key : IsString key) (place : Place)
+    (found : IsFound (world_of arena) key place) (value : ℕ) where
   abbrev after : Arena
   after = place_with arena place value
 

@@ -54,7 +54,8 @@ strings-new limit arena no_levels nothing no_root some fits = record {
   longest_fits = omega arith;
 }
 
-module _ {most longest : ℕ} (limit count : ℕ) (arena : Arena) (is : IsStrings most longest limit count arena) (key : List ℕ) (is_key : IsString key) (place : Place) (found : IsFound (world_of arena) key place) where
+module _ {most longest : ℕ} (limit count : ℕ) (arena : Arena) (is : IsStrings most longest limit count arena) (key : List ℕ) (is_key : IsString key) (place : Place)
+    (found : IsFound (world_of arena) key place) where
   pub get-there : get (map_of arena) key ≡ Some found.value
   get-there = get-map arena key is_key ∙ found-there arena is.is_arena key place found
 

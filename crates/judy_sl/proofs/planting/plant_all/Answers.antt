@@ -36,7 +36,8 @@ pairs-preserved g c =
                 (subst (λ (a : Arena). AreWithin w.max-longest.result (map_of (planted a c.if-opens.entries.items))) (sym w.arena-is)
                 (subst (λ e. AreWithin w.max-longest.result (map_of (planted w.plant.new.arena e.items))) (sym w.entries-is)
                 (subst (AreWithin w.max-longest.result) (sym w.in_ok-plant.ensures.map)
-                (within-insert w.max-longest.result _ pair.0.now pair.1 (within-more _ is.within (let more = w.max-longest.ensures in omega (arith, more))) (let more = w.max-longest.ensures in omega (arith, more))))));
+                (let more = w.max-longest.ensures in
+                within-insert w.max-longest.result _ pair.0.now pair.1 (within-more _ is.within (omega (arith, more))) (omega (arith, more))))));
             most = (let more = w.max-longest.ensures in let long = w.longest-is in let before = is.most in
                 let fits = key-within g.L.KeyLength pair.0.now (c.requires.keys c.pairs.pair-index none within) in omega (arith, more, long, before, fits));
             few = (let count = ap length (ap (λ e. e.items) w.entries-is ∙ entry.1) ∙ length_push c.pairs.entries.items (piece_of pair.0.now, entry.0) in

@@ -30,7 +30,8 @@ returns-in-Ok-clause-absent g c =
 -- Its tail is a text.
 pub put_tail_next-requires-clause-text : goal.put_tail_next-requires-clause-text
 put_tail_next-requires-clause-text g c =
-    subst IsText (sym (take_rest c.args.key.now 8)) (text-drop 8 c.args.key.now (text_of_key c.args.key.now (string_of_key g.L.KeyLength c.args.key.now (c.is_key_of.ensures.0 c.if-not-is_key_of.false))))
+    let key = string_of_key g.L.KeyLength c.args.key.now (c.is_key_of.ensures.0 c.if-not-is_key_of.false) in
+    subst IsText (sym (take_rest c.args.key.now 8)) (text-drop 8 c.args.key.now (text_of_key c.args.key.now key))
 
 -- It goes to the place that was asked for, and the entry leads there.
 pub put_tail_next-requires-clause-next : goal.put_tail_next-requires-clause-next

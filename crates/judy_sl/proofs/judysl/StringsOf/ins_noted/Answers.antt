@@ -97,7 +97,7 @@ returns-in_err-place g c =
 pub invariant_of-self-lent-in-At : goal.invariant_of-self-lent-in-At
 invariant_of-self-lent-in-At g c w =
     let same = c.in_ok-place.ensures.open c.in_default.is in
-    let is : IsStrings g.L.KeyLength.LONGEST c.self.inside.longest c.self.inside.limit c.self.inside.count c.try_add.new.self = subst (IsStrings g.L.KeyLength.LONGEST c.self.inside.longest c.self.inside.limit c.self.inside.count) (sym same) c.self.invariant.0 in
+    let is = subst (IsStrings g.L.KeyLength.LONGEST c.self.inside.longest c.self.inside.limit c.self.inside.count) (sym same) c.self.invariant.0 in
     let key = c.in-At.ensures.there c.in-At.place refl in
     let found = c.in-At.ensures.way (text_of_key _ key) in
     let firsts = subst (λ (arena : Arena). AreFirsts (map_of arena) c.self.inside.firsts) (sym same) c.self.invariant.2 in
@@ -112,7 +112,7 @@ invariant_of-self-lent-in-At g c w =
 pub returns-in-At : goal.returns-in-At
 returns-in-At g c =
     let same = c.in_ok-place.ensures.open c.in_default.is in
-    let is : IsStrings g.L.KeyLength.LONGEST c.self.inside.longest c.self.inside.limit c.self.inside.count c.try_add.new.self = subst (IsStrings g.L.KeyLength.LONGEST c.self.inside.longest c.self.inside.limit c.self.inside.count) (sym same) c.self.invariant.0 in
+    let is = subst (IsStrings g.L.KeyLength.LONGEST c.self.inside.longest c.self.inside.limit c.self.inside.count) (sym same) c.self.invariant.0 in
     let view = ap (array_of c.self.inside.limit) same ∙ c.self.view_is in
     let key = c.in-At.ensures.there c.in-At.place refl in
     let found = c.in-At.ensures.way (text_of_key _ key) in (
@@ -135,20 +135,22 @@ pub invariant_of-self-then-not-is_key_of : goal.invariant_of-self-then-not-is_ke
 invariant_of-self-then-not-is_key_of g c =
     let same = c.in_ok-place.ensures.open c.in_default.is in
     subst (λ (arena : Arena).
-    IsStrings g.L.KeyLength.LONGEST c.self.inside.longest c.self.inside.limit c.self.inside.count arena × AreCounted arena × AreFirsts (map_of arena) c.self.inside.firsts × AreListed (world_of arena) c.self.inside.lists)
+    IsStrings g.L.KeyLength.LONGEST c.self.inside.longest c.self.inside.limit c.self.inside.count arena × AreCounted arena
+    × AreFirsts (map_of arena) c.self.inside.firsts × AreListed (world_of arena) c.self.inside.lists)
     (sym same) c.self.invariant
 
 pub invariant_of-self-then-self : goal.invariant_of-self-then-self
 invariant_of-self-then-self g c =
     let same = c.in_ok-place.ensures.open c.in_default.is in
     subst (λ (arena : Arena).
-    IsStrings g.L.KeyLength.LONGEST c.self.inside.longest c.self.inside.limit c.self.inside.count arena × AreCounted arena × AreFirsts (map_of arena) c.self.inside.firsts × AreListed (world_of arena) c.self.inside.lists)
+    IsStrings g.L.KeyLength.LONGEST c.self.inside.longest c.self.inside.limit c.self.inside.count arena × AreCounted arena
+    × AreFirsts (map_of arena) c.self.inside.firsts × AreListed (world_of arena) c.self.inside.lists)
     (sym same) c.self.invariant
 
 pub returns-then-self : goal.returns-then-self
 returns-then-self g c =
     let same = c.in_ok-place.ensures.open c.in_default.is in
-    let is : IsStrings g.L.KeyLength.LONGEST c.self.inside.longest c.self.inside.limit c.self.inside.count c.try_add.new.self = subst (IsStrings g.L.KeyLength.LONGEST c.self.inside.longest c.self.inside.limit c.self.inside.count) (sym same) c.self.invariant.0 in
+    let is = subst (IsStrings g.L.KeyLength.LONGEST c.self.inside.longest c.self.inside.limit c.self.inside.count) (sym same) c.self.invariant.0 in
     let view = ap (array_of c.self.inside.limit) same ∙ c.self.view_is in
     let is_key = c.is_key_of.ensures.0 c.if-not-is_key_of.false in
     let key = string_of_key g.L.KeyLength c.args.key.now is_key in
@@ -159,7 +161,7 @@ returns-then-self g c =
 pub invariant_of-self-in-Break-branch-3 : goal.invariant_of-self-in-Break-branch-3
 invariant_of-self-in-Break-branch-3 g c =
     let same = c.in_ok-place.ensures.open c.in_default.is in
-    let is : IsStrings g.L.KeyLength.LONGEST c.self.inside.longest c.self.inside.limit c.self.inside.count c.try_add.new.self = subst (IsStrings g.L.KeyLength.LONGEST c.self.inside.longest c.self.inside.limit c.self.inside.count) (sym same) c.self.invariant.0 in
+    let is = subst (IsStrings g.L.KeyLength.LONGEST c.self.inside.longest c.self.inside.limit c.self.inside.count) (sym same) c.self.invariant.0 in
     let refused = c.in_err-made-in_default-walk.ensures.refused in (
       strings-same _ _ _ is c.args.key.now (string_of_key g.L.KeyLength c.args.key.now (c.is_key_of.ensures.0 c.if-not-is_key_of.false)) c.insert_counted.new.arena refused,
       c.insert_counted.ensures.counted,
@@ -170,7 +172,7 @@ invariant_of-self-in-Break-branch-3 g c =
 pub returns-in_err-made-in_default-walk : goal.returns-in_err-made-in_default-walk
 returns-in_err-made-in_default-walk g c =
     let same = c.in_ok-place.ensures.open c.in_default.is in
-    let is : IsStrings g.L.KeyLength.LONGEST c.self.inside.longest c.self.inside.limit c.self.inside.count c.try_add.new.self = subst (IsStrings g.L.KeyLength.LONGEST c.self.inside.longest c.self.inside.limit c.self.inside.count) (sym same) c.self.invariant.0 in
+    let is = subst (IsStrings g.L.KeyLength.LONGEST c.self.inside.longest c.self.inside.limit c.self.inside.count) (sym same) c.self.invariant.0 in
     let view = ap (array_of c.self.inside.limit) same ∙ c.self.view_is in
     let is_key = c.is_key_of.ensures.0 c.if-not-is_key_of.false in
     let key = string_of_key g.L.KeyLength c.args.key.now is_key in
@@ -184,7 +186,7 @@ returns-in_err-made-in_default-walk g c =
 pub invariant_of-self-lent-2 : goal.invariant_of-self-lent-2
 invariant_of-self-lent-2 g c w =
     let same = c.in_ok-place.ensures.open c.in_default.is in
-    let is : IsStrings g.L.KeyLength.LONGEST c.self.inside.longest c.self.inside.limit c.self.inside.count c.try_add.new.self = subst (IsStrings g.L.KeyLength.LONGEST c.self.inside.longest c.self.inside.limit c.self.inside.count) (sym same) c.self.invariant.0 in
+    let is = subst (IsStrings g.L.KeyLength.LONGEST c.self.inside.longest c.self.inside.limit c.self.inside.count) (sym same) c.self.invariant.0 in
     let is_key = c.is_key_of.ensures.0 c.if-not-is_key_of.false in
     let key = string_of_key g.L.KeyLength c.args.key.now is_key in
     let none = get-map c.try_add.new.self c.args.key.now key ∙ way-none c.try_add.new.self c.args.key.now c.walk.result (c.walk.ensures.way (text_of_key _ key))
@@ -201,7 +203,7 @@ invariant_of-self-lent-2 g c w =
 pub returns : goal.returns
 returns g c =
     let same = c.in_ok-place.ensures.open c.in_default.is in
-    let is : IsStrings g.L.KeyLength.LONGEST c.self.inside.longest c.self.inside.limit c.self.inside.count c.try_add.new.self = subst (IsStrings g.L.KeyLength.LONGEST c.self.inside.longest c.self.inside.limit c.self.inside.count) (sym same) c.self.invariant.0 in
+    let is = subst (IsStrings g.L.KeyLength.LONGEST c.self.inside.longest c.self.inside.limit c.self.inside.count) (sym same) c.self.invariant.0 in
     let view = ap (array_of c.self.inside.limit) same ∙ c.self.view_is in
     let is_key = c.is_key_of.ensures.0 c.if-not-is_key_of.false in
     let key = string_of_key g.L.KeyLength c.args.key.now is_key in
