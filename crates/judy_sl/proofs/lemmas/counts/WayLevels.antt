@@ -3,12 +3,11 @@ use Rattle.std.proofs.Common.{◌≡◌, ℕ, zero, suc, ◌+◌, ◌*◌, ◌<�
 use Rattle.std.proofs.lemmas.Bool.{cases_lt}
 use Rattle.std.proofs.lemmas.List.{length-take, take_min}
 use Rattle.std.proofs.lemmas.Option.{same_Some}
-use Rattle.std.specs.FinMap.{FinMap, get}
+use Rattle.std.specs.FinMap.{FinMap}
 use Rattle.judy_model.specs.Keys.{word_order}
 use Rattle.judy_sl.specs.Children.{Child, Free, Tail, Level, IsLevelChild}
 use Rattle.judy_sl.specs.declared.arena.Arena.{Arena}
-use Rattle.judy_sl.specs.declared.passed.Noted.{Noted}
-use Rattle.judy_sl.specs.declared.passed.Noted.TheVariants.{Places, Count}
+use Rattle.judy_sl.specs.declared.passed.Noted.TheVariants.{Count}
 use Rattle.judy_sl.specs.Pieces.{pieces, piece_of, IsText, AreInner}
 use Rattle.judy_sl.specs.World.{World, Node, gone, tail, level, walk}
 use Rattle.judy_sl.specs.Arenas.{world_of, node_of, child_at, IsArena}
@@ -25,7 +24,7 @@ use Rattle.judy_sl.proofs.lemmas.pieces.OnWay.{pieces-head, inner-more}
 use Rattle.judy_sl.proofs.lemmas.inserts.Filled.{level-child}
 use Rattle.judy_sl.proofs.lemmas.counts.CountedAdded.{level-told}
 use Rattle.judy_sl.proofs.lemmas.counts.ListWays.{entry_level}
-use Rattle.judy_sl.proofs.lemmas.counts.PassedLevels.{passed-last, passed-none, passed-step, passed-level, ends-last, goes-on, once-front, once-passed, passed-few}
+use Rattle.judy_sl.proofs.lemmas.counts.PassedLevels.{passed-last, passed-none, passed-step, goes-on, once-front, once-passed, passed-few}
 
 -- ---- entry by entry
 

@@ -20,7 +20,7 @@ use Rattle.judy_sl.specs.Ways.{IsWay, IsNew, IsFound}
 use Rattle.judy_sl.specs.Grown.{IsChange, IsAdded, IsSame}
 use Rattle.judy_sl.specs.Lends.{with_value}
 use Rattle.judy_sl.proofs.lemmas.pieces.Strings.{within-insert, within-more}
-use Rattle.judy_sl.proofs.lemmas.seats.Maps.{get-map, map_written, len-added}
+use Rattle.judy_sl.proofs.lemmas.seats.Maps.{map_written, len-added}
 use Rattle.judy_sl.proofs.lemmas.inserts.Filled.{world-same, arena-same}
 use Rattle.judy_sl.proofs.lemmas.inserts.Written.{written-change, found-there, value-there}
 use Rattle.judy_sl.proofs.lemmas.seats.Keeping.{gap-none, clash-none, get-there}

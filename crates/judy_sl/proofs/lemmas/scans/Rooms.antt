@@ -1,5 +1,5 @@
 -- Room for what a search finds: it is a key, and so no longer than the longest.
-use Rattle.std.proofs.Common.{◌≡◌, ◌≤◌, ◌&&◌, ℕ, Bool, true, false, IsTrue, List, Option, Some, None, IfSome, is_some, length, refl, sym, ap, subst, ◌∙◌, true≢false, arith}
+use Rattle.std.proofs.Common.{◌≡◌, ◌≤◌, ℕ, Bool, true, false, IsTrue, List, Option, Some, None, IfSome, is_some, length, refl, sym, subst, true≢false, arith}
 use Rattle.std.proofs.lemmas.Bool.{and_parts}
 use Rattle.std.specs.FinMap.{FinMap, get, contains_key}
 use Rattle.judy_model.specs.Keys.{byte_order}

@@ -1,4 +1,4 @@
-use Rattle.std.proofs.Common.{ℕ, true, List}
+use Rattle.std.proofs.Common.{true}
 use Rattle.judy_sl.specs.Arenas.{world_of}
 use Rattle.judy_sl.specs.Ways.{levels_passed}
 use Rattle.judy_sl.specs.Counted.{AreStepped}

@@ -1,6 +1,5 @@
-use Rattle.std.proofs.Common.{◌≡◌, List, ℕ, length, take, sym, ap, subst, ◌∙◌, arith}
+use Rattle.std.proofs.Common.{sym, subst, arith}
 use Rattle.judy_sl.specs.Arenas.{world_of}
-use Rattle.judy_sl.specs.Ways.{levels_passed}
 use Rattle.judy_sl.specs.Counted.{AreOnce, CanStepAt, AreStepped}
 use Rattle.judy_sl.proofs.lemmas.counts.WayLevels.{noted-count, first-short, first-once}
 use Rattle.judy_sl.proofs.arena.Arena.count_noted.Goals as goal

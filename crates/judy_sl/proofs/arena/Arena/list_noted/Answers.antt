@@ -1,4 +1,4 @@
-use Rattle.std.proofs.Common.{◌≡◌, true, List, ℕ, take, sym, subst, arith}
+use Rattle.std.proofs.Common.{List, ℕ, sym, subst, arith}
 use Rattle.judy_sl.specs.Arenas.{world_of}
 use Rattle.judy_sl.specs.Listed.{AreListedBut, AreBegun}
 use Rattle.judy_sl.proofs.lemmas.counts.WayLevels.{noted-count, first-short}

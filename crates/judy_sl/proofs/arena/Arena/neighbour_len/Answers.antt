@@ -1,11 +1,9 @@
-use Rattle.std.proofs.Common.{◌≡◌, ◌∙◌, ℕ, Option, None, length, refl, sym, ap, subst, arith}
+use Rattle.std.proofs.Common.{◌∙◌, Option, None, length, refl, sym, ap, subst}
 use Rattle.std.proofs.lemmas.List.{length-take-le}
 use Rattle.std.specs.Option.{option_map}
 use Rattle.judy_sl.specs.Arenas.{world_of}
-use Rattle.judy_sl.specs.Pieces.{IsText}
-use Rattle.judy_sl.specs.declared.scans.Turn.{Turn}
 use Rattle.judy_sl.specs.declared.scans.Scanned.{Scanned}
-use Rattle.judy_sl.specs.Scans.{value_in, IsTurn, IsTurnOf}
+use Rattle.judy_sl.specs.Scans.{value_in, IsTurn}
 use Rattle.judy_sl.proofs.lemmas.scans.ScanMaps.{measured}
 use Rattle.judy_sl.proofs.arena.Arena.neighbour_len.Goals as goal
 

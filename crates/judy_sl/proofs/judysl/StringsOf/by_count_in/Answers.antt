@@ -1,4 +1,4 @@
-use Rattle.std.proofs.Common.{◌≡◌, ◌≤◌, ◌∙◌, ℕ, List, Option, IfSome, MatchOption, length, take, inl, inr, refl, sym, ap, subst, arith}
+use Rattle.std.proofs.Common.{◌≡◌, ◌≤◌, ◌∙◌, ℕ, List, Option, IfSome, length, take, inl, inr, refl, sym, ap, subst, arith}
 use Rattle.judy_model.specs.Counts.{by_count}
 use Rattle.judy_sl.specs.Arenas.{map_of}
 use Rattle.judy_sl.specs.Scans.{value_found, IsFront}
