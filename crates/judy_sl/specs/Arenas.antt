@@ -62,12 +62,13 @@ AreWithin longest map = (key : List ℕ) (value : ℕ) → get map key ≡ Some 
 abbrev pub AreShort : FinMap byte_order ℕ → Type 0
 AreShort map = AreWithin LONGEST_KEY map
 
--- What always holds of an array: it keeps nothing to which no entry leads, and it counts its keys.
-pub record IsStrings (limit count : ℕ) (arena : Arena) : Type 0 where
+-- What always holds of an array whose keys may have so many bytes, `most`: it keeps nothing to which no entry leads, and it counts its keys.
+pub record IsStrings (most longest limit count : ℕ) (arena : Arena) : Type 0 where
   pub is_arena : IsArena arena
   pub led : AllLed (world_of arena)
   pub counted : count ≡ len (map_of arena)
   pub within_limit : count ≤ limit
   pub holds_some : 1 ≤ limit
   pub limit_fits : limit ≤ 4294967295
-  pub short : AreShort (map_of arena)
+  pub short : AreWithin longest (map_of arena)
+  pub longest_fits : longest ≤ most

@@ -1,4 +1,5 @@
 pub mod Strings
+pub mod KeyLengths
 pub mod Pieces
 pub mod World
 pub mod WorldInvariants
@@ -11,6 +12,8 @@ pub mod Shrunk
 pub mod Grown
 pub mod Branches
 pub mod Lends
+pub mod Refusals
+pub mod Rows
 pub mod Levels
 pub mod LevelLists
 pub mod LevelLends
@@ -24,6 +27,7 @@ pub mod Ranks
 pub mod Firsts
 pub mod Nth
 pub mod Stepped
+pub mod Noted
 pub mod Sorted
 pub mod Planted
 pub mod Listed

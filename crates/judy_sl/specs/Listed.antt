@@ -12,6 +12,7 @@ use Rattle.judy_sl.specs.Pieces.{pieces, piece_of, AreInner}
 use Rattle.judy_sl.specs.World.{World, level, walk}
 use Rattle.judy_sl.specs.Arenas.{world_of, child_at}
 use Rattle.judy_sl.specs.Ways.{levels_passed}
+use Rattle.judy_sl.specs.Noted.{AreFirstPassed}
 use Rattle.judy_sl.specs.Behind.{map_behind, entry_keys}
 use Rattle.judy_sl.specs.Counted.{keys_behind, IsAmong, AreOnce}
 use Rattle.judy_sl.specs.Firsts.{beginning, AreFirsts}
@@ -117,10 +118,11 @@ abbrev pub StaysLed : Arena → Arena → Type 0
 StaysLed before after = (at told : ℕ) (was : ArrayOf word_order) → child_at before at ≡ Level told was →
     IsLevelChild (child_at after at) × ((front : List ℕ) → AreInner front → walk (world_of before) 0 front ≡ Some (suc at) → walk (world_of after) 0 front ≡ Some (suc at))
 
--- Of the levels on the way of a key that has gone those at some places are left, and each that is left stood there.
+-- Of the levels on the way of a key that has gone those at some places are left, still the first ones, and each that is left stood there.
 pub record AreLeft (before after : Arena) (key : List ℕ) (places : List ℕ) : Type 0 where
   pub count : ℕ
   pub are : places ≡ take count (levels_passed (world_of before) key)
   pub stays : StaysLed after before
+  pub still : AreFirstPassed (world_of after) key places
   pub among : (at : ℕ) (map : FinMap word_order ℕ) (front rest : List ℕ) → world_of after (suc at) ≡ level map → AreInner front → walk (world_of after) 0 front ≡ Some (suc at) →
       pieces key ≡ front ++ rest → IsAmong places at

@@ -6,7 +6,7 @@ use Rattle.judy_model.specs.Keys.{word_order}
 use Rattle.judy_sl.specs.declared.arena.Arena.{Arena}
 use Rattle.judy_sl.specs.Pieces.{piece_of}
 use Rattle.judy_sl.specs.WorldInvariants.{AllLed}
-use Rattle.judy_sl.specs.Arenas.{world_of, map_of, IsArena, AreShort}
+use Rattle.judy_sl.specs.Arenas.{world_of, map_of, IsArena}
 use Rattle.judy_sl.specs.Counted.{AreCounted}
 use Rattle.judy_sl.specs.Firsts.{AreFirsts}
 
@@ -40,4 +40,3 @@ pub record IsPlanted (arena : Arena) (entries : List (ℕ × ℕ)) : Type 0 wher
   pub counted : AreCounted (planted arena entries)
   pub firsts : AreFirsts (map_of (planted arena entries)) empty
   pub number : len (map_of (planted arena entries)) ≡ length entries
-  pub short : AreShort (map_of (planted arena entries))

@@ -3,7 +3,7 @@
 ghost use Rattle.std.specs.Prelude.{◌≡◌, ◌+◌, ◌-◌, ◌<◌, ◌≤◌, ◌^◌, ◌/◌, ℕ, Some, true, false, suc, length, take, drop, All};
 ghost use Rattle.std.specs.FinMap as map;
 ghost use Rattle.judy_model.specs.Counts as counts;
-ghost use Rattle.judy_model.specs.Keys.{byte_order, IsStringKey};
+ghost use Rattle.judy_model.specs.Keys.{byte_order};
 ghost use Rattle.std.specs.Option.{option_copied};
 ghost use Rattle.judy_sums.specs.Levels.{keys_below, part_len};
 ghost use Rattle.judy_sums.specs.Listed.{list_at};
@@ -21,13 +21,14 @@ ghost use Rattle.judy_sl.specs.Strings.{IsString};
 
 use crate::arena::Arena;
 use crate::child::{ChildRef, is_level};
-use crate::judysl::JudySl;
+use crate::judysl::StringsOf;
+use crate::keys::KeyLength;
 use crate::pieces::first_piece;
 use judy_sums::{LevelSums, Sums};
 use judy_word::{Entries, WordMap};
 use std::cmp::Ordering;
 
-impl JudySl {
+impl<L: KeyLength> StringsOf<L> {
     /// How many keys there are from `from` to `to`, both included; 0 where `from` is above `to` (this project's own).
     /// Each of the two is a string that may be a key, and needn't be one of the array's. It asks for no memory. It
     /// takes one way down the array as long as both begin with the same bytes, eight at a time, and then two. A level
@@ -36,10 +37,9 @@ impl JudySl {
     /// key stands behind each. (This project's own; the manual has counts of words alone.)
     ///
     /// Of the keys `a`, `ab` and `c`, `count(b"a", b"b")` is 2.
-    #[tactic(auto, using(crate::proofs::lemmas::pieces::Strings::string_of_key))]
     pub fn count(&self, from: &[u8], to: &[u8]) -> u64
-        requires from { IsStringKey from.now }
-        requires to { IsStringKey to.now }
+        requires from { L.IsKey from.now }
+        requires to { L.IsKey to.now }
         ensures { result ≡ counts.count self.now.map from.now to.now }
     {
         self.arena.count(&self.firsts, &self.lists, from, to)

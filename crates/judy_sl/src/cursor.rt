@@ -4,10 +4,12 @@ ghost use Rattle.std.specs.Prelude.{◌≡◌, ◌≤◌, length, unwrap_or};
 ghost use Rattle.judy_model.specs.Keys.{IsStringKey};
 ghost use Rattle.judy_model.specs.declared.keys.TheConstants.{LONGEST_KEY};
 ghost use Rattle.judy_model.specs.Neighbours as neighbours;
+ghost use Rattle.judy_sl.specs.Arenas.{AreWithin};
 ghost use Rattle.judy_sl.specs.Scans.{value_found};
 
 use crate::arena::Arena;
-use crate::judysl::JudySl;
+use crate::judysl::{JudySl, StringsOf};
+use crate::keys::KeyLength;
 use crate::runs::{LastRun, Levels};
 use judy_tails::{KeyHolder, KeyRoom};
 use std::marker::Model;
@@ -86,6 +88,20 @@ impl JudySl {
     /// `first` is the least key from them on, and its `next` the least above them. (This project's own.)
     pub fn cursor(&self, from: &[u8]) -> KeyCursor<'_>
         requires { IsStringKey from.now }
+        ensures map { result.map ≡ self.now.map }
+        ensures key { result.key ≡ from.now }
+    {
+        let _arena = &self.arena;
+        self.short_cursor(from)
+    }
+}
+
+impl<L: KeyLength> StringsOf<L> {
+    /// The same of an array none of whose keys has more than 1,024 bytes, as [`StringsOf::longest`] tells. (This
+    /// project's own.)
+    pub fn short_cursor(&self, from: &[u8]) -> KeyCursor<'_>
+        requires short { AreWithin LONGEST_KEY self.now.map }
+        requires from { IsStringKey from.now }
         ensures map { result.map ≡ self.now.map }
         ensures key { result.key ≡ from.now }
     {

@@ -4,7 +4,7 @@ use thiserror::Error;
 /// Why an insert added no key. The array is then as it was before the call, as contracts see it.
 #[derive(Clone, Copy, Debug, PartialEq, Eq, Error)]
 pub enum SlError {
-    /// The bytes are no key: more than 1,024, or one of them is zero (limit: this project's own).
+    /// The bytes are no key: more than a key may have, or one of them is zero (limit: this project's own).
     #[error("no key of strings")]
     BadKey,
     /// The key is absent, and the array holds as many keys as its limit (limit: this project's own).

@@ -1,38 +1,40 @@
 //! How many keys begin with each first piece, kept in a list of sums: of each piece that number less one. So a word of
 //! the first level that one key alone begins with has no place in the list.
 
-ghost use Rattle.std.specs.Prelude.{◌≡◌, ◌<◌, ◌≤◌, ◌+◌, ◌*◌, true, false, [], length, is_some, IfOk, OnOk, OnErr};
+ghost use Rattle.std.specs.Prelude.{◌≡◌, ◌<◌, ◌≤◌, ◌+◌, ◌*◌, ℕ, List, true, false, [], length, is_some, IfOk, OnOk, OnErr};
 ghost use Rattle.std.specs.FinMap as map;
 ghost use Rattle.judy_sl.specs.Pieces.{pieces};
 ghost use Rattle.judy_sl.specs.World.{lookup};
 ghost use Rattle.judy_sl.specs.WorldInvariants.{AllLed};
 ghost use Rattle.judy_sl.specs.Arenas.{world_of, map_of, IsArena};
 ghost use Rattle.judy_sl.specs.Ways.{levels_passed, IsWay, IsNew};
+ghost use Rattle.judy_sl.specs.Noted.{AreNoted};
 ghost use Rattle.judy_sl.specs.Grown.{IsAdded, IsSame};
 ghost use Rattle.judy_sl.specs.Shrunk.{IsShrunk};
 ghost use Rattle.judy_sl.specs.Counted.{AreCounted};
 ghost use Rattle.judy_sl.specs.Firsts.{AreFirsts};
-ghost use Rattle.judy_model.specs.declared.keys.TheConstants.{LONGEST_KEY};
 ghost use Rattle.judy_sl.specs.Listed.{AreListed, AreLeft, StaysLed};
 ghost use Rattle.judy_sl.specs.Strings.{IsString};
 
 use crate::arena::{Arena, Place, Way};
-use crate::passed::{FEW_PIECES, MOST_PIECES, Passed, are_few};
+use crate::passed::{
+    FEW_PIECES, LevelNotes, MOST_PIECES, Noted, Number, Passed, are_few, are_listed,
+};
 use crate::pieces::first_piece;
 use judy_sums::{LevelSums, Sums};
 use std::alloc::AllocError;
 
 // Adds a key that isn't there, with the value 0, and counts it but in the lists of levels below the first. What may be
-// refused in the list comes first; where the key itself is refused, the list is as it was. The places are those of the
-// levels that the way passes. Both lengths of lists that an insert may want call it, so it is told to be inlined: else
-// the way goes through memory.
+// refused in the list comes first; where the key itself is refused, the list is as it was. What is noted are the levels
+// that the way passes. An insert calls it for each kind of notes, so it is told to be inlined: else the way goes through
+// memory.
 #[inline(always)]
 fn insert_first(
     arena: &mut Arena,
     firsts: &mut Sums,
     key: &[u8],
     way: Way,
-    passed: &[u64],
+    passed: Noted<'_>,
 ) -> Result<Place, AllocError>
     requires is_arena { IsArena arena.old }
     requires counted { AreCounted arena.old }
@@ -40,7 +42,7 @@ fn insert_first(
     requires is_key { IsString key.now }
     requires way { IsWay arena.old key.now way }
     requires new { IsNew way }
-    requires passed { passed.now ≡ levels_passed (world_of arena.old) key.now }
+    requires passed { AreNoted passed (levels_passed (world_of arena.old) key.now) }
     requires few { map.len (map_of arena.old) < 4294967295 }
     requires firsts { AreFirsts (map_of arena.old) firsts.old }
     ensures added { IfOk result (λ made. IsAdded arena.old arena.new key.now made) }
@@ -71,7 +73,7 @@ pub fn insert_counted(
     lists: &mut LevelSums,
     key: &[u8],
     way: Way,
-    passed: &[u64],
+    passed: Noted<'_>,
 ) -> Result<Place, AllocError>
     requires is_arena { IsArena arena.old }
     requires counted { AreCounted arena.old }
@@ -79,7 +81,7 @@ pub fn insert_counted(
     requires is_key { IsString key.now }
     requires way { IsWay arena.old key.now way }
     requires new { IsNew way }
-    requires passed { passed.now ≡ levels_passed (world_of arena.old) key.now }
+    requires passed { AreNoted passed (levels_passed (world_of arena.old) key.now) }
     requires few { map.len (map_of arena.old) < 4294967295 }
     requires firsts { AreFirsts (map_of arena.old) firsts.old }
     requires listed { AreListed (world_of arena.old) lists.old }
@@ -90,21 +92,20 @@ pub fn insert_counted(
     ensures listed { AreListed (world_of arena.new) lists.new }
 {
     let made = insert_first(arena, firsts, key, way, passed)?;
-    arena.list_places(lists, passed, key, true, way.clashes());
+    arena.list_noted(lists, passed, key, true, way.clashes());
     Ok(made)
 }
 
 // Takes a key out, and counts it no more but in the lists of levels below the first; answers whether it was there. The
-// levels that its way passed and that stay are left in the list of places.
-fn del_first<const N: usize>(
+// levels that its way passed and that stay are noted.
+fn del_first<N: LevelNotes>(
     arena: &mut Arena,
     firsts: &mut Sums,
     key: &[u8],
-    passed: &mut Passed<N>,
+    passed: &mut N,
 ) -> bool
-    requires most { N ≤ MOST_PIECES }
-    requires few { length key.now < 8 * N + 8 }
-    requires begins { passed.old.items ≡ [] }
+    requires few { length key.now < 8 * N.most + 8 }
+    requires begins { N.has passed.old [] }
     requires is_arena { IsArena arena.old }
     requires counted { AreCounted arena.old }
     requires led { AllLed (world_of arena.old) }
@@ -114,7 +115,8 @@ fn del_first<const N: usize>(
     ensures shrunk { IsShrunk arena.old arena.new key.now }
     ensures counted { AreCounted arena.new }
     ensures firsts { AreFirsts (map_of arena.new) firsts.new }
-    ensures left { result ≡ true → AreLeft arena.old arena.new key.now passed.new.items }
+    ensures left { result ≡ true → (places : List ℕ) × N.has passed.new places
+        × AreLeft arena.old arena.new key.now places }
     ensures unchanged { result ≡ false → arena.new ≡ arena.old }
 {
     let Some(beside) = arena.del(key, passed) else {
@@ -126,15 +128,14 @@ fn del_first<const N: usize>(
     true
 }
 
-// The same, and counts it no more in those lists, where so many levels at most are on the key's way.
-fn del_noted<const N: usize>(
+// The same, and counts it no more in those lists, by notes that are for as many levels as its way may pass.
+fn del_noted<N: LevelNotes + Drop>(
     arena: &mut Arena,
     firsts: &mut Sums,
     lists: &mut LevelSums,
     key: &[u8],
 ) -> bool
-    requires most { N ≤ MOST_PIECES }
-    requires few { length key.now < 8 * N + 8 }
+    requires few { length key.now < 8 * N.most + 8 }
     requires is_arena { IsArena arena.old }
     requires counted { AreCounted arena.old }
     requires led { AllLed (world_of arena.old) }
@@ -147,12 +148,12 @@ fn del_noted<const N: usize>(
     ensures firsts { AreFirsts (map_of arena.new) firsts.new }
     ensures listed { AreListed (world_of arena.new) lists.new }
 {
-    let mut passed = Passed::<N>::new();
-    let found = del_first(arena, firsts, key, &mut passed);
-    if found {
-        arena.list_places(lists, passed.as_slice(), key, false, false);
+    let mut passed = N::none();
+    if !del_first(arena, firsts, key, &mut passed) {
+        return false;
     }
-    found
+    arena.list_noted(lists, passed.noted(), key, false, false);
+    true
 }
 
 // Takes a key out, and counts it no more; answers whether it was there.
@@ -161,7 +162,6 @@ pub fn del(arena: &mut Arena, firsts: &mut Sums, lists: &mut LevelSums, key: &[u
     requires counted { AreCounted arena.old }
     requires led { AllLed (world_of arena.old) }
     requires is_key { IsString key.now }
-    requires short { length key.now ≤ LONGEST_KEY }
     requires firsts { AreFirsts (map_of arena.old) firsts.old }
     requires listed { AreListed (world_of arena.old) lists.old }
     ensures answer { result ≡ is_some (lookup (world_of arena.old) 0 (pieces key.now)) }
@@ -171,8 +171,10 @@ pub fn del(arena: &mut Arena, firsts: &mut Sums, lists: &mut LevelSums, key: &[u
     ensures listed { AreListed (world_of arena.new) lists.new }
 {
     if are_few(key) {
-        del_noted::<FEW_PIECES>(arena, firsts, lists, key)
+        del_noted::<Passed<FEW_PIECES>>(arena, firsts, lists, key)
+    } else if are_listed(key) {
+        del_noted::<Passed<MOST_PIECES>>(arena, firsts, lists, key)
     } else {
-        del_noted::<MOST_PIECES>(arena, firsts, lists, key)
+        del_noted::<Number>(arena, firsts, lists, key)
     }
 }

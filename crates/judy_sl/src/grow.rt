@@ -7,7 +7,6 @@ ghost use Rattle.std.specs.Prelude.{ℕ, List, [], ◌≡◌, ◌+◌, ◌<◌, 
 ghost use Rattle.std.specs.FinMap as map;
 ghost use Rattle.judy_word.specs.Writes.{with_value};
 ghost use Rattle.judy_tails.specs.Tails.{next_place, HasFree};
-ghost use Rattle.judy_model.specs.Keys.{IsStringKey};
 ghost use Rattle.judy_sl.specs.Pieces.{piece_of, IsText};
 ghost use Rattle.judy_sl.specs.Children.{Tail, Level as LevelChild, IsTaken};
 ghost use Rattle.judy_sl.specs.Arenas.{world_of, child_at, map_of, IsArena, HasRoom};
@@ -25,7 +24,7 @@ ghost use Rattle.judy_sl.specs.Strings.{IsString};
 use crate::arena::{Arena, Place, Way};
 use crate::branches::{Branch, Twig, branch_of};
 use crate::child::{ChildRef, LEVEL};
-use crate::keys::is_key;
+use crate::keys::{KeyLength, is_key_of};
 use crate::pieces::first_piece;
 use judy_model::keys::LONGEST_KEY;
 use judy_tails::{KeyFront, KeyHolder};
@@ -100,13 +99,13 @@ impl Arena {
 
     // Tries a key of fewer than eight bytes as an absent one, and puts it in with the value 0 if so, by one way down
     // the first level. Answers as `try_add`.
-    fn try_short(&mut self, key: &[u8]) -> Result<Option<Place>, AllocError>
+    fn try_short<L: KeyLength>(&mut self, key: &[u8]) -> Result<Option<Place>, AllocError>
         requires is_arena { IsArena self.old }
         requires counted { AreCounted self.old }
         requires led { AllLed (world_of self.old) }
         requires short { length key.now < 8 }
         ensures counted { AreCounted self.new }
-        ensures key { IfShown result (IsStringKey key.now) }
+        ensures key { IfShown result (L.IsKey key.now) }
         ensures absent { IfShown result (map.get (map_of self.old) key.now ≡ None) }
         ensures added { IfOk result
             (λ found. IfSome found (λ place. IsAdded self.old self.new key.now place)) }
@@ -116,7 +115,7 @@ impl Arena {
         ensures open { IfOk result (λ found. found ≡ None → self.new ≡ self.old) }
         ensures refused { OnErr result (IsSame self.old self.new) }
     {
-        if !is_key(key) {
+        if !is_key_of::<L>(key) {
             return Ok(None);
         }
         let piece = first_piece(key);
@@ -135,13 +134,17 @@ impl Arena {
     // Both lengths of lists that an insert may want call it, so it is told to be inlined: it is the whole of most
     // inserts of new keys.
     #[inline(always)]
-    pub fn try_add(&mut self, key: &[u8], tries: bool) -> Result<Option<Place>, AllocError>
+    pub fn try_add<L: KeyLength>(
+        &mut self,
+        key: &[u8],
+        tries: bool,
+    ) -> Result<Option<Place>, AllocError>
         requires is_arena { IsArena self.old }
         requires counted { AreCounted self.old }
         requires led { AllLed (world_of self.old) }
         ensures tried { IfShown result (IsTrue tries) }
         ensures counted { AreCounted self.new }
-        ensures key { IfShown result (IsStringKey key.now) }
+        ensures key { IfShown result (L.IsKey key.now) }
         ensures absent { IfShown result (map.get (map_of self.old) key.now ≡ None) }
         ensures added { IfOk result
             (λ found. IfSome found (λ place. IsAdded self.old self.new key.now place)) }
@@ -155,9 +158,9 @@ impl Arena {
             return Ok(None);
         }
         if key.len() < 8 {
-            return self.try_short(key);
+            return self.try_short::<L>(key);
         }
-        if !is_key(key) {
+        if !is_key_of::<L>(key) {
             return Ok(None);
         }
         let next = self.tails.next_place(key.len() - 8);

@@ -5,26 +5,27 @@ ghost use Rattle.std.specs.Borrow.{sem};
 ghost use Rattle.std.specs.FinMap as map;
 ghost use Rattle.std.specs.Option.{option_copied_mut};
 ghost use Rattle.judy_model.specs.Arrays as array;
-ghost use Rattle.judy_model.specs.Keys.{IsStringKey};
 ghost use Rattle.judy_sl.specs.Pieces.{EndsWell};
-ghost use Rattle.judy_sl.specs.Lends.{LendsSlot, LendsIns, IsRefusal};
 
 use crate::arena::{Arena, Way};
 use crate::error::SlError;
 use crate::firsts;
-use crate::keys::is_key;
-use crate::passed::{FEW_PIECES, MOST_PIECES, Passed, are_few};
+use crate::keys::{AnyLength, KeyLength, StoreKeys, is_key_of};
+use crate::passed::{FEW_PIECES, LevelNotes, MOST_PIECES, Number, Passed, are_few, are_listed};
 use crate::pieces::ends_in_zero;
 use judy_sums::{LevelSums, Sums};
 use std::alloc::Global;
-use std::marker::Model;
+use std::marker::{Model, PhantomData};
 
-/// An array that maps keys, strings of at most 1,024 bytes without zeros, to words. It holds at most as many keys
-/// as its limit (limit: this project's own).
+/// An array that maps keys, strings of bytes without zeros, to words. A key has at most `L::LONGEST` bytes, and the
+/// array holds at most as many keys as its limit (both limits are this project's own).
 #[derive(Drop)]
-pub struct JudySl {
+pub struct StringsOf<L: KeyLength> {
+    keys: PhantomData<L>,
     limit: u64,
     count: u64,
+    // No key has more bytes.
+    longest: usize,
     pub(crate) arena: Arena,
     // How many keys begin with each first piece, less one.
     pub(crate) firsts: Sums,
@@ -37,7 +38,14 @@ pub struct JudySl {
     added: bool,
 }
 
-impl Model for JudySl {
+/// An array as a store has them: its keys have at most 1,024 bytes.
+pub type JudySl = StringsOf<StoreKeys>;
+
+/// An array whose keys have any length: at most 9,223,372,036,854,775,807 bytes, as many as memory that is lent may
+/// have.
+pub type LongStrings = StringsOf<AnyLength>;
+
+impl<L: KeyLength> Model for StringsOf<L> {
     ghost use Rattle.std.specs.Coded.{coded_list, coded_ℕ};
     ghost use Rattle.judy_model.specs.Keys.{byte_order};
     ghost use Rattle.judy_model.specs.Arrays.{ArrayOf, array_code};
@@ -53,25 +61,30 @@ impl Model for JudySl {
 
     ghost view = { λ a. array_of a.limit a.arena };
 
-    ghost invariant = { λ a. IsStrings a.limit a.count a.arena × AreCounted a.arena
-        × AreFirsts (map_of a.arena) a.firsts × AreListed (world_of a.arena) a.lists };
+    ghost invariant = { λ a. IsStrings L.LONGEST a.longest a.limit a.count a.arena
+        × AreCounted a.arena × AreFirsts (map_of a.arena) a.firsts
+        × AreListed (world_of a.arena) a.lists };
 }
 
-impl JudySl {
-    ghost use Rattle.judy_sl.specs.Arenas.{array_of, map_of, IsStrings};
+impl<L: KeyLength> StringsOf<L> {
+    ghost use Rattle.judy_sl.specs.Lends.{LendsSlot, LendsIns};
+    ghost use Rattle.judy_sl.specs.Refusals.{IsRefusal};
+    ghost use Rattle.judy_sl.specs.Arenas.{array_of, map_of, AreWithin, IsStrings};
     ghost use Rattle.judy_sl.specs.Counted.{AreCounted};
     ghost use Rattle.judy_sl.specs.Firsts.{AreFirsts};
 
     /// The empty array that holds at most `limit` keys, from 1 to 4,294,967,295 (limit: this project's own).
     /// It asks for no memory before the first insert.
-    pub fn new(alloc: Global, limit: u64) -> JudySl
+    pub fn new(alloc: Global, limit: u64) -> StringsOf<L>
         requires some { 1 ≤ limit }
         requires most { limit ≤ 4294967295 }
         ensures { result ≡ array.empty_array limit }
     {
-        JudySl {
+        StringsOf {
+            keys: PhantomData,
             limit,
             count: 0,
+            longest: 0,
             arena: Arena::new(alloc),
             firsts: Sums::new(alloc),
             lists: LevelSums::new(alloc),
@@ -80,18 +93,20 @@ impl JudySl {
         }
     }
 
-    // The array of an arena in which no two keys begin with the same piece.
-    pub(crate) fn of(limit: u64, count: u64, arena: Arena) -> JudySl
-        requires strings { IsStrings limit count arena }
+    // The array of an arena in which no two keys begin with the same piece, and none has more than so many bytes.
+    pub(crate) fn of(longest: usize, limit: u64, count: u64, arena: Arena) -> StringsOf<L>
+        requires strings { IsStrings L.LONGEST longest limit count arena }
         requires counted { AreCounted arena }
         requires firsts { AreFirsts (map_of arena) map.empty }
         ensures { result ≡ array_of limit arena }
     {
         let firsts = Sums::new(arena.alloc);
         let lists = LevelSums::new(arena.alloc);
-        JudySl {
+        StringsOf {
+            keys: PhantomData,
             limit,
             count,
+            longest,
             arena,
             firsts,
             lists,
@@ -108,42 +123,44 @@ impl JudySl {
     /// full.
     /// Each leaves the array as it was.
     pub fn ins(&mut self, key: &[u8]) -> Result<&mut u64, SlError>
-        ensures* writes_back { sem 𝓛 (LendsIns self.entry key.now result) }
+        ensures* writes_back { sem 𝓛 (LendsIns L.row L.KeyLength self.entry key.now result) }
         ensures value { IfOk result
             (λ slot. Some slot.now ≡ map.get (array.ins self.old.map key.now) key.now) }
         ensures accepted { OnOk result
-            (IsStringKey key.now × IsFalse (array.is_full self.old key.now)) }
-        ensures refused { IfErr result (IsRefusal self.old key.now) }
+            (L.IsKey key.now × IsFalse (array.is_full self.old key.now)) }
+        ensures refused { IfErr result (IsRefusal L.IsKey self.old key.now) }
     {
         if ends_in_zero(key) {
             return Err(SlError::BadKey);
         }
         if are_few(key) {
-            self.ins_noted::<FEW_PIECES>(key)
+            self.ins_noted::<Passed<FEW_PIECES>>(key)
+        } else if are_listed(key) {
+            self.ins_noted::<Passed<MOST_PIECES>>(key)
         } else {
-            self.ins_noted::<MOST_PIECES>(key)
+            self.ins_noted::<Number>(key)
         }
     }
 
-    // The same for bytes of which the last isn't zero, where so many levels at most are on a key's way.
-    fn ins_noted<const N: usize>(&mut self, key: &[u8]) -> Result<&mut u64, SlError>
-        requires most { N ≤ MOST_PIECES }
+    // The same for bytes of which the last isn't zero, by notes that are for as many levels as a key's way may pass.
+    fn ins_noted<N: LevelNotes + Drop>(&mut self, key: &[u8]) -> Result<&mut u64, SlError>
         requires ends { EndsWell key.now }
-        requires few { IsStringKey key.now → length key.now < 8 * N + 8 }
-        ensures* writes_back { sem 𝓛 (LendsIns self.entry key.now result) }
+        requires few { L.IsKey key.now → length key.now < 8 * N.most + 8 }
+        ensures* writes_back { sem 𝓛 (LendsIns L.row L.KeyLength self.entry key.now result) }
         ensures value { IfOk result
             (λ slot. Some slot.now ≡ map.get (array.ins self.old.map key.now) key.now) }
         ensures accepted { OnOk result
-            (IsStringKey key.now × IsFalse (array.is_full self.old key.now)) }
-        ensures refused { IfErr result (IsRefusal self.old key.now) }
+            (L.IsKey key.now × IsFalse (array.is_full self.old key.now)) }
+        ensures refused { IfErr result (IsRefusal L.IsKey self.old key.now) }
     {
         let tries = self.expects_new & (self.count != self.limit);
-        if let Some(place) = self.arena.try_add(key, tries)? {
+        if let Some(place) = self.arena.try_add::<L>(key, tries)? {
             self.count += 1;
+            self.longest = self.longest.max(key.len());
             self.added = true;
             return Ok(self.arena.lend(place));
         }
-        let mut passed = Passed::<N>::new();
+        let mut passed = N::none();
         match self.arena.walk(key, &mut passed) {
             Way::At(place) => {
                 self.expects_new = self.added;
@@ -151,13 +168,13 @@ impl JudySl {
                 Ok(self.arena.lend(place))
             }
             way => {
-                if !is_key(key) {
+                if !is_key_of::<L>(key) {
                     return Err(SlError::BadKey);
                 }
                 if self.count == self.limit {
                     return Err(SlError::Full);
                 }
-                let passed = passed.as_slice();
+                let passed = passed.noted();
                 let made = firsts::insert_counted(
                     &mut self.arena,
                     &mut self.firsts,
@@ -167,6 +184,7 @@ impl JudySl {
                     passed,
                 )?;
                 self.count += 1;
+                self.longest = self.longest.max(key.len());
                 let first = way.ends_first();
                 self.expects_new = first | self.added;
                 self.added = first;
@@ -190,7 +208,7 @@ impl JudySl {
     /// The slot of the key, and `None` where it is absent; bytes that are no key answer as an absent one. What the
     /// caller leaves in the slot is then the key's value. (Manual: JSLG, JudySLGet, whose answer is this slot.)
     pub fn slot(&mut self, key: &[u8]) -> Option<&mut u64>
-        ensures* writes_back { sem 𝓛 (LendsSlot self.entry key.now result) }
+        ensures* writes_back { sem 𝓛 (LendsSlot L.row L.KeyLength self.entry key.now result) }
         ensures value { option_copied_mut result ≡ map.get self.old.map key.now }
     {
         let arena = &self.arena;
@@ -211,7 +229,7 @@ impl JudySl {
         ensures deleted { self.new ≡ array.with_map self.old (array.del self.old.map key.now) }
     {
         let arena = &self.arena;
-        if !is_key(key) {
+        if !is_key_of::<L>(key) {
             return false;
         }
         let found = firsts::del(&mut self.arena, &mut self.firsts, &mut self.lists, key);
@@ -247,6 +265,28 @@ impl JudySl {
         self.count == 0
     }
 
+    /// A length that no key exceeds, and so room for what each search finds: a walk asks for it once. It is the length
+    /// of the longest key that came in since the array was last empty, also where that key has gone. (This project's
+    /// own.)
+    ///
+    ///     let mut buffer = Vec::from_elem(alloc, 0, names.longest())?;
+    ///     let mut len = 0;
+    ///     let least = names.neighbour_in(Look::inclusive(Side::Above), &mut buffer, &mut len);
+    pub fn longest(&self) -> usize
+        ensures within { AreWithin result self.now.map }
+        ensures most { result ≤ L.LONGEST }
+    {
+        self.longest
+    }
+
+    /// Whether the bytes are a key of such an array: at most `L::LONGEST`, none of them zero. (No zero byte: the
+    /// manual's C strings; the limit is this project's own.)
+    pub fn is_key(bytes: &[u8]) -> bool
+        ensures { IsTrue result ↔ L.IsKey bytes.now }
+    {
+        is_key_of::<L>(bytes)
+    }
+
     /// How many keys the array may hold: from 1 to 4,294,967,295 (limit: this project's own).
     pub fn limit(&self) -> u64
         ensures value { result ≡ self.now.limit }
@@ -268,6 +308,37 @@ impl JudySl {
         self.firsts = Sums::new(alloc);
         self.lists = LevelSums::new(alloc);
         self.count = 0;
+        self.longest = 0;
         freed
+    }
+}
+
+impl JudySl {
+    /// The same array as one whose keys may have any length. It moves no key. (This project's own.)
+    pub fn with_any_length(self) -> LongStrings
+        ensures { result ≡ self }
+    {
+        let StringsOf {
+            keys: _,
+            limit,
+            count,
+            longest,
+            arena,
+            firsts,
+            lists,
+            expects_new,
+            added,
+        } = self;
+        StringsOf {
+            keys: PhantomData,
+            limit,
+            count,
+            longest,
+            arena,
+            firsts,
+            lists,
+            expects_new,
+            added,
+        }
     }
 }

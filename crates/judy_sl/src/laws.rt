@@ -2,23 +2,24 @@
 //! program calls these.
 
 ghost use Rattle.std.specs.Prelude.{◌≡◌, ℕ, List, [], ◌∷◌, codes};
-ghost use Rattle.judy_model.specs.Keys.{IsStringKey, byte_order};
+ghost use Rattle.judy_model.specs.Keys.{byte_order};
 ghost use Rattle.judy_sl.specs.Pieces.{pieces, spelling, ArePieces};
 ghost use Rattle.judy_sl.specs.Behind.{KeysStandEntryByEntry};
+ghost use Rattle.judy_sl.specs.Strings.{IsString};
 
 /// Exactly the last piece of a key is final.
 pub fn the_last_piece_is_final()
-    ensures { (key : List ℕ) → IsStringKey key → ArePieces (pieces key) }
+    ensures { (key : List ℕ) → IsString key → ArePieces (pieces key) }
 {}
 
 /// The pieces of a key spell it, so no two keys have the same.
 pub fn pieces_spell_their_key()
-    ensures { (key : List ℕ) → IsStringKey key → spelling (pieces key) ≡ key }
+    ensures { (key : List ℕ) → IsString key → spelling (pieces key) ≡ key }
 {}
 
 /// Keys compare as their pieces do, the first that differ deciding, as numbers.
 pub fn keys_compare_as_their_pieces()
-    ensures { (one other : List ℕ) → IsStringKey one → IsStringKey other
+    ensures { (one other : List ℕ) → IsString one → IsString other
         → byte_order one other ≡ byte_order (pieces one) (pieces other) }
 {}
 

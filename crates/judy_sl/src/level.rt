@@ -1,14 +1,14 @@
 //! The levels of an array, as seen from outside.
 
 ghost use Rattle.std.specs.Prelude.{◌≡◌, ◌%◌, IfSome, IsSome, length};
-ghost use Rattle.judy_model.specs.Keys.{IsStringKey};
 ghost use Rattle.judy_sl.specs.Arenas.{map_of, IsArena};
 ghost use Rattle.judy_sl.specs.Levels.{IsLevelOf, HasBranch};
 ghost use Rattle.judy_sl.specs.Strings.{IsString};
 
 use crate::arena::Arena;
 use crate::child::ChildRef;
-use crate::judysl::JudySl;
+use crate::judysl::StringsOf;
+use crate::keys::KeyLength;
 use crate::pieces::first_piece;
 use judy_word::{JudyL, WordMap};
 
@@ -35,15 +35,14 @@ impl Arena {
     }
 }
 
-impl JudySl {
+impl<L: KeyLength> StringsOf<L> {
     /// The level behind the bytes `at`, a key of a multiple of eight bytes: its keys are the next pieces of the keys
     /// that begin with `at`, and under the piece in which a key ends stands that key's value; under another piece
     /// stands what only the array itself can follow. `None` where no level stands there, as where no key, or only one,
     /// begins with `at`; the empty `at` has a level always, and so has one with which two keys begin. (This project's
     /// own.)
-    #[tactic(auto, using(crate::proofs::lemmas::pieces::Strings::string_of_key))]
     pub fn level(&self, at: &[u8]) -> Option<&JudyL>
-        requires is_key { IsStringKey at.now }
+        requires is_key { L.IsKey at.now }
         requires whole { length at.now % 8 ≡ 0 }
         ensures there { HasBranch self.now.map at.now → IsSome result }
         ensures keys { IfSome result (λ level. IsLevelOf self.now.map at.now level.now.map) }

@@ -1,7 +1,7 @@
 //! How many keys begin with each piece behind wide levels below the first, kept in a list for each as firsts.rt keeps
 //! it of the first level. A level gets its list with the entry that makes it wide, and loses it with most of its keys.
 
-ghost use Rattle.std.specs.Prelude.{◌≡◌, ◌+◌, ◌<◌, ◌≤◌, ◌^◌, ◌/◌, ◌↔◌, ℕ, suc, true, false, Some, None, OnOk, IfOk, IsSome, IsTrue, All, length};
+ghost use Rattle.std.specs.Prelude.{◌≡◌, ◌+◌, ◌<◌, ◌≤◌, ◌^◌, ◌/◌, ◌↔◌, ℕ, suc, true, false, List, Some, None, OnOk, IfOk, IsSome, IsTrue, All, length, take};
 ghost use Rattle.std.specs.FinMap as map;
 ghost use Rattle.std.specs.FinMap.{FinMap};
 ghost use Rattle.judy_model.specs.Keys.{word_order};
@@ -14,10 +14,13 @@ ghost use Rattle.judy_sl.specs.Arenas.{world_of, child_at, IsArena};
 ghost use Rattle.judy_sl.specs.Behind.{map_behind};
 ghost use Rattle.judy_sl.specs.Counted.{LeadsOn, keys_behind, keys_behind_all, AreCounted};
 ghost use Rattle.judy_sl.specs.Firsts.{AreFirsts};
+ghost use Rattle.judy_sl.specs.Ways.{levels_passed};
+ghost use Rattle.judy_sl.specs.Noted.{AreNoted, AreFirstPassed};
 ghost use Rattle.judy_sl.specs.Listed.{with_entry, others_begin, IsPageList, IsListed, AreListed, IsOff, AreListedBut, IsBegun, AreBegun, GetsList};
 
 use crate::arena::Arena;
 use crate::child::ChildRef;
+use crate::passed::Noted;
 use crate::pieces::first_piece;
 use judy_sums::{LevelSums, Sums};
 use judy_word::WordMap;
@@ -207,7 +210,7 @@ impl Arena {
 
     // The same at the lists of all levels that its way passed, by their places. Behind all but the last one others
     // begin with its next piece, and of the last one it is told.
-    pub fn list_places(
+    fn list_places(
         &self,
         lists: &mut LevelSums,
         places: &[u64],
@@ -227,6 +230,54 @@ impl Arena {
             rest = &rest[8..];
             left -= 1;
             self.list_key(lists, *at, rest, comes, others_begin(left, beside));
+        }
+    }
+
+    // The same at the lists of so many levels, the first ones on its way.
+    #[inline(never)]
+    fn list_way(&self, lists: &mut LevelSums, key: &[u8], count: usize, comes: bool, beside: bool)
+        requires is_arena { IsArena self.now }
+        requires counted { AreCounted self.now }
+        requires deep { count ≤ length (levels_passed (world_of self.now) key.now) }
+        requires but { AreListedBut comes self.now lists.old
+            (take count (levels_passed (world_of self.now) key.now)) key.now }
+        requires begun { comes ≡ true → AreBegun (world_of self.now)
+            (take count (levels_passed (world_of self.now) key.now)) key.now beside }
+        ensures { AreListed (world_of self.now) lists.new }
+    {
+        let mut child = None;
+        let mut rest = key;
+        let mut left = count;
+        'levels: while left > 0 {
+            left -= 1;
+            let at = self.level_under(child, rest);
+            rest = &rest[8..];
+            self.list_key(lists, at, rest, comes, others_begin(left, beside));
+            child = Some(at);
+        }
+    }
+
+    // The same at the lists of the levels that are noted.
+    #[inline(always)]
+    pub fn list_noted(
+        &self,
+        lists: &mut LevelSums,
+        noted: Noted<'_>,
+        key: &[u8],
+        comes: bool,
+        beside: bool,
+    )
+        requires is_arena { IsArena self.now }
+        requires counted { AreCounted self.now }
+        requires noted { (places : List ℕ) × AreNoted noted places
+            × AreFirstPassed (world_of self.now) key.now places
+            × AreListedBut comes self.now lists.old places key.now
+            × (comes ≡ true → AreBegun (world_of self.now) places key.now beside) }
+        ensures { AreListed (world_of self.now) lists.new }
+    {
+        match noted {
+            Noted::Places(places) => self.list_places(lists, places, key, comes, beside),
+            Noted::Count(count) => self.list_way(lists, key, count, comes, beside),
         }
     }
 }

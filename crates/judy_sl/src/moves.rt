@@ -10,7 +10,8 @@ ghost use Rattle.judy_sl.specs.Settled.{IsEntry, HasFreeFor, IsKept, IsSettled};
 use crate::arena::{Arena, Place, place_in};
 use crate::child::{LEVEL, is_level};
 use crate::grow::MOST;
-use crate::judysl::JudySl;
+use crate::judysl::StringsOf;
+use crate::keys::KeyLength;
 use judy_model::keys::LONGEST_KEY;
 use judy_word::WordMap;
 
@@ -49,7 +50,7 @@ impl Arena {
     }
 
     // The entries of the first level, or of the level of a child.
-    fn entries_of(&self, child: Option<u64>) -> &WordMap
+    pub fn entries_of(&self, child: Option<u64>) -> &WordMap
         requires { IsLevelPlace self.now (place_in child 0) }
         ensures { world_of self.now (seat_in child) ≡ level result.now.map }
     {
@@ -94,7 +95,7 @@ impl Arena {
     }
 }
 
-impl JudySl {
+impl<L: KeyLength> StringsOf<L> {
     /// Gives back memory that deletes have left unused: what is left of keys moves together, so that pages become empty
     /// and go. It reads each entry of each level once, asks for no memory and can't fail; each key keeps its value. Of
     /// each length of what is left of keys at most one page has free places then. The list of the levels keeps its

@@ -1,9 +1,9 @@
 //! Which key stands at a place: in a level with a list the piece is sought by how many keys stand before it. Another
 //! level's entries are read from the nearer end up to the place, unless each has one key behind it.
 
-ghost use Rattle.std.specs.Prelude.{◌≡◌, ◌<◌, ◌≤◌, ◌+◌, ◌^◌, ℕ, List, [], Some, suc, drop, unwrap_or, All};
+ghost use Rattle.std.specs.Prelude.{◌≡◌, ◌<◌, ◌≤◌, ◌+◌, ◌^◌, ℕ, List, [], Some, suc, length, drop, unwrap_or, All, IfSome, MatchOption};
 ghost use Rattle.std.specs.FinMap as map;
-ghost use Rattle.std.specs.Option.{option_copied};
+ghost use Rattle.std.specs.Option.{option_copied, option_map};
 ghost use Rattle.judy_model.specs.Counts as counts;
 ghost use Rattle.judy_sl.specs.Arenas.{world_of, map_of, IsArena};
 ghost use Rattle.judy_sl.specs.Counted.{LeadsOn, keys_behind, keys_behind_all, AreCounted, StandsWith};
@@ -11,16 +11,17 @@ ghost use Rattle.judy_sl.specs.Firsts.{AreFirsts};
 ghost use Rattle.judy_sl.specs.Listed.{AreListed, IsListOf};
 ghost use Rattle.judy_sl.specs.Nth.{before_entry, KeysFit, IsChosen, AreReadFor, IsSpotIn, IsSpotOf, IsListedSpot, IsNthBehind, IsNth};
 ghost use Rattle.judy_tails.specs.Writers.{StaysBeyond, WasGiven};
-ghost use Rattle.judy_sl.specs.Scans.{value_found};
+ghost use Rattle.judy_sl.specs.Scans.{value_found, IsFront};
 
 use crate::arena::Arena;
 use crate::child::ChildRef;
 use crate::counts::list_of;
-use crate::judysl::JudySl;
-use crate::keys::KeyBuf;
+use crate::judysl::{JudySl, StringsOf};
+use crate::keys::{KeyBuf, KeyLength};
+use crate::measure::Measure;
 use crate::pieces::push_piece;
 use judy_sums::{LevelSums, Sums};
-use judy_tails::{KeyEnd, KeyWriter};
+use judy_tails::{KeyEnd, KeyFront, KeyHolder, KeyWriter};
 use judy_word::{Entries, WordMap};
 
 impl JudySl {
@@ -42,6 +43,47 @@ impl JudySl {
         key.clear();
         let mut end = KeyEnd::new(key);
         self.arena.nth(&self.firsts, &self.lists, n - 1, &mut end)
+    }
+}
+
+impl<L: KeyLength> StringsOf<L> {
+    /// The value of the `n`-th key in ascending order, counted from 1; that key then stands at the front of the buffer,
+    /// and `len` is its length. `None` for 0, and for an `n` above the number of keys, and both stay. The buffer has
+    /// room for the key: [`StringsOf::by_count_len`] tells how much that is, and [`StringsOf::longest`] how much is
+    /// always enough. What the buffer has behind the key stays. It asks for no memory, and costs what
+    /// [`JudySl::by_count`] does. (This project's own.)
+    ///
+    ///     let value = names.by_count_in(2, &mut buffer, &mut len);        // &buffer[..len] == b"ab"
+    pub fn by_count_in(&self, n: u64, buffer: &mut [u8], len: &mut usize) -> Option<u64>
+        requires room { IfSome (counts.by_count self.now.map n)
+            (λ found. length found ≤ length buffer.old) }
+        ensures key { MatchOption (counts.by_count self.now.map n)
+            ((buffer.new ≡ buffer.old) × (len.new ≡ len.old))
+            (λ found. IsFront found buffer.old len.new buffer.new) }
+        ensures value { result ≡ value_found self.now.map (counts.by_count self.now.map n) }
+    {
+        if n == 0 || n > self.len() {
+            return None;
+        }
+        let mut key = KeyFront::new(buffer, 0);
+        let value = self.arena.nth(&self.firsts, &self.lists, n - 1, &mut key);
+        *len = key.len();
+        value
+    }
+
+    /// How many bytes the `n`-th key in ascending order has, counted from 1. `None` for 0, and for an `n` above the
+    /// number of keys. It costs what [`StringsOf::by_count_in`] does. (This project's own.)
+    pub fn by_count_len(&self, n: u64) -> Option<usize>
+        ensures { result ≡ option_map length (counts.by_count self.now.map n) }
+    {
+        if n == 0 || n > self.len() {
+            return None;
+        }
+        let mut measure = Measure { len: 0 };
+        let _ = self
+            .arena
+            .nth(&self.firsts, &self.lists, n - 1, &mut measure);
+        Some(measure.len)
     }
 }
 

@@ -5,14 +5,15 @@
 ghost use Rattle.std.specs.Prelude.{◌≡◌, ◌≤◌, ◌++◌, ◌∷◌, ℕ, [], All, IfOk, OnOk, length};
 ghost use Rattle.std.specs.FinMap as map;
 ghost use Rattle.judy_model.specs.Arrays.{empty_array, with_map};
-ghost use Rattle.judy_model.specs.Keys.{IsStringKey};
-ghost use Rattle.judy_sl.specs.Arenas.{map_of};
+ghost use Rattle.judy_sl.specs.Arenas.{map_of, AreWithin};
 ghost use Rattle.judy_sl.specs.Pieces.{piece_of};
 ghost use Rattle.judy_sl.specs.Planted.{opens, openers, planted, AreBelow, IsPlanted};
 ghost use Rattle.judy_sl.specs.Sorted.{pairs_in, with_pairs};
+ghost use Rattle.judy_sl.specs.Strings.{IsString};
 
 use crate::arena::{Arena, Place};
-use crate::judysl::JudySl;
+use crate::judysl::StringsOf;
+use crate::keys::KeyLength;
 use crate::pieces::first_piece;
 use judy_word::WordMap;
 use std::alloc::{AllocError, Global};
@@ -31,7 +32,7 @@ fn plant(
     key: &[u8],
     value: u64,
 ) -> Result<(), AllocError>
-    requires is_key { IsStringKey key.now }
+    requires is_key { IsString key.now }
     requires long { 8 ≤ length key.now }
     requires planted { IsPlanted arena.old entries.old.items }
     requires above { AreBelow (piece_of key.now) entries.old.items }
@@ -47,48 +48,57 @@ fn plant(
     Ok(())
 }
 
-// Does so with the first of all keys that begin with the same whole piece, and answers the entries.
-fn plant_all(arena: &mut Arena, pairs: &[(&[u8], u64)]) -> Result<Vec<(u64, u64)>, AllocError>
+// Does so with the first of all keys that begin with the same whole piece, and answers the entries, and a length that
+// none of these keys exceeds.
+fn plant_all<L: KeyLength>(
+    arena: &mut Arena,
+    pairs: &[(&[u8], u64)],
+) -> Result<(Vec<(u64, u64)>, usize), AllocError>
     requires planted { IsPlanted arena.old [] }
     requires empty { map_of (planted arena.old []) ≡ map.empty }
-    requires keys { All (λ pair. IsStringKey pair.0.now) pairs.now }
-    ensures planted { IfOk result (λ entries. IsPlanted arena.new entries.items) }
-    ensures map { IfOk result (λ entries. map_of (planted arena.new entries.items)
+    requires keys { All (λ pair. L.IsKey pair.0.now) pairs.now }
+    ensures planted { IfOk result (λ made. IsPlanted arena.new made.0.items) }
+    ensures map { IfOk result (λ made. map_of (planted arena.new made.0.items)
         ≡ with_pairs map.empty (openers 0 (pairs_in pairs.now))) }
-    ensures few { IfOk result (λ entries. length entries.items ≤ length pairs.now) }
+    ensures few { IfOk result (λ made. length made.0.items ≤ length pairs.now) }
+    ensures within { IfOk result
+        (λ made. AreWithin made.1 (map_of (planted arena.new made.0.items))) }
+    ensures most { IfOk result (λ made. made.1 ≤ L.LONGEST) }
 {
     let mut entries = Vec::new(arena.alloc);
+    let mut longest: usize = 0;
     let mut low = 0;
     'pairs: for pair in pairs {
         if opens(low, pair.0) {
             low = first_piece(pair.0);
+            longest = longest.max(pair.0.len());
             plant(arena, &mut entries, pair.0, pair.1)?;
         }
     }
-    Ok(entries)
+    Ok((entries, longest))
 }
 
-impl JudySl {
+impl<L: KeyLength> StringsOf<L> {
     // The array with a limit that has the first of all keys that begin with the same whole piece, of strings that
     // ascend.
     pub(crate) fn of_openers(
         alloc: Global,
         limit: u64,
         pairs: &[(&[u8], u64)],
-    ) -> Result<JudySl, AllocError>
+    ) -> Result<StringsOf<L>, AllocError>
         requires some { 1 ≤ limit }
         requires most { limit ≤ 4294967295 }
         requires few { length pairs.now ≤ limit }
-        requires keys { All (λ pair. IsStringKey pair.0.now) pairs.now }
+        requires keys { All (λ pair. L.IsKey pair.0.now) pairs.now }
         ensures { IfOk result (λ array. array ≡ with_map (empty_array limit)
             (with_pairs map.empty (openers 0 (pairs_in pairs.now)))) }
     {
         let mut arena = Arena::new(alloc);
-        let entries = plant_all(&mut arena, pairs)?;
+        let (entries, longest) = plant_all::<L>(&mut arena, pairs)?;
         let Ok(root) = WordMap::from_sorted(alloc, &entries) else {
             return Err(AllocError);
         };
         arena.root = root;
-        Ok(JudySl::of(limit, entries.len() as u64, arena))
+        Ok(StringsOf::of(longest, limit, entries.len() as u64, arena))
     }
 }

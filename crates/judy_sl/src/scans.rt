@@ -4,18 +4,19 @@
 ghost use Rattle.std.specs.Prelude.{◌≡◌, ◌≢◌, ◌≤◌, ℕ, List, true, false, IsTrue, IfSome, All, unwrap_or, length, take};
 ghost use Rattle.std.specs.FinMap as map;
 ghost use Rattle.std.specs.FinMap.{contains_key};
+ghost use Rattle.std.specs.Option.{option_map};
 ghost use Rattle.judy_model.specs.Keys.{IsWord};
 ghost use Rattle.judy_model.specs.Neighbours as neighbours;
-ghost use Rattle.judy_model.specs.declared.keys.TheConstants.{LONGEST_KEY};
 ghost use Rattle.judy_tails.specs.Writers.{StaysBeyond, WasGiven};
 ghost use Rattle.judy_sl.specs.Pieces.{IsText};
-ghost use Rattle.judy_sl.specs.Arenas.{world_of, map_of, AreWithin, IsArena};
+ghost use Rattle.judy_sl.specs.Arenas.{world_of, map_of, IsArena};
 ghost use Rattle.judy_sl.specs.Scans.{look_to, upward, is_beyond, along_bytes, IsNearestEntry, IsFirstEntry, piece_in, IsEntryOf, turn_or, neighbour_along, value_found, value_in, StandsAt, IsTurn, IsTurnOf, IsBegun, IsScanned, nearest_key, IsFront};
 
 use crate::arena::{Arena, Place, place_in};
 use crate::child::ChildRef;
-use crate::judysl::JudySl;
-use crate::keys::KeyBuf;
+use crate::judysl::{JudySl, StringsOf};
+use crate::keys::{KeyBuf, KeyLength};
+use crate::measure::Measure;
 use crate::pieces::{first_piece, fresh_piece, push_piece};
 use judy_tails::{KeyEnd, KeyFront, KeyHolder, KeyWriter, Tail};
 use judy_word::WordMap;
@@ -30,7 +31,7 @@ pub enum Side {
     Below,
 }
 
-/// Where a scan looks, as [`JudySl::neighbour_in`] is asked.
+/// Where a scan looks, as [`StringsOf::neighbour_in`] is asked.
 #[derive(Clone, Copy)]
 pub struct Look {
     /// On which side of the key.
@@ -190,12 +191,14 @@ impl Arena {
         self.follow(look, turn, key)
     }
 
-    // The same at the front of a buffer that has room for each key, where the key has so many bytes; behind it the
-    // buffer stays.
+    // The same at the front of a buffer that the neighbour fits, where the key has so many bytes; behind it the buffer
+    // stays.
     pub fn nearest_in(&self, look: Look, buffer: &mut [u8], len: &mut usize) -> Option<Scanned>
         requires is_arena { IsArena self.now }
-        requires room { AreWithin (length buffer.old) (map_of self.now) }
         requires inside { len.old ≤ length buffer.old }
+        requires room { IfSome
+            (neighbour_along look.side look.itself (map_of self.now) (take len.old buffer.old))
+            (λ found. length found ≤ length buffer.old) }
         requires without_zero { All (λ byte. byte ≢ 0) (take len.old buffer.old) }
         ensures key { IsFront (nearest_key look (map_of self.now) (take len.old buffer.old))
             buffer.old len.new buffer.new }
@@ -207,6 +210,21 @@ impl Arena {
         let found = self.neighbour(look, &mut key);
         *len = key.len();
         found
+    }
+
+    // How many bytes the neighbour of a key has.
+    pub fn neighbour_len(&self, look: Look, key: &[u8]) -> Option<usize>
+        requires is_arena { IsArena self.now }
+        requires without_zero { All (λ byte. byte ≢ 0) key.now }
+        ensures { result ≡ option_map length
+            (neighbour_along look.side look.itself (map_of self.now) key.now) }
+    {
+        let turn = self.turn(look, key)?;
+        let mut measure = Measure { len: turn.depth };
+        match self.follow(look, turn, &mut measure) {
+            Some(_) => Some(measure.len),
+            None => None,
+        }
     }
 
     // The entry behind which the neighbour of the key stands.
@@ -429,11 +447,14 @@ impl JudySl {
             None => None,
         }
     }
+}
 
+impl<L: KeyLength> StringsOf<L> {
     /// The value of the neighbour of the key at the front of a buffer, which has `len` bytes; the neighbour then stands
-    /// there, and `len` is its length. `None` where there is none, and both stay. The buffer has at least 1,024 bytes;
-    /// what it has behind the neighbour stays. The key holds no zero byte, and needn't be one of the array. It asks for
-    /// no memory. (This project's own: a scan that writes no byte twice.)
+    /// there, and `len` is its length. `None` where there is none, and both stay. The buffer has room for the
+    /// neighbour: [`StringsOf::neighbour_len`] tells how much that is, and [`StringsOf::longest`] how much is always
+    /// enough. What the buffer has behind the neighbour stays. The key holds no zero byte, and needn't be one of the
+    /// array. It asks for no memory. (This project's own: a scan that writes no byte twice.)
     ///
     /// It searches a level for each eight bytes of the key, as far as there are levels, and then one for each eight
     /// bytes of the neighbour behind those that both begin with.
@@ -444,8 +465,10 @@ impl JudySl {
     ///     let price = prices.neighbour_in(Look::exclusive(Side::Above), &mut buffer, &mut len);
     ///     // price == Some(45), and &buffer[..len] == b"fig"
     pub fn neighbour_in(&self, look: Look, buffer: &mut [u8], len: &mut usize) -> Option<u64>
-        requires room { LONGEST_KEY ≤ length buffer.old }
         requires inside { len.old ≤ length buffer.old }
+        requires room { IfSome
+            (neighbour_along look.side look.itself self.now.map (take len.old buffer.old))
+            (λ found. length found ≤ length buffer.old) }
         requires without_zero { All (λ byte. byte ≢ 0) (take len.old buffer.old) }
         ensures key { IsFront (nearest_key look self.now.map (take len.old buffer.old))
             buffer.old len.new buffer.new }
@@ -456,6 +479,19 @@ impl JudySl {
             Some(found) => Some(found.value),
             None => None,
         }
+    }
+
+    /// How many bytes the neighbour of a key has, and `None` where there is none: the room that the same search wants.
+    /// The key holds no zero byte, and needn't be one of the array. It costs what [`StringsOf::neighbour_in`] does, and
+    /// asks for no memory. (This project's own.)
+    ///
+    ///     names.neighbour_len(Look::exclusive(Side::Above), b"apple")        // Some(3) where "fig" comes next
+    pub fn neighbour_len(&self, look: Look, key: &[u8]) -> Option<usize>
+        requires { All (λ byte. byte ≢ 0) key.now }
+        ensures { result ≡ option_map length
+            (neighbour_along look.side look.itself self.now.map key.now) }
+    {
+        self.arena.neighbour_len(look, key)
     }
 }
 

@@ -1,7 +1,7 @@
 //! How an arena loses a key: the entry at which its way leaves that of every other key is taken out, and what stands
 //! below it is given back. None of this asks for memory.
 
-ghost use Rattle.std.specs.Prelude.{◌≡◌, ◌+◌, ◌*◌, ◌<◌, ◌≤◌, [], length, is_some, IsSome, IsNone, IfSome};
+ghost use Rattle.std.specs.Prelude.{◌≡◌, ◌+◌, ◌*◌, ◌<◌, ◌≤◌, ℕ, List, [], length, is_some, IsSome, IsNone, IfSome};
 ghost use Rattle.std.specs.FinMap.{get};
 ghost use Rattle.judy_sl.specs.Pieces.{pieces, piece_of, IsText};
 ghost use Rattle.judy_sl.specs.World.{lookup};
@@ -17,7 +17,7 @@ ghost use Rattle.judy_sl.specs.Strings.{IsString};
 
 use crate::arena::{Arena, Place, place_in};
 use crate::child::{ChildRef, is_level};
-use crate::passed::{MOST_PIECES, Notes, Passed};
+use crate::passed::{LevelNotes, Notes};
 use crate::pieces::first_piece;
 use judy_word::WordMap;
 
@@ -45,19 +45,19 @@ fn deeper(before: Option<Cut>, level: &WordMap, here: Cut) -> Cut
 
 impl Arena {
     // Where the key is cut off, and `None` where it isn't there. The levels that its way passes are noted.
-    fn find_cut<const N: usize>(&self, key: &[u8], passed: &mut Passed<N>) -> Option<Cut>
+    fn find_cut<N: Notes>(&self, key: &[u8], notes: &mut N) -> Option<Cut>
         requires is_arena { IsArena self.now }
         requires is_key { IsString key.now }
-        requires few { length key.now < 8 * N + 8 }
-        requires begins { passed.old.items ≡ [] }
+        requires begins { N.has notes.old [] }
         ensures cut { IsCut (world_of self.now) key.now result }
         ensures passed { IsSome result
-            → passed.new.items ≡ levels_passed (world_of self.now) key.now }
+            → N.has notes.new (levels_passed (world_of self.now) key.now) }
     {
         let mut level = &self.root;
         let mut child = None;
         let mut rest = key;
         let mut cut = None;
+        let mut depth = 0;
         while rest.len() >= 8 {
             let piece = first_piece(rest);
             let at = level.get(piece)?;
@@ -66,12 +66,13 @@ impl Arena {
                 place: place_in(child, piece),
                 below: Some(at),
                 left: rest.len(),
-                depth: passed.len(),
+                depth,
             };
             cut = Some(deeper(cut, level, here));
             match self.child(at) {
                 ChildRef::Level(next) => {
-                    passed.note(at);
+                    notes.note(at);
+                    depth += 1;
                     level = next;
                     child = Some(at);
                 }
@@ -84,7 +85,7 @@ impl Arena {
             place: place_in(child, piece),
             below: None,
             left: 0,
-            depth: passed.len(),
+            depth,
         };
         Some(deeper(cut, level, here))
     }
@@ -145,27 +146,27 @@ impl Arena {
     // Takes a key out, and answers whether others begin with its first piece; `None` where it wasn't there. No level is
     // left empty but the first, and each place that becomes free is used again. The levels that stay on its way count
     // it no more; they are noted.
-    pub fn del<const N: usize>(&mut self, key: &[u8], passed: &mut Passed<N>) -> Option<bool>
-        requires most { N ≤ MOST_PIECES }
+    pub fn del<N: LevelNotes>(&mut self, key: &[u8], passed: &mut N) -> Option<bool>
         requires is_arena { IsArena self.old }
         requires counted { AreCounted self.old }
         requires led { AllLed (world_of self.old) }
         requires is_key { IsString key.now }
-        requires few { length key.now < 8 * N + 8 }
-        requires begins { passed.old.items ≡ [] }
+        requires few { length key.now < 8 * N.most + 8 }
+        requires begins { N.has passed.old [] }
         ensures answer { is_some result ≡ is_some (lookup (world_of self.old) 0 (pieces key.now)) }
         ensures shrunk { IsShrunk self.old self.new key.now }
         ensures beside { IfSome result
             (λ beside. beside ≡ is_some (get self.new.root.map (piece_of key.now))) }
         ensures counted { AreCounted self.new }
-        ensures left { IsSome result → AreLeft self.old self.new key.now passed.new.items }
+        ensures left { IsSome result → (places : List ℕ) × N.has passed.new places
+            × AreLeft self.old self.new key.now places }
         ensures unchanged { IsNone result → self.new ≡ self.old }
     {
         let Some(cut) = self.find_cut(key, passed) else {
             return None;
         };
-        passed.truncate(cut.depth);
-        self.count_places(passed.as_slice(), false);
+        passed.keep_first(cut.depth);
+        self.count_noted(passed.noted(), key, false);
         let beside = cut.place.is_below();
         self.take_out(cut.place);
         if let Some(at) = cut.below {

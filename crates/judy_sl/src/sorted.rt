@@ -12,8 +12,8 @@ ghost use Rattle.judy_sl.specs.Planted.{followers};
 ghost use Rattle.judy_sl.specs.Sorted.{pairs_in, strings_in, with_pairs, IsSorted, IsFault};
 
 use crate::error::SlError;
-use crate::judysl::JudySl;
-use crate::keys::is_key;
+use crate::judysl::StringsOf;
+use crate::keys::{KeyLength, is_key_of};
 use crate::pieces::first_piece;
 use crate::planting::opens;
 use std::alloc::Global;
@@ -22,7 +22,8 @@ use thiserror::Error;
 /// Why no array was made of a list of strings: what is wrong with the first that doesn't fit, or want of memory.
 #[derive(Clone, Copy, Debug, PartialEq, Eq, Error)]
 pub enum SlSortedError {
-    /// The string at this place, counted from 0, is no key: it has more than 1,024 bytes, or one of them is zero.
+    /// The string at this place, counted from 0, is no key: it has more bytes than a key may have, or one of them is
+    /// zero.
     #[error("the string at place {0} is no key")]
     BadKey(usize),
     /// The string at this place, counted from 0, isn't above the one before it.
@@ -76,15 +77,15 @@ fn comes_after(before: Option<&[u8]>, key: &[u8]) -> bool
 /// Whether the strings of a list are keys that strictly ascend, and are no more than a limit; else what is wrong with
 /// the first that doesn't fit, as `from_sorted` tells it. It asks for no memory.
 ///
-///     check_sorted(9, &[(b"pear", 1), (b"fig", 2)])        // Err(SlSortedError::NotAscending(1))
-pub fn check_sorted(limit: u64, pairs: &[(&[u8], u64)]) -> Result<(), SlSortedError>
-    ensures sorted { OnOk result (IsSorted limit (strings_in pairs.now)) }
-    ensures refused { IfErr result (IsFault limit (strings_in pairs.now)) }
+///     check_sorted::<StoreKeys>(9, &[(b"pear", 1), (b"fig", 2)])       // Err(SlSortedError::NotAscending(1))
+pub fn check_sorted<L: KeyLength>(limit: u64, pairs: &[(&[u8], u64)]) -> Result<(), SlSortedError>
+    ensures sorted { OnOk result (IsSorted L.IsKey limit (strings_in pairs.now)) }
+    ensures refused { IfErr result (IsFault L.IsKey limit (strings_in pairs.now)) }
 {
     let mut last = None;
     'pairs: for (at, pair) in pairs.iter().enumerate() {
         let key = pair.0;
-        if !is_key(key) {
+        if !is_key_of::<L>(key) {
             return Err(SlSortedError::BadKey(at));
         }
         if !comes_after(last, key) {
@@ -100,7 +101,10 @@ pub fn check_sorted(limit: u64, pairs: &[(&[u8], u64)]) -> Result<(), SlSortedEr
 
 // Gives those keys their values that aren't the first of all which begin with the same whole piece, one after the
 // other.
-fn put_followers(array: &mut JudySl, pairs: &[(&[u8], u64)]) -> Result<(), SlError>
+fn put_followers<L: KeyLength>(
+    array: &mut StringsOf<L>,
+    pairs: &[(&[u8], u64)],
+) -> Result<(), SlError>
     ensures { OnOk result (array.new
         ≡ with_map array.old (with_pairs array.old.map (followers 0 (pairs_in pairs.now)))) }
 {
@@ -116,7 +120,7 @@ fn put_followers(array: &mut JudySl, pairs: &[(&[u8], u64)]) -> Result<(), SlErr
     Ok(())
 }
 
-impl JudySl {
+impl<L: KeyLength> StringsOf<L> {
     /// The array with a limit, from 1 to 4,294,967,295, that has these pairs of a string and its value, whose strings
     /// are keys that strictly ascend. (This project's own.)
     ///
@@ -128,16 +132,16 @@ impl JudySl {
         alloc: Global,
         limit: u64,
         pairs: &[(&[u8], u64)],
-    ) -> Result<JudySl, SlSortedError>
+    ) -> Result<StringsOf<L>, SlSortedError>
         requires some { 1 ≤ limit }
         requires most { limit ≤ 4294967295 }
         ensures pairs { IfOk result (λ a. finmap.entries a.map ≡ pairs_in pairs.now) }
         ensures limit { IfOk result (λ a. a.limit ≡ limit) }
-        ensures sorted { OnOk result (IsSorted limit (strings_in pairs.now)) }
-        ensures refused { IfErr result (IsFault limit (strings_in pairs.now)) }
+        ensures sorted { OnOk result (IsSorted L.IsKey limit (strings_in pairs.now)) }
+        ensures refused { IfErr result (IsFault L.IsKey limit (strings_in pairs.now)) }
     {
-        check_sorted(limit, pairs)?;
-        let Ok(mut array) = JudySl::of_openers(alloc, limit, pairs) else {
+        check_sorted::<L>(limit, pairs)?;
+        let Ok(mut array) = StringsOf::of_openers(alloc, limit, pairs) else {
             return Err(SlSortedError::NoMemory);
         };
         match put_followers(&mut array, pairs) {

@@ -15,6 +15,7 @@ pub mod ListedLevels
 pub mod LedLevels
 pub mod ListChanges
 pub mod ListWays
+pub mod WayLevels
 pub mod BegunLevels
 pub mod ListLost
 pub mod ListSteps

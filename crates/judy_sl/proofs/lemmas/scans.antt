@@ -7,3 +7,4 @@ pub mod ScanMaps
 pub mod LevelEntries
 pub mod RunWays
 pub mod Fronts
+pub mod Rooms

@@ -1,8 +1,8 @@
 -- What levels tell of the keys behind them where a key was counted out, and then taken out.
-use Rattle.std.proofs.Common.{◌≡◌, ◌≢◌, ℕ, zero, suc, ◌<◌, ◌≤◌, Bool, true, false, cond, List, [], ◌∷◌, ◌++◌, length, take, is_some, Option, None, Some, inl, inr, refl, sym, ap}
+use Rattle.std.proofs.Common.{◌≡◌, ◌≢◌, ℕ, zero, suc, ◌<◌, ◌≤◌, Bool, true, false, cond, List, [], ◌∷◌, ◌++◌, ◌+◌, length, take, drop, is_some, Option, None, Some, inl, inr, refl, sym, ap}
 use Rattle.std.proofs.Common.{subst, ◌∙◌, arith, ⊎_elim}
 use Rattle.std.proofs.lemmas.Bool.{cases_eq, cases_lt}
-use Rattle.std.proofs.lemmas.List.{length-append, append-nil}
+use Rattle.std.proofs.lemmas.List.{length-append, length-take, append-nil}
 use Rattle.std.proofs.lemmas.Option.{none-some, same_Some}
 use Rattle.std.proofs.lemmas.Cmp.{nat_cmp_total}
 use Rattle.std.specs.Ordering.{eq_by_cmp}
@@ -14,18 +14,22 @@ use Rattle.judy_sl.specs.declared.arena.Arena.{Arena}
 use Rattle.judy_sl.specs.declared.arena.Place.{Place}
 use Rattle.judy_sl.specs.declared.arena.Place.TheVariants.{Root, Below}
 use Rattle.judy_sl.specs.declared.shrink.Cut.{Cut}
-use Rattle.judy_sl.specs.Pieces.{pieces, AreInner}
+use Rattle.judy_sl.specs.Pieces.{pieces, piece_of, IsText, AreInner}
 use Rattle.judy_sl.specs.World.{World, Node, gone, tail, level, lookup, walk, step_node, step_entry}
 use Rattle.judy_sl.specs.WorldInvariants.{AllLed}
 use Rattle.judy_sl.specs.Arenas.{world_of, node_of, child_at, IsArena}
 use Rattle.judy_sl.specs.Places.{IsLevelPlace}
+use Rattle.judy_sl.specs.Stepped.{entry_under}
 use Rattle.judy_sl.specs.Ways.{seat_of, piece_at, levels_passed}
+use Rattle.judy_sl.specs.Noted.{AreFirstPassed}
 use Rattle.judy_sl.specs.Counted.{keys_behind, LevelTells, Same, OneLess, AreCounted, IsAmong, AreCountedBut}
 use Rattle.judy_sl.specs.Grown.{IsChange}
 use Rattle.judy_sl.specs.Shrunk.{child_without, place_without, IsCutWhere, IsLeft, IsShrunk}
 use Rattle.judy_sl.specs.Listed.{StaysLed}
-use Rattle.judy_sl.proofs.lemmas.pieces.Ways.{step-parts}
-use Rattle.judy_sl.proofs.lemmas.seats.Seats.{cond-same}
+use Rattle.judy_sl.proofs.lemmas.pieces.PieceLemmas.{text_of_key, text-drop, piece-IsInner}
+use Rattle.judy_sl.proofs.lemmas.pieces.Ways.{step-parts, walk-behind, walk-more}
+use Rattle.judy_sl.proofs.lemmas.pieces.OnWay.{inner-more}
+use Rattle.judy_sl.proofs.lemmas.seats.Seats.{cond-same, cond-other}
 use Rattle.judy_sl.proofs.lemmas.seats.Led.{KeepsEntries, keeps-same, keeps-then}
 use Rattle.judy_sl.proofs.lemmas.seats.Linked.{child_at-same, child_at-other, root-with_child}
 use Rattle.judy_sl.proofs.lemmas.inserts.Filled.{level-stands}
@@ -36,6 +40,8 @@ use Rattle.judy_sl.proofs.lemmas.counts.KeysBehind.{keys_after, keys-reached, ke
 use Rattle.judy_sl.proofs.lemmas.counts.PassedLevels.{IsPassed, among-front, among-way, way-first}
 use Rattle.judy_sl.proofs.lemmas.counts.Stepping.{among-cases}
 use Rattle.judy_sl.proofs.lemmas.counts.LedLevels.{stays_kept}
+use Rattle.judy_sl.proofs.lemmas.counts.ListWays.{entry_level}
+use Rattle.judy_sl.proofs.lemmas.counts.WayLevels.{AreAlong, along-front, along-first, along-way}
 use Rattle.judy_sl.specs.Strings.{IsString}
 
 -- ---- the numbers
@@ -281,6 +287,60 @@ module _ (before mid after : Arena) (is : IsArena before) (key : List ℕ) (is_k
       let was = keeps-all (suc at) map is_level in
       way-first (world_of before) is.behind is.is_world key is_key front rest at was.0 inner (walk-keeps (world_of after) (world_of before) keeps-all 0 front (suc at) inner way)
       parts was.1 cut.depth (omega (arith, short, deep))
+
+  -- ---- those that are left are the first on the way still
+
+  module _ (is_after : IsArena after) where
+    -- A seat that the way comes to before the cut is another one.
+    not_cut : (seat : ℕ) (front : List ℕ) → AreInner front → walk (world_of before) 0 front ≡ Some seat → length front < length above → seat ≢ seat_of cut.place
+    not_cut seat front inner way short same =
+        let here = ap (λ (ps : List ℕ). length ps) (walk-behind (world_of before) is.behind is.is_world 0 front seat inner way) in
+        let there = ap (λ (ps : List ℕ). length ps) (walk-behind (world_of before) is.behind is.is_world 0 above (seat_of cut.place) cut_is.leads.inner cut_is.leads.way) in
+        let both = ap (λ s. length (is.behind s)) same in
+        let one = length-append (is.behind 0) front in
+        let two = length-append (is.behind 0) above in
+        omega (arith, here, there, both, one, two, short)
+
+    -- All other seats stay where the entry is taken out.
+    out-other : (seat : ℕ) → seat ≢ seat_of cut.place → world_of mid seat ≡ world_of before seat
+    out-other seat apart =
+        ap (λ (w : World). w seat) (ap world_of mid_is ∙ world-without before cut_is.map cut.place cut_is.is_level)
+        ∙ cond-other (world_of before) (seat_of cut.place) (level (remove cut_is.map piece)) seat apart
+
+    -- A level is one still.
+    out-level_is : (seat : ℕ) (map : FinMap word_order ℕ) → world_of before seat ≡ level map → (now : FinMap word_order ℕ) × (world_of mid seat ≡ level now)
+    out-level_is seat map is_level = elim (cases_eq seat (seat_of cut.place)) [
+      | inl same ↦ (remove cut_is.map piece, ap (world_of mid) same ∙ cut-seat)
+      | inr apart ↦ (map, out-other seat apart ∙ is_level)
+    ]
+
+    along-left : (places rest : List ℕ) (seat : ℕ) (front : List ℕ) → IsText rest → AreInner front → walk (world_of before) 0 front ≡ Some seat → length front + length places ≤ length above →
+        world_of after seat ≡ world_of mid seat → AreAlong (world_of before) seat places rest → AreAlong (world_of after) seat places rest
+    along-left [] rest seat front text inner way short same along = tt
+    along-left (at ∷ places) rest seat front text inner way short same along =
+        let there = entry_level (world_of before seat) (piece_of rest) at along.1 in
+        let whole = piece-IsInner rest text along.0 in
+        let goes = walk-more (world_of before) 0 front seat there.0 (piece_of rest) at way there.1 there.2 in
+        let longer = length-append front (piece_of rest ∷ []) in
+        let now = same ∙ out-other seat (not_cut seat front inner way (omega (arith, short))) ∙ there.1 in
+        let stands = ((is_after.is_world.levels seat there.0 now).leads (piece_of rest) at there.2 whole).1 in
+        let stays = ap node_of (left.children at stands) in
+        let map = out-level_is (suc at) along.2.0 along.2.1 in (
+          along.0,
+          ap (λ node. entry_under node (piece_of rest)) now ∙ there.2,
+          (map.0, stays ∙ map.1),
+          along-left places (drop 8 rest) (suc at) (front ++ piece_of rest ∷ []) (text-drop 8 rest text) (inner-more front (piece_of rest) inner whole) goes
+              (omega (arith, short, longer)) stays along.3,
+        )
+
+    pub left-first : AreFirstPassed (world_of after) key (take cut.depth (levels_passed (world_of before) key))
+    left-first =
+        let most = length-take cut.depth (levels_passed (world_of before) key) in
+        let deep = cut_is.deep in
+        along-first (world_of after) (take cut.depth (levels_passed (world_of before) key)) 0 key
+        (along-left (take cut.depth (levels_passed (world_of before) key)) key 0 [] (text_of_key key is_key) tt refl (omega (arith, most, deep))
+        (ap (λ (words : ArrayOf word_order). level words.map) left.root)
+        (along-front (world_of before) cut.depth (levels_passed (world_of before) key) 0 key (along-way (world_of before) key)))
 
   pub counted-lost : (shrunk : IsShrunk before after key) → is_some (lookup (world_of before) 0 (pieces key)) ≡ true →
       AreCountedBut before (take cut.depth (levels_passed (world_of before) key)) → AreCounted after

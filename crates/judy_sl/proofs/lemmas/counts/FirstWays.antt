@@ -124,7 +124,7 @@ pub firsts_same : (arena same : Arena) → IsSame arena same → (firsts : FinMa
 firsts_same arena same is firsts are = subst (λ (all : FinMap byte_order ℕ). AreFirsts all firsts) (sym (map_same arena same is)) are
 
 -- A value is written.
-pub firsts_slot : (limit count : ℕ) (arena : Arena) → IsStrings limit count arena → (key : List ℕ) → IsString key → (place : Place) → IsFound (world_of arena) key place
+pub firsts_slot : {most longest : ℕ} (limit count : ℕ) (arena : Arena) → IsStrings most longest limit count arena → (key : List ℕ) → IsString key → (place : Place) → IsFound (world_of arena) key place
     → (firsts : FinMap word_order ℕ) → AreFirsts (map_of arena) firsts → (value : ℕ) → AreFirsts (map_of (place_with arena place value)) firsts
 firsts_slot limit count arena is key is_key place found firsts are value =
     subst (λ (all : FinMap byte_order ℕ). AreFirsts all firsts) (sym (map-written limit count arena is key is_key place found value))

@@ -1,23 +1,21 @@
 -- The lists of levels where a key has come in: those on its way are off by it.
-use Rattle.std.proofs.Common.{◌≡◌, ◌≢◌, ℕ, zero, suc, ◌<◌, ◌≤◌, ◌/◌, true, false, List, [], ◌∷◌, ◌++◌, length, drop, take, Option, None, Some, is_some, inl, inr, refl, sym, ap, subst, ◌∙◌, arith}
-use Rattle.std.proofs.Common.{⊎_elim}
+use Rattle.std.proofs.Common.{◌≡◌, ℕ, zero, suc, ◌<◌, ◌≤◌, ◌/◌, true, List, [], ◌∷◌, ◌++◌, length, drop, Option, None, Some, inl, inr, refl, sym, ap, subst, ◌∙◌, arith}
 use Rattle.std.proofs.lemmas.Bool.{cases_lt}
-use Rattle.std.proofs.lemmas.List.{append_assoc, append_cancel_left, length-drop}
-use Rattle.std.proofs.lemmas.Option.{none-some, same_Some}
-use Rattle.std.specs.FinMap.{FinMap, get, insert, len, len-entries, len-empty}
+use Rattle.std.proofs.lemmas.List.{append_assoc, length-drop}
+use Rattle.std.proofs.lemmas.Option.{none-some}
+use Rattle.std.specs.FinMap.{FinMap, get, len, len-empty}
 use Rattle.judy_model.specs.Keys.{word_order, byte_order}
 use Rattle.judy_model.specs.Arrays.{ArrayOf}
-use Rattle.judy_sums.specs.Listed.{list_at}
-use Rattle.judy_sl.specs.Children.{Child, Free, Tail, Level, IsLevelChild}
+use Rattle.judy_sl.specs.Children.{Child, Free, Tail, Level}
 use Rattle.judy_sl.specs.declared.arena.Arena.{Arena}
-use Rattle.judy_sl.specs.Pieces.{pieces, piece_of, AreInner, IsInner}
+use Rattle.judy_sl.specs.Pieces.{pieces, piece_of, AreInner}
 use Rattle.judy_sl.specs.World.{World, Node, gone, tail, level, lookup, walk}
 use Rattle.judy_sl.specs.WorldInvariants.{AllLed}
-use Rattle.judy_sl.specs.Arenas.{world_of, node_of, child_at, HasText, IsArena}
+use Rattle.judy_sl.specs.Arenas.{world_of, node_of, child_at, IsArena}
 use Rattle.judy_sl.specs.Behind.{map_behind}
 use Rattle.judy_sl.specs.Stepped.{entry_under}
 use Rattle.judy_sl.specs.Ways.{passed_there, passed_from, levels_passed}
-use Rattle.judy_sl.specs.Counted.{keys_behind, IsAmong, AreOnce}
+use Rattle.judy_sl.specs.Counted.{keys_behind, IsAmong}
 use Rattle.judy_sl.specs.Firsts.{AreFirsts}
 use Rattle.judy_sl.specs.Grown.{IsChange}
 use Rattle.judy_sl.specs.Listed.{place_of, Lists, IsListed, AreListed, IsOff, AreOff, AreListedBut, StaysLed}
@@ -26,7 +24,7 @@ use Rattle.judy_sl.proofs.lemmas.pieces.Ways.{pieces_short, pieces_long, walk-mo
 use Rattle.judy_sl.proofs.lemmas.pieces.OnWay.{pieces-head, inner-more}
 use Rattle.judy_sl.proofs.lemmas.seats.Maps.{len-added}
 use Rattle.judy_sl.proofs.lemmas.counts.CountedAdded.{level-told}
-use Rattle.judy_sl.proofs.lemmas.counts.KeptLevels.{IsReached, reached-once}
+use Rattle.judy_sl.proofs.lemmas.counts.KeptLevels.{reached-once}
 use Rattle.judy_sl.proofs.lemmas.counts.KeysTold.{gone_empty, tail_told}
 use Rattle.judy_sl.proofs.lemmas.counts.PassedLevels.{passed-last, passed-none, passed-step, once-passed, way-among}
 use Rattle.judy_sl.proofs.lemmas.counts.ListedLevels.{level_place}
@@ -51,7 +49,7 @@ many_level arena is at many = by (child_at arena at) refl
     by (Level told words) e = (told, words, e)
 
 -- An entry that leads on is one of a level.
-entry_level : (node : Node) (piece at : ℕ) → entry_under node piece ≡ Some at → (map : FinMap word_order ℕ) × (node ≡ level map) × (get map piece ≡ Some at)
+pub entry_level : (node : Node) (piece at : ℕ) → entry_under node piece ≡ Some at → (map : FinMap word_order ℕ) × (node ≡ level map) × (get map piece ≡ Some at)
 entry_level gone piece at entry = absurd (none-some at entry)
 entry_level (tail held value) piece at entry = absurd (none-some at entry)
 entry_level (level map) piece at entry = (map, refl, entry)

@@ -1,21 +1,21 @@
 -- The lists of levels through what an array's calls make of its arena.
-use Rattle.std.proofs.Common.{◌≡◌, ◌≢◌, ℕ, suc, ◌+◌, ◌<◌, ◌≤◌, true, false, List, [], ◌∷◌, ◌++◌, Option, None, Some, is_some, inl, inr, refl, sym, ap, subst, ◌∙◌, arith}
+use Rattle.std.proofs.Common.{◌≡◌, ℕ, suc, ◌<◌, true, List, [], ◌++◌, Option, None, Some, is_some, inl, inr, refl, sym, ap, subst, ◌∙◌, arith}
 use Rattle.std.proofs.lemmas.Option.{none-some}
-use Rattle.std.specs.FinMap.{FinMap, get, insert, len}
-use Rattle.judy_model.specs.Keys.{word_order, byte_order}
+use Rattle.std.specs.FinMap.{FinMap, get, len}
+use Rattle.judy_model.specs.Keys.{byte_order}
 use Rattle.judy_sums.specs.Listed.{list_at}
 use Rattle.judy_sl.specs.declared.arena.Arena.{Arena}
 use Rattle.judy_sl.specs.declared.arena.Place.{Place}
 use Rattle.judy_sl.specs.Pieces.{pieces, piece_of}
 use Rattle.judy_sl.specs.World.{World, Node, gone, tail, level, lookup}
 use Rattle.judy_sl.specs.WorldInvariants.{AllLed}
-use Rattle.judy_sl.specs.Arenas.{world_of, node_of, child_at, map_of, IsArena, IsStrings}
+use Rattle.judy_sl.specs.Arenas.{world_of, map_of, IsArena, IsStrings}
 use Rattle.judy_sl.specs.Behind.{map_behind}
 use Rattle.judy_sl.specs.Places.{place_with}
 use Rattle.judy_sl.specs.Ways.{IsFound, HasValue, seat_of, piece_at, passed_from, levels_passed}
 use Rattle.judy_sl.specs.Grown.{IsAdded, IsSame}
 use Rattle.judy_sl.specs.Firsts.{beginning, AreFirsts}
-use Rattle.judy_sl.specs.Listed.{place_of, Lists, IsListed, AreListed, AreListedBut, StaysLed}
+use Rattle.judy_sl.specs.Listed.{place_of, Lists, AreListed, AreListedBut, StaysLed}
 use Rattle.judy_sl.proofs.lemmas.pieces.OnWay.{pieces-head}
 use Rattle.judy_sl.proofs.lemmas.seats.Changes.{split-front}
 use Rattle.judy_sl.proofs.lemmas.seats.Keeping.{get-there}
@@ -71,7 +71,8 @@ written_keeps gone piece rest was value has = absurd has
 written_keeps (tail held kept) piece rest was value has = keeps-none (tail held kept) (node_with (tail held kept) piece value) (λ map e. cc)
 written_keeps (level map) piece rest was value has = keeps-insert map piece value (λ at inner entry. inner has.1)
 
-module _ (limit count : ℕ) (arena : Arena) (is : IsStrings limit count arena) (key : List ℕ) (is_key : IsString key) (place : Place) (found : IsFound (world_of arena) key place) (value : ℕ) where
+module _ {most longest : ℕ} (limit count : ℕ) (arena : Arena) (is : IsStrings most longest limit count arena) (key : List ℕ) (is_key : IsString key) (place : Place)
+    (found : IsFound (world_of arena) key place) (value : ℕ) where
   abbrev after : Arena
   after = place_with arena place value
 

@@ -2,7 +2,6 @@
 use Rattle.std.proofs.Common.{◌≡◌, ℕ, zero, suc, ◌+◌, ◌*◌, ◌<◌, ◌≤◌, List, [], ◌∷◌, ◌++◌, length, take, drop, Option, None, Some, inl, inr, refl, sym, ap, subst, ◌∙◌, arith}
 use Rattle.std.proofs.lemmas.List.{append-nil, append_assoc, length-append}
 use Rattle.std.proofs.lemmas.Option.{none-some}
-use prog.Memory.{up}
 use Rattle.std.specs.FinMap.{FinMap, get}
 use Rattle.judy_model.specs.Keys.{word_order}
 use Rattle.judy_sl.specs.Pieces.{pieces, piece_of, ArePieces, AreInner}
@@ -54,7 +53,7 @@ module _ (world : World) (seat : ℕ) (map : FinMap word_order ℕ) (is : world 
       let head = pieces-head rest in
       ap (passed_from world seat) head.1 ∙ passed-none world seat (piece_of rest) head.0 (ap (λ node. entry_under node (piece_of rest)) is ∙ none)
 
-  ends-last : length rest < 8 → passed_from world seat (pieces rest) ≡ []
+  pub ends-last : length rest < 8 → passed_from world seat (pieces rest) ≡ []
   ends-last short = ap (passed_from world seat) (pieces_short rest short) ∙ passed-last world seat (piece_of rest)
 
   module _ (long : 8 ≤ length rest) (at : ℕ) (entry : get map (piece_of rest) ≡ Some at) where
@@ -70,7 +69,7 @@ module _ (world : World) (seat : ℕ) (map : FinMap word_order ℕ) (is : world 
     ends-tail : (held : List ℕ) (value : ℕ) → world (suc at) ≡ tail held value → passed_from world seat (pieces rest) ≡ []
     ends-tail held value there = ap (passed_from world seat) parts ∙ passed-tail world seat (piece_of rest) (piece_of (drop 8 rest)) head.0 at entry-is held value there
 
-    goes-on : (next : FinMap word_order ℕ) → world (suc at) ≡ level next → passed_from world seat (pieces rest) ≡ at ∷ passed_from world (suc at) (pieces (drop 8 rest))
+    pub goes-on : (next : FinMap word_order ℕ) → world (suc at) ≡ level next → passed_from world seat (pieces rest) ≡ at ∷ passed_from world (suc at) (pieces (drop 8 rest))
     goes-on next there =
         ap (passed_from world seat) parts
         ∙ passed-level world seat (piece_of rest) (piece_of (drop 8 rest)) head.0 at entry-is next there
@@ -226,10 +225,6 @@ passed-few world key most short_key =
     let count = ap (λ (ps : List ℕ). length ps) head.1 in
     let long = length-pieces key in
     omega (arith, short, same, count, long, short_key)
-
--- A list of so many places isn't longer than memory.
-pub list-fits : (most : ℕ) → most ≤ 128 → up 8 (up 1 (up 8 (0 + up 8 (0 + most * 8)) + 8) + 0) < 9223372036854775808
-list-fits most few = omega (arith, few)
 
 -- ---- the levels of a key
 

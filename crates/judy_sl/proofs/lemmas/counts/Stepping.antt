@@ -134,7 +134,7 @@ module _ (comes : Bool) (before now : Arena) (at : ℕ) (left places : List ℕ)
     elsewhere : (k : ℕ) → k ≢ at → child_at next k ≡ child_at now k
     elsewhere k apart = ap (λ (a : Arena). child_at a k) next_is ∙ child_at-other now at (child_stepped comes (child_at now at)) (can-step_at now comes at here.0) k apart
 
-    next-world : world_of next ≡ world_of now
+    pub next-world : world_of next ≡ world_of now
     next-world = ap world_of next_is ∙ after-world now so_far.is_arena comes at here.0
 
     apart-left : (k : ℕ) → IsAmong left k → k ≢ at

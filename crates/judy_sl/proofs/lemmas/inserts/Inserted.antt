@@ -1,9 +1,8 @@
 -- What an insert makes of an array of strings.
-use Rattle.std.proofs.Common.{◌≡◌, ◌≢◌, ℕ, ◌+◌, ◌≤◌, List, length, None, Some, IsTrue, IsFalse, Bool, true, false, not, ◌&&◌, ◌==◌, refl, sym, ap, subst, ◌∙◌, arith, eq-eqb}
+use Rattle.std.proofs.Common.{◌≡◌, ◌≢◌, ℕ, ◌+◌, ◌≤◌, max, List, length, None, Some, IsTrue, IsFalse, Bool, true, false, not, ◌&&◌, ◌==◌, refl, sym, ap, subst, ◌∙◌, arith, eq-eqb}
 use Rattle.std.proofs.lemmas.Bool.{ne_eqb, false≢true}
 use Rattle.std.specs.FinMap.{FinMap, get, len}
 use Rattle.judy_model.specs.Keys.{byte_order}
-use Rattle.judy_model.specs.declared.keys.TheConstants.{LONGEST_KEY}
 use Rattle.judy_model.specs.Arrays.{ins, is_full}
 use Rattle.judy_model.specs.Tables.{table}
 use Rattle.judy_model.proofs.lemmas.maps.Inserts.{get-insert_itself, ins_present, ins_absent, is_full_present, is_full_absent}
@@ -15,16 +14,16 @@ use Rattle.judy_sl.specs.declared.arena.Way.TheVariants.{At, Gap, Clash}
 use Rattle.judy_sl.specs.Pieces.{pieces}
 use Rattle.judy_sl.specs.World.{World, lookup}
 use Rattle.judy_sl.specs.WorldInvariants.{AllLed}
-use Rattle.judy_sl.specs.Arenas.{world_of, map_of, array_of, AreShort, IsStrings}
+use Rattle.judy_sl.specs.Arenas.{world_of, map_of, array_of, AreWithin, IsStrings}
 use Rattle.judy_sl.specs.Places.{place_with, place_value}
 use Rattle.judy_sl.specs.Ways.{IsWay, IsNew, IsFound}
 use Rattle.judy_sl.specs.Grown.{IsChange, IsAdded, IsSame}
 use Rattle.judy_sl.specs.Lends.{with_value}
-use Rattle.judy_sl.proofs.lemmas.pieces.Strings.{short-insert}
-use Rattle.judy_sl.proofs.lemmas.seats.Maps.{get-map, map_written, len-added}
+use Rattle.judy_sl.proofs.lemmas.pieces.Strings.{within-insert, within-more}
+use Rattle.judy_sl.proofs.lemmas.seats.Maps.{map_written, len-added}
 use Rattle.judy_sl.proofs.lemmas.inserts.Filled.{world-same, arena-same}
-use Rattle.judy_sl.proofs.lemmas.inserts.Written.{written-change, value-there}
-use Rattle.judy_sl.proofs.lemmas.seats.Keeping.{gap-none, clash-none, get-there, value-place}
+use Rattle.judy_sl.proofs.lemmas.inserts.Written.{written-change, found-there, value-there}
+use Rattle.judy_sl.proofs.lemmas.seats.Keeping.{gap-none, clash-none, get-there}
 use Rattle.judy_sl.specs.Strings.{IsString, all_strings}
 
 -- ---- the key isn't there
@@ -44,7 +43,7 @@ pub tried-room : (adds : Bool) (count limit : ℕ) → IsTrue (adds && not (coun
 tried-room false count limit tried full = false≢true tried
 tried-room true count limit tried full = false≢true (sym (ap not (eq-eqb count limit full)) ∙ tried)
 
-module _ (limit count : ℕ) (arena : Arena) (is : IsStrings limit count arena) (key : List ℕ) (is_key : IsString key) where
+module _ {most longest : ℕ} (limit count : ℕ) (arena : Arena) (is : IsStrings most longest limit count arena) (key : List ℕ) (is_key : IsString key) where
   -- Where the key is, the array isn't full for it, and the value stays.
   module _ (place : Place) (found : IsFound (world_of arena) key place) where
     pub there-not_full : IsFalse (is_full (array_of limit arena) key)
@@ -68,17 +67,21 @@ module _ (limit count : ℕ) (arena : Arena) (is : IsStrings limit count arena) 
     absent-ins = ap (λ (m : FinMap byte_order ℕ). get m key) (ins_absent (map_of arena) key none) ∙ get-insert_itself byte_order_total (map_of arena) key 0
 
     -- The key is added.
-    module _ (after : Arena) (place : Place) (added : IsAdded arena after key place) (room : count ≢ limit) (fits : length key ≤ LONGEST_KEY) where
-      pub strings-added : IsStrings limit (count + 1) after
-      strings-added = record {
-        is_arena = added.is_arena;
-        led = added.led is.led;
-        counted = ap (λ n. n + 1) is.counted ∙ sym (ap (λ (m : FinMap byte_order ℕ). len m) (map_written arena after key is_key 0 added.change) ∙ len-added (map_of arena) key 0 none);
-        within_limit = (let w = is.within_limit in omega arith);
-        holds_some = is.holds_some;
-        limit_fits = is.limit_fits;
-        short = subst AreShort (sym (map_written arena after key is_key 0 added.change)) (short-insert (map_of arena) key 0 is.short fits);
-      }
+    module _ (after : Arena) (place : Place) (added : IsAdded arena after key place) where
+      pub strings-added : count ≢ limit → (longer : ℕ) → longer ≡ max longest (length key) → length key ≤ most → IsStrings most longer limit (count + 1) after
+      strings-added room longer longer_is fits =
+          let before = is.longest_fits in
+          record {
+            is_arena = added.is_arena;
+            led = added.led is.led;
+            counted = ap (λ n. n + 1) is.counted ∙ sym (ap (λ (m : FinMap byte_order ℕ). len m) (map_written arena after key is_key 0 added.change) ∙ len-added (map_of arena) key 0 none);
+            within_limit = (let w = is.within_limit in omega arith);
+            holds_some = is.holds_some;
+            limit_fits = is.limit_fits;
+            short = subst (AreWithin longer) (sym (map_written arena after key is_key 0 added.change))
+                (within-insert longer (map_of arena) key 0 (within-more (map_of arena) is.short (omega (arith, longer_is))) (omega (arith, longer_is)));
+            longest_fits = omega (arith, longer_is, before, fits);
+          }
 
       pub array-added : (value : ℕ) → array_of limit (place_with after place value) ≡ with_value (array_of limit arena) key value
       array-added value =
@@ -91,8 +94,8 @@ module _ (limit count : ℕ) (arena : Arena) (is : IsStrings limit count arena) 
 
       pub added-value : place_value after place ≡ get (ins (map_of arena) key) key
       added-value =
-          value-place limit (count + 1) after strings-added key is_key place added.found
-          ∙ get-map after key is_key
+          value-there after added.is_arena key place added.found
+          ∙ sym (found-there after added.is_arena key place added.found)
           ∙ added.change.at_key
           ∙ sym absent-ins
 
@@ -101,7 +104,7 @@ module _ (limit count : ℕ) (arena : Arena) (is : IsStrings limit count arena) 
     map-same : map_of same ≡ map_of arena
     map-same = ap (λ (w : World). table all_strings (λ k. lookup w 0 (pieces k))) (world-same arena same is_same)
 
-    pub strings-same : IsStrings limit count same
+    pub strings-same : IsStrings most longest limit count same
     strings-same = record {
       is_arena = arena-same arena same is_same is.is_arena;
       led = subst AllLed (sym (world-same arena same is_same)) is.led;
@@ -109,7 +112,8 @@ module _ (limit count : ℕ) (arena : Arena) (is : IsStrings limit count arena) 
       within_limit = is.within_limit;
       holds_some = is.holds_some;
       limit_fits = is.limit_fits;
-      short = subst AreShort (sym map-same) is.short;
+      short = subst (AreWithin longest) (sym map-same) is.short;
+      longest_fits = is.longest_fits;
     }
 
     pub array-same : array_of limit same ≡ array_of limit arena

@@ -12,14 +12,13 @@ use Rattle.judy_model.specs.Arrays.{ArrayOf, empty_array, with_map}
 use Rattle.judy_model.proofs.lemmas.maps.SortedMaps.{from_sorted-nil}
 use Rattle.judy_model.proofs.lemmas.orders.WordOrder.{less_word}
 use Rattle.judy_model.proofs.lemmas.maps.Tests.{both, left_of, right_of}
-use Rattle.judy_model.specs.declared.keys.TheConstants.{LONGEST_KEY}
 use Rattle.judy_tails.specs.Tails.{no_tails}
 use Rattle.judy_sl.specs.declared.arena.Arena.{Arena}
 use Rattle.judy_sl.specs.declared.arena.Place.TheVariants.{Below}
 use Rattle.judy_sl.specs.Children.{Child, Free, Tail, Level, child_with}
 use Rattle.judy_sl.specs.Pieces.{pieces, piece_of}
 use Rattle.judy_sl.specs.WorldInvariants.{AllLed}
-use Rattle.judy_sl.specs.Arenas.{world_of, child_at, map_of, AreShort, IsArena, IsStrings}
+use Rattle.judy_sl.specs.Arenas.{world_of, child_at, map_of, AreWithin, IsArena, IsStrings}
 use Rattle.judy_sl.specs.Places.{place_with, with_child}
 use Rattle.judy_sl.specs.Grown.{IsPut, IsAdded, IsChange}
 use Rattle.judy_sl.specs.Counted.{AreCounted}
@@ -32,7 +31,6 @@ use Rattle.judy_sl.proofs.lemmas.counts.CountedWrites.{counted_written, counted_
 use Rattle.judy_sl.proofs.lemmas.seats.Maps.{get-map, map_written, len-added, empty-arena, empty-led, empty-map}
 use Rattle.judy_sl.proofs.lemmas.counts.Beginnings.{firsts_written}
 use Rattle.judy_sl.proofs.lemmas.counts.FirstWays.{unrooted, added_first, firsts_new}
-use Rattle.judy_sl.proofs.lemmas.pieces.Strings.{short-none, short-insert}
 use Rattle.judy_sl.specs.Strings.{IsString}
 
 -- ---- entries in order
@@ -69,8 +67,7 @@ root-over arena root at (Tail rest) = refl
 root-over arena root at (Level keys words) = refl
 
 module _ (arena : Arena) (entries : List (ℕ × ℕ)) (is : IsPlanted arena entries) (key : List ℕ) (is_key : IsString key) (long : 8 ≤ length key)
-    (above : AreBelow (piece_of key) entries) (placed : Arena) (at : ℕ) (rest : List ℕ) (rest_is : rest ≡ drop 8 key) (put : IsPut arena placed (Tail (rest, 0)) at) (value : ℕ)
-    (fits : length key ≤ LONGEST_KEY) where
+    (above : AreBelow (piece_of key) entries) (placed : Arena) (at : ℕ) (rest : List ℕ) (rest_is : rest ≡ drop 8 key) (put : IsPut arena placed (Tail (rest, 0)) at) (value : ℕ) where
   abbrev piece : ℕ
   piece = piece_of key
 
@@ -148,7 +145,6 @@ module _ (arena : Arena) (entries : List (ℕ × ℕ)) (is : IsPlanted arena ent
         ∙ len-added (map_of before) key value absent
         ∙ ap (λ n. n + 1) is.number
         ∙ sym (length_push entries (piece, at));
-    short = subst AreShort (sym planted-map) (short-insert (map_of before) key value is.short fits);
   }
 
 -- ---- at the beginning and at the end
@@ -171,7 +167,6 @@ module _ (arena : Arena) (no_levels : arena.levels.slots ≡ []) (nothing : aren
     counted = subst AreCounted itself (counted_new arena no_levels nothing);
     firsts = subst (λ (all : Arena). AreFirsts (map_of all) empty) itself (firsts_new arena no_levels nothing no_root empty refl);
     number = ap (λ (map : FinMap byte_order ℕ). len map) planted-none ∙ len-empty byte_order ℕ;
-    short = subst AreShort (sym planted-none) short-none;
   }
 
 -- and one whose first level is made of the entries.
@@ -183,15 +178,17 @@ module _ (arena : Arena) (entries : List (ℕ × ℕ)) (is : IsPlanted arena ent
   root-made : planted arena entries ≡ record arena { root = root }
   root-made = λ i. record arena { root = record { limit = sym limit_is i; map = map-is i } }
 
-  pub strings-planted : (limit : ℕ) → 1 ≤ limit → limit ≤ 4294967295 → length entries ≤ limit → IsStrings limit (length entries) (record arena { root = root })
-  strings-planted limit some most few = subst (IsStrings limit (length entries)) root-made (record {
+  pub strings-planted : (most longest limit : ℕ) → AreWithin longest (map_of (planted arena entries)) → longest ≤ most → 1 ≤ limit → limit ≤ 4294967295 → length entries ≤ limit →
+      IsStrings most longest limit (length entries) (record arena { root = root })
+  strings-planted most longest limit within fits some limit_fits few = subst (IsStrings most longest limit (length entries)) root-made (record {
     is_arena = is.is_arena;
     led = is.led;
     counted = sym is.number;
     within_limit = few;
     holds_some = some;
-    limit_fits = most;
-    short = is.short;
+    limit_fits = limit_fits;
+    short = within;
+    longest_fits = fits;
   })
 
   pub counted-planted : AreCounted (record arena { root = root })

@@ -7,47 +7,48 @@ use Rattle.std.proofs.lemmas.Bool.{cases_lt, le-ltb}
 use Rattle.std.proofs.lemmas.List.{drop_all, length-drop}
 use Rattle.std.specs.Borrow.{Bor}
 use Rattle.std.proofs.lemmas.Option.{same_Some, slice_get-map, slice_get-get_or}
-use Rattle.judy_model.specs.Keys.{byte_order, IsStringKey}
+use Rattle.judy_model.specs.Keys.{byte_order}
 use Rattle.judy_model.proofs.lemmas.dumps.EntryLemmas.{Ascends}
 use Rattle.judy_sl.specs.Pieces.{piece_of, IsText}
 use Rattle.judy_sl.proofs.lemmas.pieces.PieceLemmas.{order-piece}
 use Rattle.judy_sl.specs.Sorted.{pairs_in, strings_in, GoesOn, Ascend, AscendTo}
 
--- So many of the first strings are keys that strictly ascend, from behind one on and up to a last one.
-abbrev pub Run : Option (List ℕ) → List (List ℕ) → ℕ → Option (List ℕ) → Type 0
-Run before keys zero last = before ≡ last
-Run before [] (suc count) last = ⊥
-Run before (key ∷ keys) (suc count) last = GoesOn before key × Run (Some key) keys count last
+module _ (IsKey : List ℕ → Type 0) where
+  -- So many of the first strings are keys that strictly ascend, from behind one on and up to a last one.
+  abbrev pub Run : Option (List ℕ) → List (List ℕ) → ℕ → Option (List ℕ) → Type 0
+  Run before keys zero last = before ≡ last
+  Run before [] (suc count) last = ⊥
+  Run before (key ∷ keys) (suc count) last = GoesOn IsKey before key × Run (Some key) keys count last
 
-run-suc : (before : Option (List ℕ)) (keys : List (List ℕ)) (count : ℕ) (last : Option (List ℕ)) (key : List ℕ) → Run before keys count last → slice_get keys count ≡ Some key →
-    GoesOn last key → Run before keys (suc count) (Some key)
-run-suc before [] zero last key run there goes = cc
-run-suc before (one ∷ keys) zero last key run there goes =
-    (subst (λ first. GoesOn first one) (sym run) (subst (GoesOn last) (sym (same_Some one key there)) goes), there)
-run-suc before [] (suc count) last key run there goes = absurd run
-run-suc before (one ∷ keys) (suc count) last key run there goes = (run.0, run-suc (Some one) keys count last key run.1 there goes)
+  run-suc : (before : Option (List ℕ)) (keys : List (List ℕ)) (count : ℕ) (last : Option (List ℕ)) (key : List ℕ) → Run before keys count last → slice_get keys count ≡ Some key →
+      GoesOn IsKey last key → Run before keys (suc count) (Some key)
+  run-suc before [] zero last key run there goes = cc
+  run-suc before (one ∷ keys) zero last key run there goes =
+      (subst (λ first. GoesOn IsKey first one) (sym run) (subst (GoesOn IsKey last) (sym (same_Some one key there)) goes), there)
+  run-suc before [] (suc count) last key run there goes = absurd run
+  run-suc before (one ∷ keys) (suc count) last key run there goes = (run.0, run-suc (Some one) keys count last key run.1 there goes)
 
--- The next one goes on.
-pub run-more : (before : Option (List ℕ)) (keys : List (List ℕ)) (count : ℕ) (last : Option (List ℕ)) (key : List ℕ) → Run before keys count last →
-    slice_get keys count ≡ Some key → GoesOn last key → Run before keys (count + 1) (Some key)
-run-more before keys count last key run there goes =
-    let one_more : suc count ≡ count + 1 = omega arith in
-    subst (λ more. Run before keys more (Some key)) one_more (run-suc before keys count last key run there goes)
+  -- The next one goes on.
+  pub run-more : (before : Option (List ℕ)) (keys : List (List ℕ)) (count : ℕ) (last : Option (List ℕ)) (key : List ℕ) → Run before keys count last →
+      slice_get keys count ≡ Some key → GoesOn IsKey last key → Run before keys (count + 1) (Some key)
+  run-more before keys count last key run there goes =
+      let one_more : suc count ≡ count + 1 = omega arith in
+      subst (λ more. Run before keys more (Some key)) one_more (run-suc before keys count last key run there goes)
 
--- The next one is so to the last.
-pub run-to : (Is : Option (List ℕ) → List ℕ → Type 0) (before : Option (List ℕ)) (keys : List (List ℕ)) (count : ℕ) (last : Option (List ℕ)) (key : List ℕ) →
-    Run before keys count last → slice_get keys count ≡ Some key → Is last key → AscendTo Is before keys count
-run-to Is before [] zero last key run there is = cc
-run-to Is before (one ∷ keys) zero last key run there is =
-    subst (λ first. Is first one) (sym run) (subst (Is last) (sym (same_Some one key there)) is)
-run-to Is before [] (suc count) last key run there is = absurd run
-run-to Is before (one ∷ keys) (suc count) last key run there is = (run.0, run-to Is (Some one) keys count last key run.1 there is)
+  -- The next one is so to the last.
+  pub run-to : (Is : Option (List ℕ) → List ℕ → Type 0) (before : Option (List ℕ)) (keys : List (List ℕ)) (count : ℕ) (last : Option (List ℕ)) (key : List ℕ) →
+      Run before keys count last → slice_get keys count ≡ Some key → Is last key → AscendTo IsKey Is before keys count
+  run-to Is before [] zero last key run there is = cc
+  run-to Is before (one ∷ keys) zero last key run there is =
+      subst (λ first. Is first one) (sym run) (subst (Is last) (sym (same_Some one key there)) is)
+  run-to Is before [] (suc count) last key run there is = absurd run
+  run-to Is before (one ∷ keys) (suc count) last key run there is = (run.0, run-to Is (Some one) keys count last key run.1 there is)
 
--- There is none further.
-pub run-all : (before : Option (List ℕ)) (keys : List (List ℕ)) (count : ℕ) (last : Option (List ℕ)) → Run before keys count last → length keys ≤ count → Ascend before keys
-run-all before [] count last run all = tt
-run-all before (key ∷ keys) zero last run all = absurd (omega (arith, all))
-run-all before (key ∷ keys) (suc count) last run all = (run.0, run-all (Some key) keys count last run.1 (omega (arith, all)))
+  -- There is none further.
+  pub run-all : (before : Option (List ℕ)) (keys : List (List ℕ)) (count : ℕ) (last : Option (List ℕ)) → Run before keys count last → length keys ≤ count → Ascend IsKey before keys
+  run-all before [] count last run all = tt
+  run-all before (key ∷ keys) zero last run all = absurd (omega (arith, all))
+  run-all before (key ∷ keys) (suc count) last run all = (run.0, run-all (Some key) keys count last run.1 (omega (arith, all)))
 
 -- The string of the pair at a place.
 pub string-at : (pairs : List (Bor (List ℕ) × ℕ)) (at : ℕ) (default : Bor (List ℕ) × ℕ) → at < length pairs → slice_get (strings_in pairs) at ≡ Some (get_or pairs at default).0.now
@@ -55,17 +56,18 @@ string-at pairs at default within =
     slice_get-map (λ (one : Bor (List ℕ) × ℕ). one.0.now) pairs at
     ∙ ap (option_map (λ (one : Bor (List ℕ) × ℕ). one.0.now)) (slice_get-get_or pairs at default within)
 
--- The pairs ascend as their strings do.
-pub pairs-ascend : (before : Option (List ℕ)) (pairs : List (Bor (List ℕ) × ℕ)) → Ascend before (strings_in pairs) → Ascends byte_order before (pairs_in pairs)
-pairs-ascend before [] up = tt
-pairs-ascend before (pair ∷ pairs) up = (up.0.1, pairs-ascend (Some pair.0.now) pairs up.1)
+module _ (IsKey : List ℕ → Type 0) where
+  -- The pairs ascend as their strings do.
+  pub pairs-ascend : (before : Option (List ℕ)) (pairs : List (Bor (List ℕ) × ℕ)) → Ascend IsKey before (strings_in pairs) → Ascends byte_order before (pairs_in pairs)
+  pairs-ascend before [] up = tt
+  pairs-ascend before (pair ∷ pairs) up = (up.0.1, pairs-ascend (Some pair.0.now) pairs up.1)
 
--- Each of their strings is a key.
-pub each-key : (before : Option (List ℕ)) (pairs : List (Bor (List ℕ) × ℕ)) → Ascend before (strings_in pairs) → (at : ℕ) (default : Bor (List ℕ) × ℕ) →
-    at < length pairs → IsStringKey (get_or pairs at default).0.now
-each-key before [] up at default within = absurd (omega (arith, within))
-each-key before (pair ∷ pairs) up zero default within = up.0.0
-each-key before (pair ∷ pairs) up (suc at) default within = each-key (Some pair.0.now) pairs up.1 at default (omega (arith, within))
+  -- Each of their strings is a key.
+  pub each-key : (before : Option (List ℕ)) (pairs : List (Bor (List ℕ) × ℕ)) → Ascend IsKey before (strings_in pairs) → (at : ℕ) (default : Bor (List ℕ) × ℕ) →
+      at < length pairs → IsKey (get_or pairs at default).0.now
+  each-key before [] up at default within = absurd (omega (arith, within))
+  each-key before (pair ∷ pairs) up zero default within = up.0.0
+  each-key before (pair ∷ pairs) up (suc at) default within = each-key (Some pair.0.now) pairs up.1 at default (omega (arith, within))
 
 -- ---- whether a string is below another, piece by piece
 

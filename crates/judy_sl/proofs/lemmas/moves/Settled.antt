@@ -13,7 +13,7 @@ use Rattle.judy_sl.specs.Pieces.{pieces, IsInner}
 use Rattle.judy_sl.specs.Children.{Child, Free, Tail, Level, is_level, tail_child, child_with, value_at, IsTaken, IsLevelChild}
 use Rattle.judy_sl.specs.World.{World, gone, tail, level}
 use Rattle.judy_sl.specs.WorldInvariants.{IsWorld, AllLed}
-use Rattle.judy_sl.specs.Arenas.{world_of, node_of, child_at, map_of, IsArena, HasText, AreShort, IsStrings}
+use Rattle.judy_sl.specs.Arenas.{world_of, node_of, child_at, map_of, IsArena, HasText, AreWithin, IsStrings}
 use Rattle.judy_sl.specs.Places.{IsPlace, IsLevelPlace, place_with, place_value}
 use Rattle.judy_sl.specs.Ways.{seat_of, piece_at, seat_in, place_in}
 use Rattle.judy_sl.specs.Behind.{map_behind}
@@ -47,15 +47,16 @@ settled-then before now after one two = record {
 
 -- An array of it keeps what it kept.
 module _ (before after : Arena) (settled : IsSettled before after) where
-  pub settled-strings : (limit count : ℕ) → IsStrings limit count before → IsStrings limit count after
-  settled-strings limit count is = record {
+  pub settled-strings : {most longest : ℕ} (limit count : ℕ) → IsStrings most longest limit count before → IsStrings most longest limit count after
+  settled-strings {longest = longest} limit count is = record {
     is_arena = settled.kept.is_arena;
     led = settled.kept.led;
     counted = is.counted ∙ ap (λ (m : FinMap byte_order ℕ). len m) (sym settled.same);
     within_limit = is.within_limit;
     holds_some = is.holds_some;
     limit_fits = is.limit_fits;
-    short = subst AreShort (sym settled.same) is.short;
+    short = subst (AreWithin longest) (sym settled.same) is.short;
+    longest_fits = is.longest_fits;
   }
 
   pub settled-firsts : (firsts : FinMap word_order ℕ) → AreFirsts (map_of before) firsts → AreFirsts (map_of after) firsts

@@ -12,7 +12,7 @@ use Rattle.judy_sl.specs.World.{World, tail, level, lookup, at_entry}
 use Rattle.judy_sl.specs.WorldInvariants.{IsWorld}
 use Rattle.judy_sl.specs.Arenas.{world_of, child_at, IsArena}
 use Rattle.judy_sl.specs.Ways.{IsOnWay, LeadsTo, HasValue, IsFound, IsGap, IsClash, place_in, seat_in, seat_of, piece_at, left_of}
-use Rattle.judy_sl.proofs.lemmas.pieces.PieceLemmas.{text-drop, pieces_same}
+use Rattle.judy_sl.proofs.lemmas.pieces.PieceLemmas.{text-drop, pieces_same, length-pieces}
 use Rattle.judy_records.proofs.Spelling.{spelled-more}
 use Rattle.judy_sl.proofs.lemmas.seats.Linked.{taken_of}
 use Rattle.judy_sl.proofs.lemmas.pieces.Ways.{look_in, lookup-in, lookup-walk, lookup-level, walk-more, walk-behind, pieces_short, pieces_long, tail-same, tail-other}
@@ -77,6 +77,15 @@ module _ (world : World) (key : List ℕ) (seat : ℕ) (map : FinMap word_order 
       (is : world (suc at) ≡ level next) → length (on-moved at next long whole entry is).leads.front ≡ suc (length on.leads.front)
   unfolding on-moved leads-on
   moved-deep at next long whole entry is = let sum = length-append on.leads.front (piece_of rest ∷ []) in omega (arith, sum)
+
+  -- It has come down no more levels than the key has whole pieces.
+  pub on-short : length on.leads.front ≤ length key / 8
+  on-short =
+      let all = ap (λ (ps : List ℕ). length ps) on.leads.parts in
+      let sum = length-append on.leads.front (pieces rest) in
+      let whole = length-pieces key in
+      let left = length-pieces rest in
+      omega (arith, all, sum, whole, left)
 
   -- What is found so far.
   pub on-found : lookup world 0 (pieces key) ≡ look_in world (level map) (pieces rest)

@@ -30,8 +30,11 @@ pub nth_counted : (all : FinMap byte_order ℕ) (n : ℕ) → n ≢ 0 → (key :
 nth_counted all n some key at = ap (by_count all) (let e : n ≡ suc (n - 1) = omega arith in e) ∙ by_count-nth byte_order_total all (n - 1) ∙ at
 
 -- For 0 and above the number of keys there is none.
+pub none_counted : (all : FinMap byte_order ℕ) (n : ℕ) → (n ≡ 0) ⊎ (len all < n) → by_count all n ≡ None
+none_counted all n outside = (by_count_none byte_order_total byte_order_same all n).1 outside
+
 pub nth_none : (all : FinMap byte_order ℕ) (n : ℕ) (key : List ℕ) → (n ≡ 0) ⊎ (len all < n) → (key ≡ unwrap_or (by_count all n) key) × (None ≡ value_found all (by_count all n))
-nth_none all n key outside = let none = (by_count_none byte_order_total byte_order_same all n).1 outside in
+nth_none all n key outside = let none = none_counted all n outside in
     (ap (λ found. unwrap_or found key) (sym none), ap (value_found all) (sym none))
 
 -- ---- the search

@@ -1,28 +1,32 @@
 -- What a delete makes of an array of strings.
 use Rattle.std.proofs.Common.{◌≡◌, ℕ, zero, suc, ◌-◌, ◌≤◌, Bool, true, false, cond, List, is_some, Option, None, Some, refl, sym, ap, subst, ◌∙◌, arith}
 use Rattle.std.specs.FinMap.{FinMap, get, contains_key, remove, len, len-remove, empty_of_len, get-empty}
-use Rattle.judy_model.specs.Keys.{byte_order, IsStringKey}
+use Rattle.judy_model.specs.Keys.{byte_order}
 use Rattle.judy_model.specs.Arrays.{with_map, del}
 use Rattle.judy_model.proofs.lemmas.maps.SortedMaps.{remove_absent}
 use Rattle.judy_model.proofs.lemmas.maps.TableLemmas.{byte_order_total, byte_order_same, table_some}
 use Rattle.judy_sl.specs.declared.arena.Arena.{Arena}
 use Rattle.judy_sl.specs.Pieces.{pieces}
 use Rattle.judy_sl.specs.World.{lookup}
-use Rattle.judy_sl.specs.Arenas.{world_of, map_of, array_of, AreShort, IsStrings}
+use Rattle.judy_sl.specs.Arenas.{world_of, map_of, array_of, AreWithin, IsStrings}
+use Rattle.judy_sl.specs.declared.keys.KeyLength.{Ghosts}
 use Rattle.judy_sl.specs.Shrunk.{IsShrunk}
-use Rattle.judy_sl.proofs.lemmas.pieces.Strings.{short-remove, all_strings-all, key_of_string}
+use Rattle.judy_sl.proofs.lemmas.pieces.Strings.{within-remove, all_strings-all, key_of_string}
 use Rattle.judy_sl.proofs.lemmas.seats.Maps.{get-map, map_removed}
 use Rattle.judy_sl.specs.Strings.{IsString}
 
 module _ (limit : ℕ) (arena : Arena) (key : List ℕ) where
   -- Bytes that are no key are absent.
-  module _ (short : AreShort (map_of arena)) (bad : IsStringKey key → ⊥) where
+  module _ {Self : Type 0} (lengths : Ghosts Self) {longest count : ℕ} (is : IsStrings lengths.LONGEST longest limit count arena) (bad : lengths.IsKey key → ⊥) where
     bad-none : get (map_of arena) key ≡ None
     bad-none = by (get (map_of arena) key) refl
       where
         by : (found : Option ℕ) → get (map_of arena) key ≡ found → get (map_of arena) key ≡ None
-        by None is = is
-        by (Some value) is = absurd (bad (key_of_string key (table_some all_strings-all (λ k. lookup (world_of arena) 0 (pieces k)) key value is).0 (short key value is)))
+        by None none = none
+        by (Some value) held =
+            let short = is.short key value held in
+            let most = is.longest_fits in
+            absurd (bad (key_of_string lengths key (table_some all_strings-all (λ k. lookup (world_of arena) 0 (pieces k)) key value held).0 (omega (arith, short, most))))
 
     pub bad-absent : contains_key (map_of arena) key ≡ false
     bad-absent = ap (λ (o : Option ℕ). is_some o) bad-none
@@ -38,13 +42,13 @@ module _ (limit : ℕ) (arena : Arena) (key : List ℕ) where
       map-is : map_of after ≡ remove (map_of arena) key
       map-is = map_removed arena after key is_key shrunk.change
 
-      short-left : AreShort (map_of arena) → AreShort (map_of after)
-      short-left short = subst AreShort (sym map-is) (short-remove (map_of arena) key short)
+      within-left : (longest : ℕ) → AreWithin longest (map_of arena) → AreWithin longest (map_of after)
+      within-left longest within = subst (AreWithin longest) (sym map-is) (within-remove longest (map_of arena) key within)
 
       pub key-deleted : array_of limit after ≡ with_map (array_of limit arena) (del (map_of arena) key)
       key-deleted = ap (λ (m : FinMap byte_order ℕ). record { limit = limit; map = m }) map-is
 
-      module _ (count : ℕ) (is : IsStrings limit count arena) (found : Bool) (answer : found ≡ is_some (lookup (world_of arena) 0 (pieces key))) where
+      module _ {most longest : ℕ} (count : ℕ) (is : IsStrings most longest limit count arena) (found : Bool) (answer : found ≡ is_some (lookup (world_of arena) 0 (pieces key))) where
         len-is : len (map_of after) ≡ cond found (len (map_of arena) - 1) (len (map_of arena))
         len-is =
             ap (λ (m : FinMap byte_order ℕ). len m) map-is
@@ -62,7 +66,7 @@ module _ (limit : ℕ) (arena : Arena) (key : List ℕ) where
           | suc n ↦ λ some. omega (arith, some)
         ] refl
 
-        pub strings-removed : found ≡ true → IsStrings limit (count - 1) after
+        pub strings-removed : found ≡ true → IsStrings most longest limit (count - 1) after
         strings-removed e = record {
           is_arena = shrunk.is_arena;
           led = shrunk.led;
@@ -70,10 +74,11 @@ module _ (limit : ℕ) (arena : Arena) (key : List ℕ) where
           within_limit = (let w = is.within_limit in omega (arith, w));
           holds_some = is.holds_some;
           limit_fits = is.limit_fits;
-          short = short-left is.short;
+          short = within-left longest is.short;
+          longest_fits = is.longest_fits;
         }
 
-        pub strings-kept : found ≡ false → IsStrings limit count after
+        pub strings-kept : found ≡ false → IsStrings most longest limit count after
         strings-kept e = record {
           is_arena = shrunk.is_arena;
           led = shrunk.led;
@@ -81,5 +86,6 @@ module _ (limit : ℕ) (arena : Arena) (key : List ℕ) where
           within_limit = is.within_limit;
           holds_some = is.holds_some;
           limit_fits = is.limit_fits;
-          short = short-left is.short;
+          short = within-left longest is.short;
+          longest_fits = is.longest_fits;
         }

@@ -1,5 +1,5 @@
 -- A key at the front of a buffer, with what stands behind it.
-use Rattle.std.proofs.Common.{◌≡◌, ◌≤◌, ◌++◌, ℕ, List, length, take, drop, Bool, subst, Option, Some, None, sym, ap, ◌∙◌, arith, ⊎_elim}
+use Rattle.std.proofs.Common.{◌≡◌, ◌≤◌, ◌++◌, ℕ, List, length, take, drop, Bool, subst, Option, Some, None, IfSome, unwrap_or, sym, ap, ◌∙◌, arith, ⊎_elim}
 use Rattle.std.proofs.Math.Seq.{take-append_seam}
 use Rattle.std.proofs.lemmas.Bool.{cases_lt}
 use Rattle.std.proofs.lemmas.List.{length-take-le, take-append-drop, take_all}
@@ -45,6 +45,11 @@ pub neighbour-fits : (look : Look) (arena : Arena) (room : ℕ) → AreWithin ro
     IsNeighbour look (world_of arena) key after found → length after ≤ room
 neighbour-fits look arena room within key after None fits none = let same = ap length none.1 in omega (arith, same, fits)
 neighbour-fits look arena room within key after (Some value) fits some = within-found arena room within after value some.1 some.2
+
+-- Where the neighbour finds room beside the key from which a scan looked, so does what the scan leaves.
+pub nearest-fits : (found : Option (List ℕ)) (key : List ℕ) (room : ℕ) → length key ≤ room → IfSome found (λ one. length one ≤ room) → length (unwrap_or found key) ≤ room
+nearest-fits None key room fits also = fits
+nearest-fits (Some one) key room fits also = also
 
 -- The first elements are no more than that.
 few : (count : ℕ) (all : List ℕ) → length (take count all) ≤ count

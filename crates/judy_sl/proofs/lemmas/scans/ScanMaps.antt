@@ -1,7 +1,8 @@
 -- What a scan of the levels finds is the neighbour in the map.
-use Rattle.std.proofs.Common.{◌≡◌, ℕ, Bool, true, false, not, IsTrue, IsFalse, List, Option, Some, None, is_some, unwrap_or, sym, refl, ap, ◌∙◌, true≢false, is_le}
+use Rattle.std.proofs.Common.{◌≡◌, ℕ, Bool, true, false, not, IsTrue, IsFalse, List, length, Option, Some, None, is_some, unwrap_or, sym, refl, ap, ◌∙◌, true≢false, is_le}
 use Rattle.std.specs.FinMap.{FinMap, get, contains_key}
 use Rattle.std.proofs.lemmas.Option.{none-some}
+use Rattle.std.specs.Option.{option_map}
 use Rattle.judy_model.specs.Keys.{byte_order}
 use Rattle.judy_model.proofs.lemmas.orders.Orders.{le_from_not_lt, lt_from_not_le}
 use Rattle.judy_model.proofs.lemmas.queries.NearestLemmas.{first_found, first_missing, next_found, next_missing, last_found, last_missing, prev_found, prev_missing}
@@ -48,23 +49,36 @@ module _ (look : Look) (arena : Arena) (key : List ℕ) (text : IsText key) wher
   meets_bytes : (other : List ℕ) → IsText other → meets look (world_of arena) (pieces key) (pieces other) ≡ is_beyond look.itself (along_bytes look.side key other)
   meets_bytes other also = ap (is_beyond look.itself) (bytes_along look.side key other text also)
 
+  -- Where something is found, that is the neighbour; and else there is none.
+  pub scanned-key : (after : List ℕ) (result : Option ℕ) → IsNeighbour look (world_of arena) key after result →
+      neighbour_along look.side look.itself (map_of arena) key ≡ option_map (λ value. after) result
+  scanned-key after None none = missing_along look.side look.itself (map_of arena) key (λ other held.
+      let there = held_found arena other held in
+      let also = text_of_key other there.1 in
+      sym (meets_bytes other also) ∙ none.0 (pieces other) there.0 (pieces_are other also) there.2)
+  scanned-key after (Some value) some =
+      let mine = text_of_key after some.1 in
+      let has = get-table all_strings-all (λ k. lookup (world_of arena) 0 (pieces k)) after some.1 ∙ some.2 in
+      found_along look.side look.itself (map_of arena) key after (ap (λ (entry : Option ℕ). is_some entry) has) (sym (meets_bytes after mine) ∙ some.0.met) (λ other held met.
+      let there = held_found arena other held in
+      let also = text_of_key other there.1 in
+      ap is_le (sym (bytes_along look.side after other mine also)) ∙ some.0.first (pieces other) there.0 (pieces_are other also) there.2 (meets_bytes other also ∙ met))
+
   -- The buffer then holds the neighbour, and the answer is its value.
   pub scanned : (after : List ℕ) (result : Option ℕ) → IsNeighbour look (world_of arena) key after result
       → (after ≡ unwrap_or (neighbour_along look.side look.itself (map_of arena) key) key) × (result ≡ value_found (map_of arena) (neighbour_along look.side look.itself (map_of arena) key))
   scanned after None none =
-      let missing = missing_along look.side look.itself (map_of arena) key (λ other held.
-      let there = held_found arena other held in
-      let also = text_of_key other there.1 in
-      sym (meets_bytes other also) ∙ none.0 (pieces other) there.0 (pieces_are other also) there.2) in
-      (none.1 ∙ ap (λ found. unwrap_or found key) (sym missing), ap (value_found (map_of arena)) (sym missing))
+      let missing = scanned-key after None none in (none.1 ∙ ap (λ found. unwrap_or found key) (sym missing), ap (value_found (map_of arena)) (sym missing))
   scanned after (Some value) some =
-      let mine = text_of_key after some.1 in
+      let found = scanned-key after (Some value) some in
       let has = get-table all_strings-all (λ k. lookup (world_of arena) 0 (pieces k)) after some.1 ∙ some.2 in
-      let found = found_along look.side look.itself (map_of arena) key after (ap (λ (entry : Option ℕ). is_some entry) has) (sym (meets_bytes after mine) ∙ some.0.met) (λ other held met.
-      let there = held_found arena other held in
-      let also = text_of_key other there.1 in
-      ap is_le (sym (bytes_along look.side after other mine also)) ∙ some.0.first (pieces other) there.0 (pieces_are other also) there.2 (meets_bytes other also ∙ met)) in
       (ap (λ one. unwrap_or one key) (sym found), sym has ∙ ap (value_found (map_of arena)) (sym found))
+
+  -- The length of what was found is the neighbour's.
+  pub measured : (after : List ℕ) (result : Option ℕ) → IsNeighbour look (world_of arena) key after result → (len : ℕ) → len ≡ length after →
+      option_map (λ value. len) result ≡ option_map length (neighbour_along look.side look.itself (map_of arena) key)
+  measured after None none len long = ap (option_map length) (sym (scanned-key after None none))
+  measured after (Some value) some len long = ap Some long ∙ ap (option_map length) (sym (scanned-key after (Some value) some))
 
 -- Where something was found, it is the value of the key that is then in the buffer.
 pub value_there : (map : FinMap byte_order ℕ) (found : Option (List ℕ)) (value : ℕ) (before after : List ℕ) → Some value ≡ value_found map found →

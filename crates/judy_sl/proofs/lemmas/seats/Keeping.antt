@@ -7,12 +7,12 @@ use Rattle.judy_sl.specs.declared.arena.Arena.{Arena}
 use Rattle.judy_sl.specs.declared.arena.Place.{Place}
 use Rattle.judy_sl.specs.Pieces.{pieces, piece_of}
 use Rattle.judy_sl.specs.World.{World, lookup, at_entry}
-use Rattle.judy_sl.specs.Arenas.{world_of, map_of, array_of, AreShort, IsStrings}
+use Rattle.judy_sl.specs.Arenas.{world_of, map_of, array_of, AreWithin, IsStrings}
 use Rattle.judy_sl.specs.Places.{place_with, place_value}
 use Rattle.judy_sl.specs.Ways.{IsFound, IsGap, IsClash, seat_of, left_of}
 use Rattle.judy_sl.specs.Lends.{with_value}
 use Rattle.judy_tails.specs.Tails.{no_tails}
-use Rattle.judy_sl.proofs.lemmas.pieces.Strings.{short-none, short-insert}
+use Rattle.judy_sl.proofs.lemmas.pieces.Strings.{within-none, within-insert}
 use Rattle.judy_sl.proofs.lemmas.pieces.Ways.{look_in, lookup-in, lookup-walk, lookup-level, tail-other}
 use Rattle.judy_sl.proofs.lemmas.pieces.OnWay.{pieces-head}
 use Rattle.judy_sl.proofs.lemmas.inserts.Written.{written-arena, written-led, written-change, found-there, value-there}
@@ -41,19 +41,21 @@ module _ (world : World) (key : List ℕ) where
       ∙ tail-other world clash.held (pieces (left_of key left)) clash.value clash.other
 
 -- A new array.
-pub strings-new : (limit : ℕ) (arena : Arena) → arena.levels.slots ≡ [] → arena.tails ≡ no_tails → arena.root ≡ empty_array 18446744073709551615 → 1 ≤ limit →
-    limit ≤ 4294967295 → IsStrings limit 0 arena
-strings-new limit arena no_levels nothing no_root some most = record {
+pub strings-new : {most : ℕ} (limit : ℕ) (arena : Arena) → arena.levels.slots ≡ [] → arena.tails ≡ no_tails → arena.root ≡ empty_array 18446744073709551615 → 1 ≤ limit →
+    limit ≤ 4294967295 → IsStrings most 0 limit 0 arena
+strings-new limit arena no_levels nothing no_root some fits = record {
   is_arena = empty-arena arena no_levels nothing no_root;
   led = empty-led arena no_levels nothing no_root;
   counted = sym (ap (λ (map : FinMap byte_order ℕ). len map) (empty-map arena no_levels nothing no_root) ∙ len-empty byte_order ℕ);
   within_limit = omega arith;
   holds_some = some;
-  limit_fits = most;
-  short = subst AreShort (sym (empty-map arena no_levels nothing no_root)) short-none;
+  limit_fits = fits;
+  short = subst (AreWithin 0) (sym (empty-map arena no_levels nothing no_root)) within-none;
+  longest_fits = omega arith;
 }
 
-module _ (limit count : ℕ) (arena : Arena) (is : IsStrings limit count arena) (key : List ℕ) (is_key : IsString key) (place : Place) (found : IsFound (world_of arena) key place) where
+module _ {most longest : ℕ} (limit count : ℕ) (arena : Arena) (is : IsStrings most longest limit count arena) (key : List ℕ) (is_key : IsString key) (place : Place)
+    (found : IsFound (world_of arena) key place) where
   pub get-there : get (map_of arena) key ≡ Some found.value
   get-there = get-map arena key is_key ∙ found-there arena is.is_arena key place found
 
@@ -63,7 +65,7 @@ module _ (limit count : ℕ) (arena : Arena) (is : IsStrings limit count arena) 
   pub map-written : (value : ℕ) → map_of (place_with arena place value) ≡ insert (map_of arena) key value
   map-written value = map_written arena (place_with arena place value) key is_key value (written-change arena is.is_arena key place found value)
 
-  pub strings-written : (value : ℕ) → IsStrings limit count (place_with arena place value)
+  pub strings-written : (value : ℕ) → IsStrings most longest limit count (place_with arena place value)
   strings-written value = record {
     is_arena = written-arena arena is.is_arena key place found value;
     led = written-led arena is.is_arena key place found value is.led;
@@ -71,7 +73,8 @@ module _ (limit count : ℕ) (arena : Arena) (is : IsStrings limit count arena) 
     within_limit = is.within_limit;
     holds_some = is.holds_some;
     limit_fits = is.limit_fits;
-    short = subst AreShort (sym (map-written value)) (short-insert (map_of arena) key value is.short (is.short key found.value get-there));
+    short = subst (AreWithin longest) (sym (map-written value)) (within-insert longest (map_of arena) key value is.short (is.short key found.value get-there));
+    longest_fits = is.longest_fits;
   }
 
   pub array-written : (value : ℕ) → array_of limit (place_with arena place value) ≡ with_value (array_of limit arena) key value

@@ -3,8 +3,8 @@ use Rattle.std.proofs.Common.{◌≡◌, ℕ, zero, suc, ◌≤◌, ◌/◌, Boo
 use Rattle.std.proofs.lemmas.Option.{none-some}
 use Rattle.std.specs.FinMap.{get}
 use Rattle.std.specs.Ordering.{eq_by_cmp}
-use Rattle.judy_model.specs.Keys.{IsWord, IsStringKey, word_order, byte_order}
-use Rattle.judy_model.specs.Arrays.{ArrayOf, IsArrayOf, judysl, IsArray}
+use Rattle.judy_model.specs.Keys.{IsWord, word_order, byte_order}
+use Rattle.judy_model.specs.Arrays.{ArrayOf, IsArrayOf}
 use Rattle.judy_model.proofs.lemmas.runs.KeptLemmas.{holds-IsArrayOf, words_hold}
 use Rattle.judy_model.proofs.lemmas.maps.TableLemmas.{byte_order_total, table_some}
 use Rattle.slab.specs.Slab as slab
@@ -16,6 +16,7 @@ use Rattle.judy_sl.specs.Pieces.{pieces}
 use Rattle.judy_sl.specs.World.{World, Node, gone, tail, level, lookup, at_node, at_entry}
 use Rattle.judy_sl.specs.Words.{HasWords}
 use Rattle.judy_sl.specs.Arenas.{world_of, node_of, array_of, IsStrings}
+use Rattle.judy_sl.specs.declared.keys.KeyLength.{Ghosts}
 use Rattle.judy_sl.proofs.lemmas.pieces.Strings.{all_strings-all, key_of_string}
 
 module _ (P : ℕ → Type 0) where
@@ -41,19 +42,25 @@ lookup-word world words seat (piece ∷ rest) value e =
     node-word (λ at. lookup world (suc at) rest) rest (λ at v is. lookup-word world words (suc at) rest v is) (world seat) piece value (words seat) e
 
 -- So the array is one of the definitions.
-pub words-array : (limit count : ℕ) (arena : Arena) → IsStrings limit count arena → ((seat : ℕ) → HasWords (world_of arena seat)) → IsArray (judysl (array_of limit arena))
-words-array limit count arena is words =
-    holds-IsArrayOf byte_order_total (array_of limit arena) IsStringKey is.holds_some
+pub words-array : {Self : Type 0} (lengths : Ghosts Self) (longest limit count : ℕ) (arena : Arena) → IsStrings lengths.LONGEST longest limit count arena →
+    ((seat : ℕ) → HasWords (world_of arena seat)) → IsArrayOf lengths.IsKey (array_of limit arena)
+words-array lengths longest limit count arena is words =
+    holds-IsArrayOf byte_order_total (array_of limit arena) lengths.IsKey is.holds_some
     (let most = is.limit_fits in omega arith)
     (subst (λ n. n ≤ limit) is.counted is.within_limit)
     (λ key value held.
     let there = table_some all_strings-all (λ k. lookup (world_of arena) 0 (pieces k)) key value held in
-    (key_of_string key there.0 (is.short key value held), lookup-word (world_of arena) words 0 (pieces key) value there.1))
+    let short = is.short key value held in
+    let most = is.longest_fits in
+    (key_of_string lengths key there.0 (omega (arith, short, most)), lookup-word (world_of arena) words 0 (pieces key) value there.1))
 
--- The keys are strings without a zero byte.
-pub strings-kept : (limit count : ℕ) (arena : Arena) → IsStrings limit count arena → (key : List ℕ) (value : ℕ) → get (array_of limit arena).map key ≡ Some value → IsStringKey key
-strings-kept limit count arena is key value held =
-    key_of_string key (table_some all_strings-all (λ k. lookup (world_of arena) 0 (pieces k)) key value held).0 (is.short key value held)
+-- The keys are such.
+pub strings-kept : {Self : Type 0} (lengths : Ghosts Self) (longest limit count : ℕ) (arena : Arena) → IsStrings lengths.LONGEST longest limit count arena →
+    (key : List ℕ) (value : ℕ) → get (array_of limit arena).map key ≡ Some value → lengths.IsKey key
+strings-kept lengths longest limit count arena is key value held =
+    let short = is.short key value held in
+    let most = is.longest_fits in
+    key_of_string lengths key (table_some all_strings-all (λ k. lookup (world_of arena) 0 (pieces k)) key value held).0 (omega (arith, short, most))
 
 -- So each level,
 level-words : (found : Option LevelParts) → ((words : ArrayOf word_order) → words_in found ≡ Some words → IsArrayOf IsWord words) → HasWords (node_of (level_child found))

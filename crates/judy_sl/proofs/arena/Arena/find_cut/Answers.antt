@@ -1,27 +1,25 @@
-use Rattle.std.proofs.Common.{◌≡◌, ◌+◌, ◌*◌, ◌<◌, ◌≤◌, [], ◌∷◌, ◌++◌, ◌∙◌, ℕ, suc, List, Some, refl, sym, ap, arith, length, drop, subst, true≢false}
-use Rattle.std.proofs.lemmas.List.{take_rest, length-append}
+use Rattle.std.proofs.Common.{◌≡◌, ◌+◌, [], ◌∷◌, ◌++◌, ◌∙◌, ℕ, suc, List, Some, refl, sym, ap, arith, length, drop, subst, true≢false}
+use Rattle.std.proofs.lemmas.List.{take_rest}
 use Rattle.std.specs.FinMap.{get}
-use Rattle.judy_sl.specs.World.{World}
 use Rattle.judy_sl.specs.Arenas.{world_of, node_of, HasText}
-use Rattle.judy_sl.specs.Ways.{levels_passed}
 use Rattle.judy_sl.specs.Shrunk.{IsCut, IsDeeper}
 use Rattle.judy_sl.proofs.lemmas.pieces.PieceLemmas.{text_of_key, piece-IsInner, text-drop}
-use Rattle.judy_sl.proofs.lemmas.counts.PassedLevels.{passed-few, noted-on, noted-tail, noted-last}
+use Rattle.judy_sl.proofs.lemmas.counts.PassedLevels.{noted-on, noted-tail, noted-last}
 use Rattle.judy_sl.proofs.lemmas.pieces.Exact.{ends-text}
-use Rattle.judy_sl.proofs.lemmas.pieces.OnWay.{on-start, start-deep, on-moved, moved-deep, found-clash, found-none, on-taken}
+use Rattle.judy_sl.proofs.lemmas.pieces.OnWay.{on-start, on-short, start-deep, on-moved, moved-deep, found-clash, found-none, on-taken}
 use Rattle.judy_sl.proofs.lemmas.removals.Cuts.{cut-on, cut-last, cut-tail}
 use Rattle.judy_sl.proofs.arena.Arena.find_cut.Goals as goal
 
 pub loop-rest-init : goal.loop-rest-init
-loop-rest-init g c = record { on = on-start _ _ _ refl; so_far = tt; is_arena = c.requires.is_arena; noted = []; has = λ short. c.requires.begins; ahead = refl; deep = sym (start-deep _ _ _ _) }
+loop-rest-init g c = record { on = on-start _ _ _ refl; so_far = tt; is_arena = c.requires.is_arena; noted = []; has = c.requires.begins; ahead = refl; deep = sym (start-deep _ _ _ _) }
 
--- No more are noted than a key can pass.
-few : (world : World) (key : List ℕ) (n : ℕ) → length key < 8 * n + 8 → (noted ahead : List ℕ) → noted ++ ahead ≡ levels_passed world key → length noted ≤ n
-few world key n short noted ahead all =
-    let most = passed-few world key n short in
-    let long = ap (λ (places : List ℕ). length places) (sym all) in
-    let sum = length-append noted ahead in
-    omega (arith, most, long, sum)
+-- No more levels are passed than a key has whole pieces.
+pub overflow_add-depth : goal.overflow_add-depth
+overflow_add-depth g c =
+    let deep = c.loop-rest.invariant.deep in
+    let short = on-short _ _ _ _ _ c.loop-rest.invariant.on in
+    let within = c.requires.is_key.is_bytes_key.within_limit in
+    omega (arith, deep, short, within)
 
 pub returns-in_err-at-clause-cut : goal.returns-in_err-at-clause-cut
 returns-in_err-at-clause-cut g c =
@@ -40,7 +38,7 @@ loop-rest-preserved g c =
       place = c.place_in.result;
       below = Some c.in_ok-at.at;
       left = length xs;
-      depth = c.len.result;
+      depth = c.loop-rest.depth;
     }) c.deeper.result) (take_rest c.loop-rest.rest.now 8) c.deeper.ensures in
     rw take_rest (record {
       on =
@@ -50,8 +48,7 @@ loop-rest-preserved g c =
       so_far =
           cut-on (world_of c.args.self.now) c.args.key.now c.loop-rest.child c.loop-rest.level.now.map c.loop-rest.rest.now c.loop-rest.invariant.on
           (text_of_key c.args.key.now c.requires.is_key) c.loop-rest.cut c.loop-rest.invariant.so_far c.first_piece-piece.result c.first_piece-piece.ensures
-          c.place_in.result c.place_in.ensures c.len.result (c.len.ensures.value ∙ ap (λ (places : List ℕ). length places)
-          (c.loop-rest.invariant.has (few (world_of c.args.self.now) c.args.key.now g.row.N c.requires.few _ _ c.loop-rest.invariant.ahead)) ∙ c.loop-rest.invariant.deep)
+          c.place_in.result c.place_in.ensures c.loop-rest.depth c.loop-rest.invariant.deep
           c.in_ok-at.at c.deeper.result c.loop-rest-test.true (sym c.get.ensures ∙ c.in_ok-at.was) deeper;
       is_arena = c.requires.is_arena;
       noted = c.loop-rest.invariant.noted ++ c.in_ok-at.at ∷ [];
@@ -59,8 +56,7 @@ loop-rest-preserved g c =
       ahead =
           noted-on _ _ _ c.loop-rest.invariant.on.is_level _ c.loop-rest-test.true c.in_ok-at.at (sym (ap (λ p. get c.loop-rest.level.now.map p) c.first_piece-piece.ensures) ∙
           sym c.get.ensures ∙ c.in_ok-at.was) c.in-Level.next.now.map (ap node_of c.in-Level.ensures) _ _ c.loop-rest.invariant.ahead;
-      deep = (let one : length (c.loop-rest.invariant.noted ++ c.in_ok-at.at ∷ []) ≡ suc (length c.loop-rest.invariant.noted) =
-          (let sum = length-append c.loop-rest.invariant.noted (c.in_ok-at.at ∷ []) in omega (arith, sum)) in
+      deep = (let one : c.loop-rest.depth + 1 ≡ suc c.loop-rest.depth = omega arith in
           one ∙ ap (λ n. suc n) c.loop-rest.invariant.deep ∙ sym (moved-deep _ _ _ _ _ c.loop-rest.invariant.on _ _ _ _ _ _));
     })
 
@@ -73,14 +69,13 @@ returns-then-is-clause-cut g c =
       place = c.place_in.result;
       below = Some c.in_ok-at.at;
       left = length xs;
-      depth = c.len.result;
+      depth = c.loop-rest.depth;
     }) c.deeper.result) (take_rest c.loop-rest.rest.now 8) c.deeper.ensures in
     cut-tail (world_of c.args.self.now) c.args.key.now c.in_ok-at.at (drop 8 c.loop-rest.rest.now) c.in-Tail.tail.0 c.in-Tail.tail.1 c.deeper.result
     (ap node_of c.in-Tail.ensures) (c.is.ensures.0 c.if-is.true ∙ take_rest c.loop-rest.rest.now 8) (cut-on
     (world_of c.args.self.now) c.args.key.now c.loop-rest.child c.loop-rest.level.now.map c.loop-rest.rest.now c.loop-rest.invariant.on
     (text_of_key c.args.key.now c.requires.is_key) c.loop-rest.cut c.loop-rest.invariant.so_far c.first_piece-piece.result c.first_piece-piece.ensures c.place_in.result
-    c.place_in.ensures c.len.result (c.len.ensures.value ∙ ap (λ (places : List ℕ). length places) (c.loop-rest.invariant.has
-    (few (world_of c.args.self.now) c.args.key.now g.row.N c.requires.few _ _ c.loop-rest.invariant.ahead)) ∙ c.loop-rest.invariant.deep) c.in_ok-at.at c.deeper.result c.loop-rest-test.true
+    c.place_in.ensures c.loop-rest.depth c.loop-rest.invariant.deep c.in_ok-at.at c.deeper.result c.loop-rest-test.true
     (sym c.get.ensures ∙ c.in_ok-at.was) deeper)
 
 pub returns-else-is-clause-cut : goal.returns-else-is-clause-cut
@@ -102,19 +97,17 @@ pub returns-clause-cut : goal.returns-clause-cut
 returns-clause-cut g c =
     cut-last (world_of c.args.self.now) c.args.key.now c.loop-rest.child c.loop-rest.level.now.map c.loop-rest.rest.now c.loop-rest.invariant.on
     (text_of_key c.args.key.now c.requires.is_key) c.loop-rest.cut c.loop-rest.invariant.so_far c.first_piece-piece-2.result c.first_piece-piece-2.ensures
-    c.place_in-2.result c.place_in-2.ensures c.len-2.result (c.len-2.ensures.value ∙ ap (λ (places : List ℕ). length places)
-    (c.loop-rest.invariant.has (few (world_of c.args.self.now) c.args.key.now g.row.N c.requires.few _ _ c.loop-rest.invariant.ahead)) ∙ c.loop-rest.invariant.deep)
+    c.place_in-2.result c.place_in-2.ensures c.loop-rest.depth c.loop-rest.invariant.deep
     c.in_ok-get.field-0 c.deeper-2.result (omega arith) (sym c.get-2.ensures ∙ c.in_ok-get.was) c.deeper-2.ensures
 
 -- ---- the levels that the way passed
 
 pub returns-then-is-clause-passed : goal.returns-then-is-clause-passed
 returns-then-is-clause-passed g c =
-    λ some. c.loop-rest.invariant.has (few (world_of c.args.self.now) c.args.key.now g.row.N c.requires.few _ _ c.loop-rest.invariant.ahead) ∙
-    noted-tail _ _ _ c.loop-rest.invariant.on.is_level _ c.loop-rest-test.true c.in_ok-at.at (sym (ap (λ p. get c.loop-rest.level.now.map p) c.first_piece-piece.ensures) ∙
-    sym c.get.ensures ∙ c.in_ok-at.was) _ _ (ap node_of c.in-Tail.ensures) _ _ c.loop-rest.invariant.ahead
+    λ some. subst (λ places. g.N.Notes.has c.loop-rest.notes places) (noted-tail _ _ _ c.loop-rest.invariant.on.is_level _ c.loop-rest-test.true c.in_ok-at.at
+    (sym (ap (λ p. get c.loop-rest.level.now.map p) c.first_piece-piece.ensures) ∙ sym c.get.ensures ∙ c.in_ok-at.was) _ _ (ap node_of c.in-Tail.ensures) _ _ c.loop-rest.invariant.ahead)
+    c.loop-rest.invariant.has
 
 pub returns-clause-passed : goal.returns-clause-passed
 returns-clause-passed g c =
-    λ some. c.loop-rest.invariant.has (few (world_of c.args.self.now) c.args.key.now g.row.N c.requires.few _ _ c.loop-rest.invariant.ahead) ∙
-    noted-last _ _ _ c.loop-rest.invariant.on.is_level _ (omega arith) _ _ c.loop-rest.invariant.ahead
+    λ some. subst (λ places. g.N.Notes.has c.loop-rest.notes places) (noted-last _ _ _ c.loop-rest.invariant.on.is_level _ (omega arith) _ _ c.loop-rest.invariant.ahead) c.loop-rest.invariant.has

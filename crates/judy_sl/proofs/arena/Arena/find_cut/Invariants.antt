@@ -1,4 +1,4 @@
-use Rattle.std.proofs.Common.{◌≡◌, ◌≤◌, ℕ, List, ◌++◌, length}
+use Rattle.std.proofs.Common.{◌≡◌, ℕ, List, ◌++◌, length}
 use Rattle.judy_sl.specs.Pieces.{pieces}
 use Rattle.judy_sl.specs.Arenas.{world_of, IsArena}
 use Rattle.judy_sl.specs.Ways.{IsOnWay, seat_in, passed_from, levels_passed}
@@ -11,9 +11,9 @@ invariant-loop-rest g l = record {
   so_far : IsCutSoFar (world_of l.self) l.key l.child l.rest l.cut;
   is_arena : IsArena l.self;
   noted : List ℕ;
-  has : length noted ≤ g.row.N → l.passed.items ≡ noted;
+  has : g.N.Notes.has l.notes noted;
   ahead : noted ++ passed_from (world_of l.self) (seat_in l.child) (pieces l.rest) ≡ levels_passed (world_of l.self) l.key;
-  deep : length noted ≡ length on.leads.front;
+  deep : l.depth ≡ length on.leads.front;
 }
 
 abbrev pub decreases-loop-rest : goal.decreases-loop-rest

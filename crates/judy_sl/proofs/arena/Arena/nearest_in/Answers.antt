@@ -1,10 +1,10 @@
-use Rattle.std.proofs.Common.{◌≡◌, ◌≢◌, ◌∙◌, sym, subst, ap, arith, length, take}
+use Rattle.std.proofs.Common.{◌≡◌, ◌≢◌, ◌≤◌, ◌∙◌, ℕ, List, sym, subst, ap, arith, length, take}
 use Rattle.std.specs.List.{All}
 use Rattle.std.proofs.lemmas.List.{length-take-le}
 use Rattle.judy_sl.specs.Arenas.{world_of, map_of}
 use Rattle.judy_sl.specs.Pieces.{IsText}
-use Rattle.judy_sl.specs.Scans.{value_in, StandsAt, IsScanned, IsFront, nearest_key}
-use Rattle.judy_sl.proofs.lemmas.scans.Fronts.{same_owner, same_room, front-written, neighbour-fits}
+use Rattle.judy_sl.specs.Scans.{value_in, StandsAt, IsScanned, IsFront, neighbour_along, nearest_key}
+use Rattle.judy_sl.proofs.lemmas.scans.Fronts.{same_owner, same_room, front-written, nearest-fits}
 use Rattle.judy_sl.proofs.lemmas.scans.ScanMaps.{scanned}
 use Rattle.judy_sl.proofs.arena.Arena.nearest_in.Goals as goal
 
@@ -31,10 +31,11 @@ returns c =
     let room = same_room before.buffer.now front.buffer.now front.len before.buffer.ghost_name front.buffer.ghost_name stays ∙ ap length c.new-key.ensures.bytes in
     let owner = same_owner before.buffer.now front.buffer.now front.len before.buffer.ghost_name front.buffer.ghost_name stays ∙ c.new-key.ensures.same in
     let from = length-take-le c.args.len.now buffer c.requires.inside in
-    let fits = neighbour-fits look c.args.self.now (length buffer) c.requires.room key got.bytes (value_in c.neighbour-found.result) (omega (arith, from, c.requires.inside)) are.0 in
+    let found = scanned look c.args.self.now key text got.bytes (value_in c.neighbour-found.result) are.0 in
+    let fits = subst (λ (bytes : List ℕ). length bytes ≤ length buffer) (sym found.0)
+    (nearest-fits (neighbour_along look.side look.itself (map_of c.args.self.now) key) key (length buffer) (omega (arith, from, c.requires.inside)) c.requires.room) in
     let written : take front.len front.buffer.now ≡ got.bytes = got.given.1 (omega (arith, fits, room)) in
     let last = c.buffer-1.given.1.1 (sym owner) in
-    let found = scanned look c.args.self.now key text got.bytes (value_in c.neighbour-found.result) are.0 in
     let nearest = nearest_key look (map_of c.args.self.now) key in
     let long = got.given.0 in
     let is = front-written before.buffer.now front.buffer.now front.len before.buffer.ghost_name front.buffer.ghost_name stays nearest (omega (arith, fits, room, long)) (written ∙ found.0) in

@@ -1,5 +1,0 @@
-use Rattle.judy_sl.proofs.lemmas.seats.Words.{words-array}
-use Rattle.judy_sl.proofs.judysl.JudySl.array_law.Goals as goal
-
-pub returns : goal.returns
-returns c = rw (← c.self.view_is) (words-array _ _ _ c.self.invariant.0 c.words_law.ensures)

@@ -1,8 +1,0 @@
-use Rattle.std.proofs.Common.{rules}
-use Rattle.judy_sl.proofs.judysl.JudySl.last.Goals as goal
-
-pub returns-clause-key : goal.returns-clause-key
-returns-clause-key c = search rules
-
-pub returns-clause-value : goal.returns-clause-value
-returns-clause-value c = search rules

@@ -1,5 +1,0 @@
-use Rattle.judy_sl.proofs.lemmas.seats.Words.{strings-kept}
-use Rattle.judy_sl.proofs.judysl.JudySl.strings_law.Goals as goal
-
-pub returns : goal.returns
-returns c = rw (← c.self.view_is) (strings-kept _ _ _ c.self.invariant.0)

@@ -1,0 +1,13 @@
+use Rattle.judy_sl.proofs.lemmas.moves.Settled.{settled-strings, settled-firsts, settled-listed}
+use Rattle.judy_sl.proofs.judysl.StringsOf.shrink.Goals as goal
+
+pub invariant_of-self : goal.invariant_of-self
+invariant_of-self g c =
+    let before = c.self.inside.arena in
+    let after = c.settle_all.new.self in
+    let settled = c.settle_all.ensures in (
+      settled-strings before after settled c.self.inside.limit c.self.inside.count c.self.invariant.0,
+      settled.kept.counted,
+      settled-firsts before after settled c.self.inside.firsts c.self.invariant.2,
+      settled-listed before after settled c.self.inside.lists c.self.invariant.3,
+    )

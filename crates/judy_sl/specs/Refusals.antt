@@ -1,0 +1,14 @@
+-- When an insert is refused.
+use Rattle.std.specs.Prelude.{◌≡◌, ℕ, List, None, IsTrue, IsFalse}
+use Rattle.std.specs.FinMap.{get}
+use Rattle.judy_model.specs.Keys.{byte_order}
+use Rattle.judy_model.specs.Arrays.{ArrayOf, is_full}
+use Rattle.judy_sl.specs.declared.error.SlError.{SlError}
+use Rattle.judy_sl.specs.declared.error.SlError.TheVariants.{BadKey, Full, NoMemory}
+
+-- Why an insert is refused. BadKey: the bytes are no key. Full: they are one that is absent, and the array holds
+-- as many keys as its limit. NoMemory: they are one that is absent, and the array isn't full.
+abbrev pub IsRefusal : (List ℕ → Type 0) → ArrayOf byte_order → List ℕ → SlError → Type 0
+IsRefusal IsKey array key BadKey = IsKey key → ⊥
+IsRefusal IsKey array key Full = IsKey key × IsTrue (is_full array key)
+IsRefusal IsKey array key NoMemory = IsKey key × (get array.map key ≡ None) × IsFalse (is_full array key)
