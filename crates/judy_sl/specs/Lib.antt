@@ -28,3 +28,5 @@ pub mod Sorted
 pub mod Planted
 pub mod Listed
 pub mod Settled
+pub mod TextsLeft
+pub mod Readers
