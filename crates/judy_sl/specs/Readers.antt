@@ -12,7 +12,8 @@ use Rattle.judy_sl.specs.declared.reader.Step.{Step}
 use Rattle.judy_sl.specs.declared.reader.Stand.TheVariants.{InLevel, InText}
 use Rattle.judy_sl.specs.declared.arena.Arena.{Arena}
 use Rattle.judy_sl.specs.Pieces.{pieces, piece_of}
-use Rattle.judy_sl.specs.TextsLeft.{left_behind, IsShort}
+use Rattle.judy_sl.specs.TextsLeft.{left_behind}
+use Rattle.judy_sl.specs.Strings.{IsString}
 use Rattle.judy_sl.specs.World.{World, lookup}
 use Rattle.judy_sl.specs.Arenas.{world_of, IsArena}
 use Rattle.judy_sl.specs.Behind.{entry_keys}
@@ -53,7 +54,7 @@ pub record IsSpot (world : World) (spot : LevelSpot) : Type 0 where
 -- A reader can stand there.
 abbrev pub IsStand : World → Stand → Type 0
 IsStand world (InLevel spot) = IsSpot world spot
-IsStand world (InText text value) = IfSome text IsShort
+IsStand world (InText text value) = IfSome text IsString
 
 -- What always holds of a reader.
 pub record IsReader (arena : Arena) (lists : Lists) (stand : Stand) : Type 0 where

@@ -1,6 +1,5 @@
 -- What is left of a text that is read a piece at a time.
-use Rattle.std.specs.Prelude.{◌≡◌, ℕ, ◌≤◌, nat_lt, if◌then◌else◌, List, length, drop, Option, None, Some}
-use Rattle.judy_model.specs.declared.keys.TheConstants.{LONGEST_STRING}
+use Rattle.std.specs.Prelude.{◌≡◌, ℕ, nat_lt, if◌then◌else◌, List, length, drop, Option, None, Some}
 use Rattle.judy_records.specs.Texts.{words_of, text_in}
 
 -- What is left behind the next piece.
@@ -16,7 +15,3 @@ text_left (Some words) = Some (text_in words)
 -- They are the words of a text.
 abbrev pub IsTextOf : List ℕ → Type 0
 IsTextOf words = words ≡ words_of (text_in words)
-
--- They are no more than a string has.
-abbrev pub IsShort : List ℕ → Type 0
-IsShort bytes = length bytes ≤ LONGEST_STRING

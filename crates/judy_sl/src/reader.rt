@@ -94,14 +94,15 @@ impl Arena {
             (level_keys (world_of self.now) spot.now.level.now.map) spot.now.place)) result }
     {
         let entry = self.spot_at(spot.level, spot.keys, spot.list, spot.place);
-        let stand = if entry.piece % 256 == 0 {
-            Stand::InText(TextReader::ended(), entry.value)
-        } else {
-            self.stand_behind(lists, entry.value, entry.place)
-        };
+        if entry.piece % 256 == 0 {
+            return Step {
+                piece: entry.piece,
+                stand: Stand::InText(TextReader::ended(), entry.value),
+            };
+        }
         Step {
             piece: entry.piece,
-            stand,
+            stand: self.stand_behind(lists, entry.value, entry.place),
         }
     }
 
@@ -129,7 +130,7 @@ impl Arena {
     // The value of the key that is left to a reader, of this array or another one; none where nothing is left.
     fn get_read(&self, reader: KeyReader<'_>) -> Option<u64>
         requires { IsArena self.now }
-        ensures { result ≡ value_found (map_of self.now) reader.left }
+        ensures { result ≡ value_found (map_of self.now) reader.entry.left }
     {
         reader.string_law();
         let mut key = reader;
@@ -164,7 +165,10 @@ fn shared_in(piece: u64, bytes: &[u8]) -> usize
     }
     let mut shared = 0;
     'bytes: for byte in piece.to_be_bytes() {
-        if byte == 0 || bytes.get(shared) != Some(&byte) {
+        let Some(other) = bytes.get(shared) else {
+            return shared;
+        };
+        if byte == 0 || byte != *other {
             return shared;
         }
         shared += 1;
@@ -194,7 +198,7 @@ impl<'a> KeyReader<'a> {
 
     /// The key's value. It reads on as far as it must, to the end at most, and nothing where the end was read.
     pub fn value(self) -> u64
-        ensures { result ≡ self.value }
+        ensures { result ≡ self.entry.value }
     {
         let mut reader = self;
         'pieces: loop {
@@ -215,28 +219,25 @@ impl<'a> KeyReader<'a> {
         ensures value { self.new.value ≡ self.old.value }
     {
         let mut rest = bytes;
-        let mut shared = 0;
         'pieces: while let Some(piece) = self.next_piece() {
             let same = shared_in(piece, rest);
-            shared += same;
             if same < 8 {
-                let ends = piece.to_be_bytes()[same] == 0;
                 return Shared {
-                    bytes: shared,
-                    ends,
+                    bytes: bytes.len() - rest.len() + same,
+                    ends: piece.to_be_bytes()[same] == 0,
                 };
             }
             rest = &rest[8..];
         }
         Shared {
-            bytes: shared,
+            bytes: bytes.len() - rest.len(),
             ends: false,
         }
     }
 
     // Whether what is left of the key is what is left of a text.
     fn meets(self, text: TextReader<'_>) -> bool
-        ensures { IsTrue result ↔ self.left ≡ text }
+        ensures { IsTrue result ↔ self.entry.left ≡ text.entry }
     {
         let mut key = self;
         let mut other = text;
@@ -248,10 +249,12 @@ impl<'a> KeyReader<'a> {
         other.next_piece().is_none()
     }
 
-    // What is left is a string.
+    // What is left is a string: a law, for a caller whose proof is to know it.
     fn string_law(&self)
         ensures { IfSome self.now.left IsString }
-    {}
+    {
+        let _stand = &self.stand;
+    }
 }
 
 impl JudySl {
@@ -289,7 +292,7 @@ impl JudySl {
     ///         both += u64::from(other.get_read(key).is_some());
     ///     }
     pub fn get_read(&self, reader: KeyReader<'_>) -> Option<u64>
-        ensures { result ≡ value_found self.now.map reader.left }
+        ensures { result ≡ value_found self.now.map reader.entry.left }
     {
         self.arena.get_read(reader)
     }
