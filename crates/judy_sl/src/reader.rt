@@ -242,7 +242,10 @@ impl<'a> KeyReader<'a> {
         let mut key = self;
         let mut other = text;
         'pieces: while let Some(piece) = key.next_piece() {
-            if other.next_piece() != Some(piece) {
+            let Some(own) = other.next_piece() else {
+                return false;
+            };
+            if own != piece {
                 return false;
             }
         }

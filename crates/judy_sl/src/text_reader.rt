@@ -1,11 +1,10 @@
 //! A text read a piece at a time, by its words.
 
-ghost use Rattle.std.specs.Prelude.{◌≡◌};
+ghost use Rattle.std.specs.Prelude.{◌≡◌, Some, None, IfSome};
 ghost use Rattle.std.specs.Option.{option_map};
-ghost use Rattle.judy_sl.specs.Pieces.{piece_of};
-ghost use Rattle.judy_sl.specs.TextsLeft.{IsTextOf, left_behind};
 ghost use Rattle.judy_records.specs.Texts.{text_in};
-ghost use Rattle.std.specs.Prelude.{Some, None};
+ghost use Rattle.judy_sl.specs.Pieces.{piece_of, IsText};
+ghost use Rattle.judy_sl.specs.TextsLeft.{IsTextOf, left_behind};
 
 use std::marker::Model;
 
@@ -48,6 +47,7 @@ impl<'a> TextReader<'a> {
     pub fn next_piece(&mut self) -> Option<u64>
         ensures piece { result ≡ option_map piece_of self.old }
         ensures left { self.new ≡ left_behind self.old }
+        ensures is_text { IfSome self.old IsText }
     {
         let words = self.words?;
         let Some((&piece, rest)) = words.split_first() else {

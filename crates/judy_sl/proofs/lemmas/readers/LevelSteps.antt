@@ -74,7 +74,7 @@ module _ (arena : Arena) (is_arena : IsArena arena) (seat : ℕ) (words : FinMap
 
 module _ (arena : Arena) (is_arena : IsArena arena) (at : ℕ) (held : List ℕ) (value : ℕ) (here : world_of arena (suc at) ≡ tail (pieces held) value) (text : IsText held)
     (words : List ℕ) (are : words ≡ words_of held) where
-  tail_back : text_in words ≡ held
+  pub tail_back : text_in words ≡ held
   tail_back = ap text_in are ∙ text-back held text
 
   pub tail_are : IsTextOf words

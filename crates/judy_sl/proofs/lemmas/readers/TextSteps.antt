@@ -61,6 +61,10 @@ pub some_left : (left : Option (List ℕ)) (piece : ℕ) → Some piece ≡ opti
 some_left None piece read = absurd (none-some piece (sym read))
 some_left (Some text) piece read = (text, refl, same_Some piece (piece_of text) read)
 
+pub none_left : (left : Option (List ℕ)) → None ≡ option_map piece_of left → left ≡ None
+none_left None read = refl
+none_left (Some text) read = absurd (none-some (piece_of text) read)
+
 -- Texts that begin with one piece are one where the same is left behind it.
 pub same_behind : (one two : List ℕ) → IsText one → IsText two → piece_of one ≡ piece_of two → left_behind (Some one) ≡ left_behind (Some two) → one ≡ two
 same_behind one two p q first same = ⊎_elim
@@ -72,6 +76,13 @@ same_behind one two p q first same = ⊎_elim
     let later : drop 8 one ≡ drop 8 two = same_Some (drop 8 one) (drop 8 two) (sym (behind_long one long) ∙ same ∙ behind_long two also) in
     pieces_same one two p q (pieces_long one long ∙ (λ t. first t ∷ pieces (later t)) ∙ sym (pieces_long two also)))
     (cases_lt (length one) 8)
+
+pub meet_behind : (one two : Option (List ℕ)) (piece : ℕ) → IfSome one IsText → IfSome two IsText → Some piece ≡ option_map piece_of one → Some piece ≡ option_map piece_of two →
+    left_behind one ≡ left_behind two → one ≡ two
+meet_behind None two piece p q first other same = absurd (none-some piece (sym first))
+meet_behind (Some one) None piece p q first other same = absurd (none-some piece (sym other))
+meet_behind (Some one) (Some two) piece p q first other same =
+    ap (λ (text : List ℕ). Some text) (same_behind one two p q (same_Some (piece_of one) (piece_of two) (sym first ∙ other)) same)
 
 -- ---- by its words
 

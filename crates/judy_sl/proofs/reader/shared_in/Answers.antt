@@ -41,7 +41,7 @@ bytes-preserved c =
     let there : c.in-Some.other.now ≡ get_or bytes at 0 = c.in-Some.ensures.lookup.1 ∙ get_or_default bytes c.bytes.shared _ 0 less ∙ ap (λ k. get_or bytes k 0) place in
     let byte = ap (λ all. get_or all at 0) c.to_be_bytes-byte-items.ensures in
     (omega (arith, place), λ text is first.
-    let some = λ none. c.if-byte-eq0.false (byte ∙ none) in
+    let some : get_or (to_be_bytes w64 c.args.piece) at 0 ≢ 0 = λ none. c.if-byte-eq0.false (byte ∙ none) in
     let same = sym byte ∙ c.if-byte-other.false ∙ there in
     let more = still_within text bytes is c.args.piece first at c.bytes-test.true inside some same in
     let on = goes_on text bytes is c.args.piece first at c.bytes-test.true inside some same in

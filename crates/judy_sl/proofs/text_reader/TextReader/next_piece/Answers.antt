@@ -1,6 +1,7 @@
 use Rattle.std.proofs.Common.{List, ℕ, Option, IfSome, Some, sym, ap, ◌∙◌, ◌≡◌, subst}
 use Rattle.std.specs.Option.{option_copied}
-use Rattle.judy_records.specs.Texts.{text_in}
+use Rattle.judy_tails.proofs.TailLemmas.{is-text}
+use Rattle.judy_sl.specs.Pieces.{IsText}
 use Rattle.judy_sl.specs.TextsLeft.{text_left, IsTextOf}
 use Rattle.judy_sl.proofs.lemmas.readers.TextSteps.{ended_at, text_step}
 use Rattle.judy_sl.proofs.text_reader.TextReader.next_piece.Goals as goal
@@ -36,3 +37,13 @@ returns-clause-left c =
       | then-piece-eq0 w ↦ ap (λ words. text_left (option_copied words)) w.self-is ∙ step.last w.if-piece-eq0.true
       | else-piece-eq0 w ↦ ap (λ words. text_left (option_copied words)) w.self-is ∙ step.on w.if-piece-eq0.false
     ]
+
+pub returns-clause-is_text : goal.returns-clause-is_text
+returns-clause-is_text c =
+    let here = ap (λ words. text_left (option_copied words)) (sym c.in_ok-words.was) ∙ c.self.view_is in
+    subst (λ (left : Option (List ℕ)). IfSome left IsText) here (is-text c.in_ok-words.words.now)
+
+pub returns-in_default-clause-is_text : goal.returns-in_default-clause-is_text
+returns-in_default-clause-is_text c =
+    let here = ap (λ words. text_left (option_copied words)) (sym c.in_ok-words.was) ∙ c.self.view_is in
+    subst (λ (left : Option (List ℕ)). IfSome left IsText) here (is-text c.in_ok-words.words.now)
