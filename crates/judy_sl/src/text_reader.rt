@@ -54,11 +54,7 @@ impl<'a> TextReader<'a> {
             self.words = None;
             return Some(0);
         };
-        self.words = if piece % 256 == 0 {
-            None
-        } else {
-            Some(rest)
-        };
+        self.words = if piece % 256 == 0 { None } else { Some(rest) };
         Some(piece)
     }
 }

@@ -42,8 +42,7 @@ module _ (arena : Arena) (is_arena : IsArena arena) where
       let one = there_at (level_keys (world_of arena) root) (n - 1) (omega (arith, some, most, long)) in
       let pair = one.0 in
       let its : key ≡ pair_left (Some pair) = same ∙ ap pair_left one.1 in
-      let at : slice_get (entries all) (n - 1) ≡ Some (pair.0, pair.1) = ap (λ pairs. slice_get pairs (n - 1)) (sym (keys_are arena is_arena 0 root refl)) ∙ one.1 in
-      (
+      let at : slice_get (entries all) (n - 1) ≡ Some (pair.0, pair.1) = ap (λ pairs. slice_get pairs (n - 1)) (sym (keys_are arena is_arena 0 root refl)) ∙ one.1 in (
         ap (λ (one : KeyLeft). one.left) its ∙ sym (nth_counted all n some pair.0 (nth_is all (n - 1) pair.0 pair.1 at)),
         ap (λ (one : KeyLeft). value_found all one.left) its ∙ held_at all (n - 1) pair.0 pair.1 at ∙ ap (λ (one : KeyLeft). Some one.value) (sym its),
       )

@@ -39,11 +39,13 @@ bytes-preserved c =
     let less = ltb-true c.bytes.shared (length bytes) (sym c.in-Some.ensures.lookup.0) in
     let inside : at < length bytes = omega (arith, less, place) in
     let there : c.in-Some.other.now ≡ get_or bytes at 0 = c.in-Some.ensures.lookup.1 ∙ get_or_default bytes c.bytes.shared _ 0 less ∙ ap (λ k. get_or bytes k 0) place in
-    let byte = ap (λ all. get_or all at 0) c.to_be_bytes-byte-items.ensures in
-    (omega (arith, place), λ text is first.
-    let some : get_or (to_be_bytes w64 c.args.piece) at 0 ≢ 0 = λ none. c.if-byte-eq0.false (byte ∙ none) in
-    let same = sym byte ∙ c.if-byte-other.false ∙ there in
-    let more = still_within text bytes is c.args.piece first at c.bytes-test.true inside some same in
-    let on = goes_on text bytes is c.args.piece first at c.bytes-test.true inside some same in
-    let all = (c.bytes.invariant.1 text is first).1 in
-    (omega (arith, more), omega (arith, on, all)))
+    let byte = ap (λ all. get_or all at 0) c.to_be_bytes-byte-items.ensures in (
+      omega (arith, place),
+      λ text is first.
+          let some : get_or (to_be_bytes w64 c.args.piece) at 0 ≢ 0 = λ none. c.if-byte-eq0.false (byte ∙ none) in
+          let same = sym byte ∙ c.if-byte-other.false ∙ there in
+          let more = still_within text bytes is c.args.piece first at c.bytes-test.true inside some same in
+          let on = goes_on text bytes is c.args.piece first at c.bytes-test.true inside some same in
+          let all = (c.bytes.invariant.1 text is first).1 in
+          (omega (arith, more), omega (arith, on, all)),
+    )
