@@ -1,5 +1,5 @@
 -- The key at a place of an array, which is still to be read.
-use Rattle.std.proofs.Common.{◌≡◌, ◌≢◌, ℕ, ◌-◌, ◌<◌, ◌≤◌, List, length, slice_get, Option, Some, refl, sym, ap, ◌∙◌, arith}
+use Rattle.std.proofs.Common.{◌≡◌, ◌≢◌, ℕ, ◌-◌, ◌<◌, ◌≤◌, length, slice_get, Some, refl, sym, ap, ◌∙◌, arith}
 use Rattle.std.specs.FinMap.{FinMap, entries, len}
 use Rattle.std.proofs.lemmas.Option.{same_Some}
 use Rattle.judy_model.specs.Keys.{word_order, byte_order}

@@ -1,7 +1,6 @@
 -- A key that is followed piece by piece as it is read.
-use Rattle.std.proofs.Common.{◌≡◌, ◌≢◌, ℕ, suc, ◌<◌, List, [], ◌∷◌, length, drop, Option, None, Some, IfSome, refl, sym, ap, ◌∙◌, subst}
+use Rattle.std.proofs.Common.{◌≡◌, ◌≢◌, ℕ, suc, List, drop, Option, None, Some, IfSome, refl, sym, ap, ◌∙◌}
 use Rattle.std.specs.FinMap.{FinMap, get}
-use Rattle.std.proofs.lemmas.Option.{none-some, same_Some}
 use Rattle.judy_model.specs.Keys.{word_order}
 use Rattle.judy_sl.specs.declared.arena.Arena.{Arena}
 use Rattle.judy_sl.specs.Pieces.{piece_of, pieces, IsText, IsFinal, IsInner}

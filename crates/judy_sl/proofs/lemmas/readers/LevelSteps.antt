@@ -1,14 +1,12 @@
 -- How the key at a place behind a level is read a piece at a time.
-use Rattle.std.proofs.Common.{◌≡◌, ◌≢◌, ℕ, zero, suc, ◌%◌, ◌<◌, ◌≤◌, ⊎_elim, List, [], ◌∷◌, ◌++◌, length, drop, slice_get, Option, None, Some, IfSome, refl, sym, ap, ◌∙◌, subst, arith}
-use Rattle.std.specs.Option.{option_map, option_copied}
-use Rattle.std.specs.FinMap.{FinMap, entries, get, len, len-entries, len-empty}
+use Rattle.std.proofs.Common.{◌≡◌, ◌≢◌, ℕ, zero, suc, ◌%◌, ◌<◌, ⊎_elim, List, [], ◌∷◌, ◌++◌, length, slice_get, Option, None, Some, IfSome, refl, sym, ap, ◌∙◌, subst, arith}
+use Rattle.std.specs.Option.{option_map}
+use Rattle.std.specs.FinMap.{FinMap, entries, len, len-entries, len-empty}
 use Rattle.std.proofs.lemmas.List.{length-append, drop_at}
-use Rattle.std.proofs.lemmas.Option.{slice_get_cases, slice_get-map, same_Some}
+use Rattle.std.proofs.lemmas.Option.{slice_get_cases, slice_get-map}
 use Rattle.judy_model.specs.Keys.{word_order, byte_order}
-use Rattle.judy_model.specs.Arrays.{ArrayOf}
 use Rattle.judy_records.specs.Texts.{words_of, text_in}
 use Rattle.judy_records.proofs.PadLemmas.{text-back}
-use Rattle.judy_sums.specs.Levels.{part_len}
 use Rattle.judy_sl.specs.declared.arena.Arena.{Arena}
 use Rattle.judy_sl.specs.declared.nth.EntryPlace.{EntryPlace}
 use Rattle.judy_sl.specs.declared.reader.LevelSpot.{LevelSpot}
@@ -17,16 +15,16 @@ use Rattle.judy_sl.specs.declared.reader.Stand.TheVariants.{InLevel, InText}
 use Rattle.judy_sl.specs.Pieces.{piece_of, piece_bytes, pieces, IsText, IsFinal, IsInner}
 use Rattle.judy_sl.specs.World.{World, gone, tail, level}
 use Rattle.judy_sl.specs.Arenas.{world_of, IsArena}
-use Rattle.judy_sl.specs.Behind.{map_behind, entry_keys}
+use Rattle.judy_sl.specs.Behind.{map_behind}
 use Rattle.judy_sl.specs.Counted.{keys_behind}
 use Rattle.judy_sl.specs.Listed.{Lists}
 use Rattle.judy_sl.specs.Nth.{IsSpotOf}
-use Rattle.judy_sl.specs.TextsLeft.{left_behind, text_left, IsTextOf}
+use Rattle.judy_sl.specs.TextsLeft.{left_behind, IsTextOf}
 use Rattle.judy_sl.specs.Readers.{KeyLeft, IsSpot, IsStand, IsStep, IsReader, left_at, level_keys, pair_left}
 use Rattle.judy_sl.specs.Strings.{IsString}
 use Rattle.judy_sl.proofs.lemmas.pieces.PieceLemmas.{text_of_key}
 use Rattle.judy_sl.proofs.lemmas.seats.Behind.{entries_behind, final_key, inner_front}
-use Rattle.judy_sl.proofs.lemmas.counts.KeysTold.{led_pairs, final_keys, inner_keys, inner_count, held_behind, gone_empty, tail_entries, tail_key}
+use Rattle.judy_sl.proofs.lemmas.counts.KeysTold.{final_keys, inner_keys, inner_count, held_behind, gone_empty, tail_entries, tail_key}
 use Rattle.judy_sl.proofs.lemmas.places.NthWays.{held_at}
 use Rattle.judy_sl.proofs.lemmas.readers.TextSteps.{behind_short, behind_long, final_short}
 

@@ -1,8 +1,8 @@
 -- How many bytes a text shares with others, a piece at a time.
-use Rattle.std.proofs.Common.{◌≡◌, ◌≢◌, ℕ, zero, suc, ◌+◌, ◌-◌, ◌%◌, ◌*◌, ◌<◌, ◌≤◌, ◌==◌, Bool, true, false, cond, ◌⊎◌, ⊎_elim, List, [], ◌∷◌, ◌++◌, length, take, drop, get_or, refl, sym, ap, ◌∙◌, subst, arith}
+use Rattle.std.proofs.Common.{◌≡◌, ◌≢◌, ℕ, zero, suc, ◌+◌, ◌<◌, ◌≤◌, ◌==◌, Bool, true, false, cond, ◌⊎◌, ⊎_elim, List, [], ◌∷◌, length, take, drop, get_or, refl, sym, ap, ◌∙◌, arith}
 use Rattle.std.specs.Int.{to_be_bytes, w64}
-use Rattle.std.proofs.lemmas.Bool.{cases_lt, cases_eq, eq-eqb, ne_eqb, eqb-true}
-use Rattle.std.proofs.lemmas.List.{length-take, length-take-le, length-drop, get_or_past, get_or_append_left, get_or-take, drop_all, drop_more, nil_from_length}
+use Rattle.std.proofs.lemmas.Bool.{cases_lt, cases_eq, eq-eqb, ne_eqb}
+use Rattle.std.proofs.lemmas.List.{length-take, length-take-le, get_or_past, get_or_append_left, get_or-take, drop_all, drop_more, nil_from_length}
 use Rattle.std.proofs.lemmas.List.Elements.{All-get_or}
 use Rattle.std.proofs.lemmas.Grind.{same_number_lists}
 use Rattle.judy_model.specs.DumpText.{shared_length}
@@ -14,8 +14,8 @@ use Rattle.judy_records.proofs.BackLemmas.{be-low_bytes}
 use Rattle.judy_records.proofs.PadLemmas.{bytes_of, padded}
 use Rattle.judy_records.proofs.OrderLemmas.{text-bytes}
 use Rattle.judy_records.proofs.TextLemmas.{words-cons}
-use Rattle.judy_sl.specs.Pieces.{piece_of, IsText, IsFinal, IsInner}
-use Rattle.judy_sl.proofs.lemmas.readers.TextSteps.{inner_long, final_short}
+use Rattle.judy_sl.specs.Pieces.{piece_of, IsText, IsInner}
+use Rattle.judy_sl.proofs.lemmas.readers.TextSteps.{inner_long}
 
 -- ---- what two strings share
 

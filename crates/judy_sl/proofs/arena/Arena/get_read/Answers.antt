@@ -1,6 +1,6 @@
 use Rattle.std.proofs.Common.{◌≡◌, ℕ, suc, List, Option, Some, IfSome, sym, ap, ◌∙◌, subst, true≢false}
 use Rattle.std.specs.FinMap.{get}
-use Rattle.judy_sl.specs.Pieces.{IsText, IsFinal, IsInner}
+use Rattle.judy_sl.specs.Pieces.{IsFinal, IsInner}
 use Rattle.judy_sl.specs.Arenas.{world_of, node_of, HasText}
 use Rattle.judy_sl.specs.Readers.{found_from}
 use Rattle.judy_sl.specs.Strings.{IsString}

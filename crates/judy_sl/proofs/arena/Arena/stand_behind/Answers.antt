@@ -1,4 +1,4 @@
-use Rattle.std.proofs.Common.{ℕ, suc, List, Option, Some, IfSome, sym, ap, ◌∙◌, subst, arith}
+use Rattle.std.proofs.Common.{ℕ, suc, List, Option, IfSome, sym, ap, ◌∙◌, subst, arith}
 use Rattle.judy_sl.specs.Arenas.{world_of, child_at, node_of, HasText}
 use Rattle.judy_sl.specs.Children.{keys_told}
 use Rattle.judy_sl.specs.Counted.{StandsWith}

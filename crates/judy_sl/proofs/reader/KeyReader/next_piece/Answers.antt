@@ -1,4 +1,4 @@
-use Rattle.std.proofs.Common.{List, ℕ, Option, IfSome, sym, ap, subst}
+use Rattle.std.proofs.Common.{List, ℕ, Option, IfSome, sym, subst}
 use Rattle.judy_sl.specs.Arenas.{world_of}
 use Rattle.judy_sl.specs.Readers.{KeyLeft, IsStand}
 use Rattle.judy_sl.specs.Strings.{IsString}

@@ -1,4 +1,4 @@
-use Rattle.std.proofs.Common.{◌≡◌, ◌==◌, ◌<◌, ◌≤◌, ℕ, List, Option, Some, IfSome, length, drop, take, get_or, sym, ap, ◌∙◌, subst, arith}
+use Rattle.std.proofs.Common.{◌≡◌, ◌==◌, ℕ, List, Option, Some, IfSome, length, drop, get_or, sym, ap, ◌∙◌, subst, arith}
 use Rattle.std.proofs.lemmas.List.{length-drop, take_rest}
 use Rattle.judy_model.specs.DumpText.{shared_length}
 use Rattle.judy_sl.specs.Readers.{shared_left, ends_left}

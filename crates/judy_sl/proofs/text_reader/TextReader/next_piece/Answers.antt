@@ -1,4 +1,4 @@
-use Rattle.std.proofs.Common.{List, ℕ, Option, IfSome, Some, sym, ap, ◌∙◌, ◌≡◌, subst}
+use Rattle.std.proofs.Common.{List, ℕ, Option, IfSome, sym, ap, ◌∙◌, subst}
 use Rattle.std.specs.Option.{option_copied}
 use Rattle.judy_tails.proofs.TailLemmas.{is-text}
 use Rattle.judy_sl.specs.Pieces.{IsText}
