@@ -7,8 +7,9 @@ use Rattle.judy_model.specs.Arrays.{ArrayOf}
 use Rattle.judy_sums.specs.Listed.{list_at}
 use Rattle.slab.specs.Slab as slab
 use Rattle.judy_tails.specs.Tails.{tail_at}
-use Rattle.judy_sl.specs.Children.{Level, is_level, level_child, tail_child}
+use Rattle.judy_sl.specs.Children.{Child, Free, Tail, Level, is_level, level_child, tail_child}
 use Rattle.judy_sl.specs.declared.arena.Arena.{Arena}
+use Rattle.judy_sl.specs.World.{World, level}
 use Rattle.judy_sl.specs.Behind.{map_behind}
 use Rattle.judy_sl.specs.Firsts.{AreFirsts}
 use Rattle.judy_sl.specs.Arenas.{world_of, node_of, child_at}
