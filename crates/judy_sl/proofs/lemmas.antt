@@ -7,3 +7,4 @@ pub mod counts
 pub mod places
 pub mod scans
 pub mod made
+pub mod readers

@@ -32,3 +32,5 @@ pub mod Sorted
 pub mod Planted
 pub mod Listed
 pub mod Settled
+pub mod TextsLeft
+pub mod Readers

@@ -16,9 +16,9 @@
 //! cursor.rt and runs.rt have walks that go from key to key by what a level and the one above it still have, some
 //! of which is read ahead (ahead.rt). counted.rt has how levels come to tell how many keys stand behind them, by
 //! those that a way passes (passed.rt), counts.rt what is counted by that, firsts.rt how many keys begin with each
-//! first piece, lists.rt the same behind wide levels, and nth.rt which key stands at a place. sorted.rt and
-//! planting.rt have arrays made at once of strings that ascend, kept.rt what every array keeps, and laws.rt laws
-//! of pieces.
+//! first piece, lists.rt the same behind wide levels, and nth.rt which key stands at a place. reader.rt reads such a
+//! key where it stands, and text_reader.rt what is left of it in a tail. sorted.rt and planting.rt have arrays made at
+//! once of strings that ascend, kept.rt what every array keeps, and laws.rt laws of pieces.
 #![tactic(auto)]
 
 mod ahead;
@@ -45,16 +45,19 @@ mod nth;
 mod passed;
 mod pieces;
 mod planting;
+mod reader;
 mod runs;
 mod scans;
 mod shrink;
 mod sorted;
+mod text_reader;
 mod zeros;
 
 pub use cursor::KeyCursor;
 pub use error::SlError;
 pub use judysl::{JudySl, LongStrings, StringsOf};
 pub use keys::{AnyLength, KeyBuf, KeyLength, StoreKeys, is_key};
+pub use reader::{KeyReader, Shared};
 pub use scans::{Look, Side};
 pub use sorted::{SlSortedError, check_sorted};
 pub use zeros::are_nonzero;

@@ -99,10 +99,10 @@ struct Mark {
 
 // An entry of a level, and a place among the keys behind it.
 #[derive(Clone, Copy)]
-struct EntryPlace {
-    piece: u64,
-    value: u64,
-    place: u64,
+pub struct EntryPlace {
+    pub piece: u64,
+    pub value: u64,
+    pub place: u64,
 }
 
 // Where to look next between two places: in proportion to what stands before both, and each third time in the middle.
@@ -290,7 +290,7 @@ impl Arena {
     // they are as many as its entries, each entry has one, and the place is the entry's own. Where the level has a list
     // the entry is sought by that, and where there is one entry, all stand behind it. Else the entries are read, from
     // the end where the place is in the upper half of the keys, unless they are one page.
-    fn spot_at(&self, level: &WordMap, keys: u32, list: Option<&Sums>, place: u64) -> EntryPlace
+    pub fn spot_at(&self, level: &WordMap, keys: u32, list: Option<&Sums>, place: u64) -> EntryPlace
         requires is_arena { IsArena self.now }
         requires counted { AreCounted self.now }
         requires told { StandsWith (world_of self.now) level.now.map keys }

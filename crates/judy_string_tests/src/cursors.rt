@@ -30,7 +30,7 @@ fn check_walk(rt: &impl Abort, strings: &JudySl, from: &[u8]) -> u64 {
 }
 
 // Puts a key in, with a value.
-fn put(rt: &impl Abort, strings: &mut JudySl, key: &[u8], value: u64) {
+pub(crate) fn put(rt: &impl Abort, strings: &mut JudySl, key: &[u8], value: u64) {
     match strings.ins(key) {
         Ok(slot) => *slot = value,
         Err(_) => assert!(rt; false),
@@ -39,8 +39,8 @@ fn put(rt: &impl Abort, strings: &mut JudySl, key: &[u8], value: u64) {
 
 // The numbers that the keys are drawn by.
 #[derive(Drop)]
-struct Draws {
-    seed: u64,
+pub(crate) struct Draws {
+    pub(crate) seed: u64,
 }
 
 impl Draws {
@@ -62,7 +62,7 @@ impl Draws {
     }
 
     // A key of fewer than 36 letters.
-    fn key(&mut self, rt: &impl Abort) -> KeyBuf {
+    pub(crate) fn key(&mut self, rt: &impl Abort) -> KeyBuf {
         let mut key = KeyBuf::new();
         for _ in 0..self.seed % 36 {
             push(rt, &mut key, self.letter());

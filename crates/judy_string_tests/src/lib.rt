@@ -3,8 +3,9 @@
 //! The crate stands on the arrays alone, so it is proved beside the program and not behind it. It has no code of its
 //! own.
 //!
-//! strings.rt has the rows of arrays over strings, cursors.rt those of walks over them, two_arrays.rt those of what two
-//! have together, bytes.rt those of arrays over byte strings, and check.rt what rows compare.
+//! strings.rt has the rows of arrays over strings, cursors.rt those of walks over them, readers.rt those of keys read
+//! where they stand, two_arrays.rt those of what two arrays have together, bytes.rt those of arrays over byte strings,
+//! and check.rt what rows compare.
 #![tactic(auto)]
 
 #[cfg(test)]
@@ -13,6 +14,8 @@ mod bytes;
 mod check;
 #[cfg(test)]
 mod cursors;
+#[cfg(test)]
+mod readers;
 #[cfg(test)]
 mod strings;
 #[cfg(test)]

@@ -3,7 +3,7 @@
 ghost use Rattle.std.specs.Prelude.{ℕ, List, ◌≡◌, ◌≢◌, ◌↔◌, ◌+◌, ◌++◌, ◌-◌, ◌%◌, ◌≤◌, [], ◌∷◌, IsTrue, length, slice_get, Some};
 ghost use Rattle.judy_model.specs.Keys.{byte_order};
 ghost use Rattle.judy_records.specs.Spots.{value_of, text_of};
-ghost use Rattle.judy_records.specs.Texts.{IsText, text_in};
+ghost use Rattle.judy_records.specs.Texts.{IsText, text_in, words_of};
 ghost use Rattle.judy_model.specs.declared.keys.TheConstants.{LONGEST_STRING};
 ghost use Rattle.judy_tails.specs.Inside.{IsPadded, BeginsText};
 ghost use Rattle.judy_tails.specs.Writers.{StaysBeyond};
@@ -47,6 +47,13 @@ impl<'a> Tail<'a> {
         ensures { result ≡ self.now.1 }
     {
         self.stored.value()
+    }
+
+    /// The words of the text: its bytes, eight a word, where zeros stand behind the last of them.
+    pub fn words(&self) -> &'a [u64]
+        ensures { result.now ≡ words_of self.now.0 }
+    {
+        self.stored.text()
     }
 
     /// Whether the text is these bytes, of which the last isn't zero. A loop over words.

@@ -101,7 +101,7 @@ module _ {world : World} {behind : ℕ → List ℕ} (is : IsWorld world behind)
         )
 
     -- The bytes of a final piece are a key.
-    final_key : (piece at : ℕ) → get words piece ≡ Some at → IsFinal piece → Begun piece (piece_bytes piece)
+    pub final_key : (piece at : ℕ) → get words piece ≡ Some at → IsFinal piece → Begun piece (piece_bytes piece)
     final_key piece at entry final =
         let one = entry_text piece at entry in
         let text = one.1 in
