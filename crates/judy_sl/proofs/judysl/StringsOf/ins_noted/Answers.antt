@@ -122,7 +122,7 @@ returns-in-At g c =
         value = sym c.lend-in-At.ensures.value ∙ there-value _ _ _ is c.args.key.now key c.in-At.place found;
         accepted = (
           (let short = is.short c.args.key.now found.value (get-there _ _ _ is c.args.key.now key c.in-At.place found) in let most = is.longest_fits in
-          key_of_string g.L.KeyLength c.args.key.now key (omega (arith, short, most))),
+              key_of_string g.L.KeyLength c.args.key.now key (omega (arith, short, most))),
           there-not_full _ _ _ is c.args.key.now key c.in-At.place found,
         );
         refused = tt;
