@@ -1,6 +1,6 @@
 //! A key read piece by piece where it stands, so that one of any length needs no buffer.
 
-ghost use Rattle.std.specs.Prelude.{◌≡◌, ◌↔◌, ◌<◌, ℕ, List, suc, Some, None, IfSome, MatchOption, IsTrue, take, slice_get};
+ghost use Rattle.std.specs.Prelude.{◌≡◌, ◌↔◌, ◌<◌, ◌==◌, ℕ, List, suc, Some, None, IfSome, MatchOption, IsTrue, length, take, slice_get};
 ghost use Rattle.std.specs.FinMap as map;
 ghost use Rattle.std.specs.Option.{option_map};
 ghost use Rattle.judy_model.specs.Counts as counts;
