@@ -1,12 +1,22 @@
 -- What a handle of strings stands for, once the slot of a key that a call lent has ended.
 use Rattle.std.specs.Prelude.{ℕ, List, Option, Result}
 use Rattle.std.specs.Borrow.{Fml, MutBor}
+use Rattle.judy_model.specs.Keys.{byte_order}
+use Rattle.judy_model.specs.Arrays.{ArrayOf}
+use Rattle.judy_sl.specs.Lends as lends
+use Rattle.judy_sl.specs.contracts.keys.StoreKeys as store
+use Rattle.judy_sl.specs.contracts.keys.StoreKeysKeyLength.TheImpl as lengths
 use Rattle.judy_c.specs.KeySlots as slots
 use Rattle.judy_c.specs.declared.answers.InsertRefusal.{InsertRefusal}
 use Rattle.judy_c.specs.declared.strings.Strings.{Strings}
 use Rattle.judy_c.specs.contracts.strings.Strings.{the_row}
 use Rattle.judy_c.specs.StringMaps.{array_in}
 
+-- Of an array that a handle holds.
+abbrev pub LendsSlotIn : MutBor (ArrayOf byte_order) → List ℕ → Option (MutBor ℕ) → Fml
+LendsSlotIn = lends.LendsSlot store.the_row lengths.ghosts
+
+-- Of the handle.
 abbrev pub LendsSlotOf : MutBor Strings → List ℕ → Option (MutBor ℕ) → Fml
 LendsSlotOf = slots.LendsSlotOf the_row array_in
 

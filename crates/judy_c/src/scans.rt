@@ -67,6 +67,7 @@ impl Scan {
             (record { buffer = buffer.old; count = count.old; value = value.old })
             (record { buffer = buffer.new; count = count.new; value = value.new })) result }
     {
+        let _longest = array.longest();
         match array.neighbour_in(self.look(), buffer, count) {
             Some(word) => {
                 *value = word;
@@ -93,6 +94,7 @@ impl Scan {
     {
         let mut room = room_for(&buffer[..*count]);
         let mut len = *count;
+        let _longest = array.longest();
         let found = array.neighbour_in(self.look(), &mut room, &mut len);
         tell_entry(found, &room[..len], buffer, count, value)
     }

@@ -4,7 +4,7 @@ ghost use Rattle.std.specs.Prelude.{◌≡◌, IfOk, IfErr, OnOk};
 ghost use Rattle.std.specs.FinMap as finmap;
 ghost use Rattle.std.specs.Option.{option_copied};
 ghost use Rattle.judy_model.specs.DumpGrammar.{is_above};
-ghost use Rattle.judy_model.specs.Keys.{byte_order};
+ghost use Rattle.judy_model.specs.Keys.{byte_order, IsStringKey};
 ghost use Rattle.judy_sl.specs.Sorted.{pairs_in, IsFault};
 ghost use Rattle.judy_c.specs.KeyWalks.{page_of};
 ghost use Rattle.judy_c.specs.SortedStrings.{pairs_on, strings_on, most_strings, number_of, place_of, whole_on, AreWhole, IsUnlisted, IsUnfit, IsMadeOf};
@@ -144,7 +144,7 @@ fn count_whole(bytes: &[u8], entries: &[KeyEntry]) -> usize
 // is.
 fn first_fault(bytes: &[u8], entries: &[KeyEntry]) -> SlSortedError
     requires { AreWhole (page_of bytes.now entries.now) }
-    ensures { IsFault most_strings (strings_on bytes.now entries.now) result }
+    ensures { IsFault IsStringKey most_strings (strings_on bytes.now entries.now) result }
 {
     let mut rest = bytes;
     let mut last = None;

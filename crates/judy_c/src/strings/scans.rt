@@ -5,11 +5,10 @@ ghost use Rattle.std.specs.Result.{result_ok};
 ghost use Rattle.judy_model.specs.Keys.{IsStringKey};
 ghost use Rattle.judy_model.specs.Neighbours as neighbours;
 ghost use Rattle.judy_model.specs.declared.keys.TheConstants.{LONGEST_KEY};
-ghost use Rattle.judy_sl.specs.Lends.{LendsSlot};
 ghost use Rattle.judy_c.specs.KeyScans.{neighbour};
 ghost use Rattle.judy_c.specs.ScanSlots.{IsFoundSlot};
 ghost use Rattle.judy_c.specs.StringMaps.{array_in};
-ghost use Rattle.judy_c.specs.StringSlots.{LendsSlotOf};
+ghost use Rattle.judy_c.specs.StringSlots.{LendsSlotIn, LendsSlotOf};
 
 use super::Strings;
 use crate::answers::{FoundSlot, Missed};
@@ -97,10 +96,11 @@ fn slot_in<'a>(
     requires room { LONGEST_KEY ≤ length buffer.old }
     requires start { (count.old ≤ length buffer.old) × IsStringKey (take count.old buffer.old) }
     ensures* writes_back { sem 𝓛
-        (LendsSlot array.entry (take count.new buffer.new) (result_ok result)) }
+        (LendsSlotIn array.entry (take count.new buffer.new) (result_ok result)) }
     ensures found { IsFoundSlot array.old.map (neighbour scan array.old.map)
         (buffer.old, count.old) (buffer.new, count.new) result }
 {
+    let _longest = array.longest();
     match array.neighbour_slot_in(scan.look(), buffer, count) {
         Some(slot) => Ok(slot),
         None => Err(Missed::NoKey),
@@ -117,12 +117,13 @@ fn slot_beside<'a>(
 ) -> FoundSlot<'a>
     requires start { (count.old ≤ length buffer.old) × IsStringKey (take count.old buffer.old) }
     ensures* writes_back { sem 𝓛
-        (LendsSlot array.entry (take count.new buffer.new) (result_ok result)) }
+        (LendsSlotIn array.entry (take count.new buffer.new) (result_ok result)) }
     ensures found { IsFoundSlot array.old.map (neighbour scan array.old.map)
         (buffer.old, count.old) (buffer.new, count.new) result }
 {
     let mut room = room_for(&buffer[..*count]);
     let mut len = *count;
+    let _longest = array.longest();
     match array.neighbour_slot_in(scan.look(), &mut room, &mut len) {
         Some(slot) => {
             if write_key(&room[..len], buffer, count) {

@@ -2,7 +2,7 @@
 use Rattle.std.proofs.Common.{refl, ap, subst, ◌∙◌}
 use Rattle.judy_model.specs.Keys.{byte_order, IsStringKey}
 use Rattle.judy_model.specs.Arrays.{ArrayOf}
-use Rattle.judy_sl.specs.contracts.judysl.JudySl as judysl
+use Rattle.judy_sl.specs.Rows.{judysl_row}
 use Rattle.judy_sl.specs.Lends.{with_value}
 use Rattle.judy_c.specs.AsHeld.{as_strings}
 use Rattle.judy_c.specs.KeyInserts.{IsMade}
@@ -13,7 +13,7 @@ use Rattle.judy_c.proofs.strings.Strings.ins.Goals as goal
 
 pub returns : goal.returns
 returns c =
-    let key = c.args.key.now in let held = c.held.ensures.value in let seen = ap (λ (h : Held judysl.the_row.Denot). array_of h.array) held in (
+    let key = c.args.key.now in let held = c.held.ensures.value in let seen = ap (λ (h : Held judysl_row.Denot). array_of h.array) held in (
       (
         refl,
         (λ w is. c.put_in.follows.holds w is ∙ ap (λ (a : ArrayOf byte_order). with_value a key w) seen),
