@@ -139,7 +139,7 @@ impl JudySl {
         ensures refused { IfErr result (IsRefusal self.old key.now) }
     {
         let tries = self.expects_new & (self.count != self.limit);
-        if let Some(place) = self.arena.try_add(key, tries)? {
+        if let Some(place) = self.arena.try_add(key, tries).unwrap_or(None) {
             self.count += 1;
             self.added = true;
             return Ok(self.arena.lend(place));
@@ -159,7 +159,7 @@ impl JudySl {
                     return Err(SlError::Full);
                 }
                 let passed = passed.noted();
-                let made = firsts::insert_counted(
+                let made = firsts::insert(
                     &mut self.arena,
                     &mut self.firsts,
                     &mut self.lists,
