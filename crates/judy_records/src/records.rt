@@ -214,6 +214,12 @@ impl Records {
         self.turns.is_spare(number)
     }
 
+    /// Whether more than one page has a free place, so that records may go together. It reads no page. No contract says
+    /// so: a caller whose proof relies on it has none.
+    pub fn are_spare(&self) -> bool {
+        self.turns.are_spare()
+    }
+
     /// Puts a record in the place of the one that stands there. Its text takes as many words as each does here. It asks
     /// for no memory.
     pub fn set(&mut self, place: usize, value: u64, bytes: &[u8])

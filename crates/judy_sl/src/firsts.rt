@@ -1,7 +1,7 @@
 //! How many keys begin with each first piece, kept in a list of sums: of each piece that number less one. So a word of
 //! the first level that one key alone begins with has no place in the list.
 
-ghost use Rattle.std.specs.Prelude.{◌≡◌, ◌<◌, ◌≤◌, ◌+◌, ◌*◌, ℕ, List, true, false, [], length, is_some, IfOk, OnOk, OnErr};
+ghost use Rattle.std.specs.Prelude.{◌≡◌, ◌<◌, ◌≤◌, ◌+◌, ◌*◌, ℕ, List, true, false, None, [], length, is_some, IfOk, OnOk, OnErr};
 ghost use Rattle.std.specs.FinMap as map;
 ghost use Rattle.judy_sl.specs.Pieces.{pieces};
 ghost use Rattle.judy_sl.specs.World.{lookup};
@@ -14,6 +14,7 @@ ghost use Rattle.judy_sl.specs.Shrunk.{IsShrunk};
 ghost use Rattle.judy_sl.specs.Counted.{AreCounted};
 ghost use Rattle.judy_sl.specs.Firsts.{AreFirsts};
 ghost use Rattle.judy_sl.specs.Listed.{AreListed, AreLeft, StaysLed};
+ghost use Rattle.judy_sl.specs.Settled.{IsSettled};
 ghost use Rattle.judy_sl.specs.Strings.{IsString};
 
 use crate::arena::{Arena, Place, Way};
@@ -67,7 +68,7 @@ fn insert_first(
 
 // The same, and counts it in those lists.
 #[inline(always)]
-pub fn insert_counted(
+fn insert_counted(
     arena: &mut Arena,
     firsts: &mut Sums,
     lists: &mut LevelSums,
@@ -94,6 +95,72 @@ pub fn insert_counted(
     let made = insert_first(arena, firsts, key, way, passed)?;
     arena.list_noted(lists, passed, key, true, way.clashes());
     Ok(made)
+}
+
+// Adds a key for which memory was refused, where tails that go together may give some back. It is no part of its
+// caller.
+#[inline(never)]
+fn insert_again(
+    arena: &mut Arena,
+    firsts: &mut Sums,
+    lists: &mut LevelSums,
+    key: &[u8],
+) -> Result<Place, AllocError>
+    requires is_arena { IsArena arena.old }
+    requires counted { AreCounted arena.old }
+    requires led { AllLed (world_of arena.old) }
+    requires is_key { IsString key.now }
+    requires absent { map.get (map_of arena.old) key.now ≡ None }
+    requires few { map.len (map_of arena.old) < 4294967295 }
+    requires firsts { AreFirsts (map_of arena.old) firsts.old }
+    requires listed { AreListed (world_of arena.old) lists.old }
+    ensures added { IfOk result (λ made. IsAdded arena.old arena.new key.now made) }
+    ensures counted { AreCounted arena.new }
+    ensures refused { OnErr result (IsSettled arena.old arena.new) }
+    ensures firsts { AreFirsts (map_of arena.new) firsts.new }
+    ensures listed { AreListed (world_of arena.new) lists.new }
+{
+    if !arena.tails.are_spare() {
+        return Err(AllocError);
+    }
+    arena.settle_all();
+    let mut passed = Number::none();
+    let way = arena.walk(key, &mut passed);
+    insert_counted(arena, firsts, lists, key, way, passed.noted())
+}
+
+// Adds a key that isn't there, with the value 0, and counts it everywhere. Where memory is refused it is asked for once
+// more, once tails have gone together, if that may give some back; and where it is refused then, tails may stand
+// elsewhere.
+#[inline(always)]
+pub fn insert(
+    arena: &mut Arena,
+    firsts: &mut Sums,
+    lists: &mut LevelSums,
+    key: &[u8],
+    way: Way,
+    passed: Noted<'_>,
+) -> Result<Place, AllocError>
+    requires is_arena { IsArena arena.old }
+    requires counted { AreCounted arena.old }
+    requires led { AllLed (world_of arena.old) }
+    requires is_key { IsString key.now }
+    requires way { IsWay arena.old key.now way }
+    requires new { IsNew way }
+    requires passed { AreNoted passed (levels_passed (world_of arena.old) key.now) }
+    requires few { map.len (map_of arena.old) < 4294967295 }
+    requires firsts { AreFirsts (map_of arena.old) firsts.old }
+    requires listed { AreListed (world_of arena.old) lists.old }
+    ensures added { IfOk result (λ made. IsAdded arena.old arena.new key.now made) }
+    ensures counted { AreCounted arena.new }
+    ensures refused { OnErr result (IsSettled arena.old arena.new) }
+    ensures firsts { AreFirsts (map_of arena.new) firsts.new }
+    ensures listed { AreListed (world_of arena.new) lists.new }
+{
+    match insert_counted(arena, firsts, lists, key, way, passed) {
+        Ok(made) => Ok(made),
+        Err(_) => insert_again(arena, firsts, lists, key),
+    }
 }
 
 // Takes a key out, and counts it no more but in the lists of levels below the first; answers whether it was there. The

@@ -154,7 +154,7 @@ impl<L: KeyLength> StringsOf<L> {
         ensures refused { IfErr result (IsRefusal L.IsKey self.old key.now) }
     {
         let tries = self.expects_new & (self.count != self.limit);
-        if let Some(place) = self.arena.try_add::<L>(key, tries)? {
+        if let Some(place) = self.arena.try_add::<L>(key, tries).unwrap_or(None) {
             self.count += 1;
             self.longest = self.longest.max(key.len());
             self.added = true;
@@ -175,7 +175,7 @@ impl<L: KeyLength> StringsOf<L> {
                     return Err(SlError::Full);
                 }
                 let passed = passed.noted();
-                let made = firsts::insert_counted(
+                let made = firsts::insert(
                     &mut self.arena,
                     &mut self.firsts,
                     &mut self.lists,

@@ -81,7 +81,7 @@ impl Arena {
     }
 
     // Settles the tails of all levels: a loop over the levels, and in each over its entries.
-    fn settle_all(&mut self)
+    pub fn settle_all(&mut self)
         requires kept { IsKept self.old }
         ensures { IsSettled self.old self.new }
     {

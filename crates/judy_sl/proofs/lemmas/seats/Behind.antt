@@ -87,7 +87,7 @@ module _ {world : World} {behind : ℕ → List ℕ} (is : IsWorld world behind)
         spells_on words here held.0 held.1 rest refl
 
   -- Pieces that are found at a seat are those of a key, behind the pieces that lead there.
-  found_spells : (seat value : ℕ) (ps : List ℕ) → ArePieces ps → lookup world seat ps ≡ Some value → SpellKey (behind seat ++ ps)
+  pub found_spells : (seat value : ℕ) (ps : List ℕ) → ArePieces ps → lookup world seat ps ≡ Some value → SpellKey (behind seat ++ ps)
   found_spells seat value [] are found = absurd are
   found_spells seat value (piece ∷ rest) are found = spells_at seat value piece rest are found (λ at later goes. found_spells (suc at) value rest later goes) (world seat) refl
 
