@@ -27,7 +27,12 @@ use std::alloc::Global;
 /// Takes the keys from one string to another out, both included, and answers how many they were: 0 where the first is
 /// above the second, and where the map can't hold one of the two. It can't fail.
 #[unsafe(no_mangle)]
-pub extern "C" fn sellumaq_judysl_remove_range(handle: &mut Strings, from: &[u8], to: &[u8]) -> u64
+pub extern "C" fn sellumaq_judysl_remove_range(
+    alloc: Global,
+    handle: &mut Strings,
+    from: &[u8],
+    to: &[u8],
+) -> u64
     ensures count { IsStringKey from.now → IsStringKey to.now
         → result ≡ counts.count (array_in handle.old).map from.now to.now }
     ensures left { IsStringKey from.now → IsStringKey to.now → array_in handle.new
@@ -40,7 +45,10 @@ pub extern "C" fn sellumaq_judysl_remove_range(handle: &mut Strings, from: &[u8]
         return 0;
     }
     match handle.array() {
-        Some(array) => remove_range(array, from, to),
+        Some(array) => match remove_range(alloc, array, from, to) {
+            Ok(count) => count,
+            Err(_) => unreachable!(),
+        },
         None => 0,
     }
 }
@@ -48,14 +56,21 @@ pub extern "C" fn sellumaq_judysl_remove_range(handle: &mut Strings, from: &[u8]
 /// Takes the keys that begin with a string out, and answers how many they were: 0 where the map can't hold it, and all
 /// where it is empty. It can't fail.
 #[unsafe(no_mangle)]
-pub extern "C" fn sellumaq_judysl_remove_prefix(handle: &mut Strings, prefix: &[u8]) -> u64
+pub extern "C" fn sellumaq_judysl_remove_prefix(
+    alloc: Global,
+    handle: &mut Strings,
+    prefix: &[u8],
+) -> u64
     ensures count { result ≡ map.len (beginning_with (array_in handle.old).map prefix.now) }
     ensures left { array_in handle.new
         ≡ array.with_map (array_in handle.old)
         (without_prefix (array_in handle.old).map prefix.now) }
 {
     match handle.array() {
-        Some(array) => remove_prefix(array, prefix),
+        Some(array) => match remove_prefix(alloc, array, prefix) {
+            Ok(count) => count,
+            Err(_) => unreachable!(),
+        },
         None => 0,
     }
 }

@@ -1,5 +1,5 @@
 -- A range of keys that is taken out key by key: from some bytes on, as long as an end reaches.
-use Rattle.std.proofs.Common.{◌≡◌, ℕ, ◌+◌, ◌<◌, ◌≤◌, not, ◌&&◌, ◌==◌, ◌≢◌, Bool, true, false, cond, List, [], ◌∷◌, ◌++◌, length, take, drop, Option, Some, None, is_some, All, unwrap_or, MatchBool}
+use Rattle.std.proofs.Common.{◌≡◌, ℕ, ◌+◌, ◌<◌, ◌≤◌, not, ◌&&◌, ◌==◌, ◌≢◌, Bool, true, false, cond, List, [], ◌∷◌, ◌++◌, length, take, drop, Option, Some, None, is_some, All}
 use Rattle.std.proofs.Common.{refl, sym, ap, ◌∙◌, subst, arith, true≢false, Ordering, Less, Equal, Greater, is_le}
 use Rattle.std.specs.Bool.{Decides}
 use Rattle.std.proofs.Math.Dec.{leb}
@@ -11,7 +11,8 @@ use Rattle.std.specs.Ordering.{nat_cmp, ordering_then, is_ge}
 use Rattle.std.specs.Cmp.{nat_cmp_total, tied_itself}
 use Rattle.std.specs.Cmp.Lexicographic.{slice_cmp}
 use Rattle.std.specs.FinMap.{get, len, contains_key, remove, get-empty}
-use Rattle.judy_model.specs.Keys.{byte_order, IsStringKey}
+use Rattle.judy_model.specs.Keys.{byte_order}
+use Rattle.judy_model.specs.KeyLengths.{IsStringKeyTo}
 use Rattle.judy_model.specs.Counts.{count}
 use Rattle.judy_model.specs.Nearest.{IsLeast}
 use Rattle.judy_model.specs.Neighbours.{first}
@@ -24,7 +25,6 @@ use Rattle.judy_model.proofs.lemmas.orders.WordOrder.{le_from_word}
 use Rattle.judy_laws.proofs.lemmas.Parts.{len-halves}
 use Rattle.judy_laws.proofs.lemmas.Joins.{within_counts}
 use Rattle.judy_laws.proofs.lemmas.PrefixLemmas.{begins_with_a_front}
-use Rattle.judy_sl.specs.Scans.{value_found}
 use Rattle.judy_string_sets.specs.declared.ranges.End.TheVariants.{Last, Prefix}
 use Rattle.judy_string_sets.specs.Ends.{reaches, part, others, IsFront}
 use Rattle.judy_string_sets.specs.Walks.{Strings, IsTaken}
@@ -51,8 +51,8 @@ all_front P [] rest all = All-nil P
 all_front P (byte ∷ front) rest all = All-cons P byte front (All-head P byte (front ++ rest) all) (all_front P front rest (All-tail P byte (front ++ rest) all))
 
 -- What begins a key is one.
-front_is_key : (prefix rest : List ℕ) → IsStringKey (prefix ++ rest) → IsStringKey prefix
-front_is_key prefix rest key =
+front_is_key : (longest : ℕ) (prefix rest : List ℕ) → IsStringKeyTo longest (prefix ++ rest) → IsStringKeyTo longest prefix
+front_is_key longest prefix rest key =
     let long = length-append prefix rest in
     let within = key.is_bytes_key.within_limit in
     record {
@@ -188,24 +188,6 @@ module _ (m : Strings) (from : List ℕ) (within : List ℕ → Bool) where
   pub part_most : len (part m from within) ≤ len m
   part_most = let all = len-halves byte_order_total byte_order_same m (λ key. is_le (byte_order from key) && within key) in omega (arith, all)
 
--- What a search that begins at the bytes answers, and leaves in their buffer.
-abbrev IsFound : Option (List ℕ) → List ℕ → Bool → Type 0
-IsFound found after answer = MatchBool answer (found ≡ Some after) (found ≡ None)
-
-by_found : (m : Strings) (found : Option (List ℕ)) (from after : List ℕ) (value : Option ℕ) (answer : Bool) → ((least : List ℕ) → found ≡ Some least → contains_key m least ≡ true)
-    → after ≡ unwrap_or found from → value ≡ value_found m found → answer ≡ is_some value → IsFound found after answer
-by_found m None from after value answer held stays is told =
-    subst (IsFound None after) (sym (told ∙ ap is_some is)) refl
-by_found m (Some least) from after value answer held stands is told =
-    subst (IsFound (Some least) after) (sym (told ∙ ap is_some is ∙ held least refl)) (ap Some (sym stands))
-
-pub found_first : (m : Strings) (from old after : List ℕ) (value : Option ℕ) (answer : Bool) → old ≡ from → after ≡ unwrap_or (first m old) old → value ≡ value_found m (first m old)
-    → answer ≡ is_some value → MatchBool answer (first m from ≡ Some after) (first m from ≡ None)
-found_first m from old after value answer same stands is told =
-    subst (λ (begin : List ℕ). MatchBool answer (first m begin ≡ Some after) (first m begin ≡ None)) same
-    (by_found m (first m old) old after value answer
-    (λ least found. first_true (contains_key m least) (is_ge (byte_order least old)) (by_least m old (λ key. true) least found).0) stands is told)
-
 -- ---- the named ranges
 
 pub count_range : (m : Strings) (from to : List ℕ) → len (part m from (reaches Last to)) ≡ count m from to
@@ -235,12 +217,12 @@ others_prefix m prefix = same_strings _ _ (λ key.
 
 -- ---- bytes that are no key begin none
 
-module _ (m : Strings) (keys : (key : List ℕ) (value : ℕ) → get m key ≡ Some value → IsStringKey key) (prefix : List ℕ) (bad : IsStringKey prefix → ⊥) where
+module _ (longest : ℕ) (m : Strings) (keys : (key : List ℕ) (value : ℕ) → get m key ≡ Some value → IsStringKeyTo longest key) (prefix : List ℕ) (bad : IsStringKeyTo longest prefix → ⊥) where
   none_begins : (key : List ℕ) → contains_key m key ≡ true → (is_le (byte_order prefix key) && begins_with prefix key) ≡ false
   none_begins key held = no_test _ (λ both.
       let front = (begins_with_a_front prefix key).0 (second_true (is_le (byte_order prefix key)) (begins_with prefix key) both) in
       let some = some_of (get m key) held in
-      bad (front_is_key prefix front.0 (subst IsStringKey front.1 (keys key some.0 some.1))))
+      bad (front_is_key longest prefix front.0 (subst (IsStringKeyTo longest) front.1 (keys key some.0 some.1))))
 
   pub no_prefix_count : len (beginning_with m prefix) ≡ 0
   no_prefix_count = sym (ap len (part_prefix m prefix)) ∙ part_none m prefix (reaches Prefix prefix) none_begins

@@ -45,3 +45,14 @@ shared_front (k ∷ key) (b ∷ bytes) = by (k == b) refl (shared_front key byte
         take (cond test (suc (shared_length key bytes)) 0) (k ∷ key) ≡ take (cond test (suc (shared_length key bytes)) 0) (b ∷ bytes)
     by true same rest = λ t. eqb-true k b same t ∷ rest t
     by false apart rest = refl
+
+-- No more is shared than either has.
+pub shared_most : (key bytes : List ℕ) → (shared_length key bytes ≤ length key) × (shared_length key bytes ≤ length bytes)
+shared_most [] bytes = (omega arith, omega arith)
+shared_most (k ∷ key) [] = (omega arith, omega arith)
+shared_most (k ∷ key) (b ∷ bytes) = by (k == b) (shared_most key bytes)
+  where
+    by : (test : Bool) → (shared_length key bytes ≤ length key) × (shared_length key bytes ≤ length bytes) →
+        (cond test (suc (shared_length key bytes)) 0 ≤ suc (length key)) × (cond test (suc (shared_length key bytes)) 0 ≤ suc (length bytes))
+    by true most = let less = most.0 in let fewer = most.1 in (omega (arith, less), omega (arith, fewer))
+    by false most = (omega arith, omega arith)

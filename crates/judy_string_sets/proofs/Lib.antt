@@ -6,3 +6,6 @@ pub mod FillFacts
 pub mod EndFacts
 pub mod FrontFacts
 pub mod PrefixSteps
+pub mod PlaceFacts
+pub mod ReachFacts
+pub mod NearFacts

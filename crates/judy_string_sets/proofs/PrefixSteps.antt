@@ -1,12 +1,11 @@
 -- The longest key that bytes begin with, by the greatest key up to a front of them.
-use Rattle.std.proofs.Common.{◌≡◌, ℕ, zero, suc, ◌+◌, ◌<◌, ◌≤◌, Bool, true, false, cond, ◌==◌, ◌&&◌, List, [], ◌∷◌, length, take, IsTrue, Option}
+use Rattle.std.proofs.Common.{◌≡◌, ℕ, zero, suc, ◌<◌, ◌≤◌, Bool, true, false, cond, ◌==◌, ◌&&◌, List, [], ◌∷◌, length, take, IsTrue, Option}
 use Rattle.std.proofs.Common.{Some, None, refl, sym, ap, ◌∙◌, subst, arith, true≢false, ⊎_elim}
-use Rattle.std.proofs.Common.{unwrap_or, is_some, MatchOption}
 use Rattle.std.proofs.Common.{Equal, Greater, is_le}
 use Rattle.std.specs.Ordering.{nat_cmp, ordering_then}
 use Rattle.std.specs.Cmp.{nat_cmp_total, nat_cmp_is, tied_itself}
 use Rattle.std.specs.Cmp.Lexicographic.{slice_cmp}
-use Rattle.std.specs.FinMap.{FinMap, get, contains_key, nat_cmp-IsAntisymmetric, slice_cmp-IsAntisymmetric}
+use Rattle.std.specs.FinMap.{FinMap, contains_key, nat_cmp-IsAntisymmetric, slice_cmp-IsAntisymmetric}
 use Rattle.std.specs.Cmp.Lexicographic.{nat_list_cmp_total}
 use Rattle.std.proofs.lemmas.Option.{none-some}
 use Rattle.judy_model.proofs.lemmas.queries.NearestLemmas.{last-IsLast}
@@ -17,7 +16,6 @@ use Rattle.judy_model.specs.Neighbours.{last}
 use Rattle.judy_model.specs.Prefixes.{begins_with, longest_prefix}
 use Rattle.judy_model.specs.DumpText.{shared_length}
 use Rattle.judy_model.proofs.lemmas.maps.Tests.{both_true, first_true, second_true}
-use Rattle.judy_sl.specs.Scans.{value_found}
 use Rattle.judy_laws.proofs.lemmas.PrefixLemmas.{longer, none_begins, longest_begins}
 
 -- ---- of a front
@@ -154,27 +152,3 @@ module _ (map : FinMap byte_order ℕ) (bytes : List ℕ) (end : ℕ) where
         (λ more. absurd (true≢false (sym (not_beyond other there begins (short other there begins)) ∙ passed key other bytes end up_to begins (short other there begins) part more)))
         (λ less. omega (arith, less))
         (cases_lt (shared_length key bytes) (length other))
-
--- ---- what a search for the greatest key answers
-
-module _ (map : FinMap byte_order ℕ) where
-  -- The key that is near, and its value; or there is none.
-  abbrev pub IsTold : Option (List ℕ) → List ℕ → Option ℕ → Type 0
-  IsTold near key answer = MatchOption answer (near ≡ None) (λ value. (near ≡ Some key) × (get map key ≡ Some value))
-
-  at_key : (key : List ℕ) (held : Option ℕ) → get map key ≡ held → is_some held ≡ true → (answer : Option ℕ) → answer ≡ held → IsTold (Some key) key answer
-  at_key key None at is answer told = absurd (true≢false (sym is))
-  at_key key (Some value) at is answer told = subst (IsTold (Some key) key) (sym told) (refl, at)
-
-  by_near : (from before after : List ℕ) (near : Option (List ℕ)) → IsLast byte_order (contains_key map) from near → after ≡ unwrap_or near before → (answer : Option ℕ) →
-      answer ≡ value_found map near → IsTold near after answer
-  by_near from before after None is key answer value = subst (IsTold None after) (sym value) refl
-  by_near from before after (Some k) is key answer value =
-      subst (λ after. IsTold (Some k) after answer) (sym key) (at_key k (get map k) refl (first_true (contains_key map k) (is_le (byte_order k from)) is.0) answer value)
-
-  -- What it leaves in a buffer and answers.
-  pub told : (from before after : List ℕ) (answer : Option ℕ) → before ≡ from → after ≡ unwrap_or (last map before) before → answer ≡ value_found map (last map before) →
-      IsTold (last map from) after answer
-  told from before after answer same key value =
-      subst (λ from. IsTold (last map from) after answer) same
-      (by_near before before after (last map before) (last-IsLast nat_list_cmp_total (slice_cmp-IsAntisymmetric nat_cmp-IsAntisymmetric) map before) key answer value)

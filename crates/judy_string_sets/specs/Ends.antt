@@ -1,5 +1,5 @@
 -- Ranges of keys, from some bytes on as long as an end reaches.
-use Rattle.std.specs.Prelude.{ℕ, Bool, not, ◌&&◌, List, IsTrue}
+use Rattle.std.specs.Prelude.{◌≡◌, ℕ, ◌≤◌, Bool, not, ◌&&◌, List, IsTrue, Option, Some, length, take}
 use Rattle.std.specs.Ordering.{is_le}
 use Rattle.std.specs.FinMap.{FinMap, retain_keys}
 use Rattle.judy_model.specs.Keys.{byte_order}
@@ -23,3 +23,8 @@ others map from within = retain_keys map (λ key. not (is_le (byte_order from ke
 abbrev pub IsFront : List ℕ → (List ℕ → Bool) → Type 0
 IsFront from within =
     (low high : List ℕ) → IsTrue (is_le (byte_order from low)) → IsTrue (is_le (byte_order low high)) → IsTrue (within high) → IsTrue (within low)
+
+-- A buffer begins with the key that was found, which has so many bytes.
+pub record IsFrontIn (buffer : List ℕ) (found : Option (List ℕ)) (len : ℕ) : Type 0 where
+  pub is : found ≡ Some (take len buffer)
+  pub inside : len ≤ length buffer

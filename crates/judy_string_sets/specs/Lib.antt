@@ -1,3 +1,5 @@
 pub mod Walks
+pub mod Ways
 pub mod Results
 pub mod Ends
+pub mod Reaches

@@ -7,7 +7,7 @@ ghost use Rattle.judy_string_sets.specs.Results.{IsMade};
 
 use crate::fills::{exceeds, fill};
 use crate::which::Which;
-use judy_sl::JudySl;
+use judy_sl::{KeyLength, StringsOf};
 use judy_word::InsertError;
 use std::alloc::{AllocError, Global};
 
@@ -16,14 +16,14 @@ const MOST_KEYS: u64 = 4_294_967_295;
 
 // The array with a limit of the keys of the one that are meant, and of those that the other has alone, where these are
 // wanted. `Full` where they are more than the limit, which is told before memory is asked for.
-fn combined(
+fn combined<L: KeyLength>(
     alloc: Global,
     limit: u64,
     which: Which,
     rest: bool,
-    one: &JudySl,
-    other: &JudySl,
-) -> Result<JudySl, InsertError>
+    one: &StringsOf<L>,
+    other: &StringsOf<L>,
+) -> Result<StringsOf<L>, InsertError>
     requires some { 1 ≤ limit }
     requires most { limit ≤ 4294967295 }
     ensures { IsMade limit (kept which rest one.now.map other.now.map) result }
@@ -31,8 +31,8 @@ fn combined(
     if exceeds(limit, which, rest, one, other) {
         return Err(InsertError::Full);
     }
-    let mut made = JudySl::new(alloc, limit);
-    match fill(&mut made, which, rest, one, other) {
+    let mut made = StringsOf::new(alloc, limit);
+    match fill(alloc, &mut made, which, rest, one, other) {
         Ok(()) => Ok(made),
         Err(_) => Err(InsertError::NoMemory),
     }
@@ -42,10 +42,16 @@ fn combined(
 /// the value is that of the one.
 ///
 /// `Full` where they are more than the limit, which is told before memory is asked for; `NoMemory` where there is none.
-/// Each key is put in by itself: first those that the other has alone, then those of the one.
+/// Each key is put in by itself: first those that the other has alone, then those of the one. Where an array may hold a
+/// key of more than 1,024 bytes, as [`StringsOf::longest`] tells, memory for the bytes of its longest is asked for too.
 ///
 ///     let all = union(alloc, 100, &one, &other)?;
-pub fn union(alloc: Global, limit: u64, one: &JudySl, other: &JudySl) -> Result<JudySl, InsertError>
+pub fn union<L: KeyLength>(
+    alloc: Global,
+    limit: u64,
+    one: &StringsOf<L>,
+    other: &StringsOf<L>,
+) -> Result<StringsOf<L>, InsertError>
     requires some { 1 ≤ limit }
     requires most { limit ≤ 4294967295 }
     ensures { IsMade limit (two.union one.now.map other.now.map) result }
@@ -55,12 +61,12 @@ pub fn union(alloc: Global, limit: u64, one: &JudySl, other: &JudySl) -> Result<
 
 /// The array with a limit, from 1 to 4,294,967,295, of the keys that both have, with the values of the one. The errors
 /// are those of [`union`].
-pub fn intersection(
+pub fn intersection<L: KeyLength>(
     alloc: Global,
     limit: u64,
-    one: &JudySl,
-    other: &JudySl,
-) -> Result<JudySl, InsertError>
+    one: &StringsOf<L>,
+    other: &StringsOf<L>,
+) -> Result<StringsOf<L>, InsertError>
     requires some { 1 ≤ limit }
     requires most { limit ≤ 4294967295 }
     ensures { IsMade limit (two.intersection one.now.map other.now.map) result }
@@ -70,12 +76,12 @@ pub fn intersection(
 
 /// The array with a limit, from 1 to 4,294,967,295, of the keys of the one that the other lacks. The errors are those
 /// of [`union`].
-pub fn difference(
+pub fn difference<L: KeyLength>(
     alloc: Global,
     limit: u64,
-    one: &JudySl,
-    other: &JudySl,
-) -> Result<JudySl, InsertError>
+    one: &StringsOf<L>,
+    other: &StringsOf<L>,
+) -> Result<StringsOf<L>, InsertError>
     requires some { 1 ≤ limit }
     requires most { limit ≤ 4294967295 }
     ensures { IsMade limit (two.difference one.now.map other.now.map) result }
@@ -85,12 +91,12 @@ pub fn difference(
 
 /// The array with a limit, from 1 to 4,294,967,295, of the keys that exactly one of them has. The errors are those of
 /// [`union`].
-pub fn symmetric_difference(
+pub fn symmetric_difference<L: KeyLength>(
     alloc: Global,
     limit: u64,
-    one: &JudySl,
-    other: &JudySl,
-) -> Result<JudySl, InsertError>
+    one: &StringsOf<L>,
+    other: &StringsOf<L>,
+) -> Result<StringsOf<L>, InsertError>
     requires some { 1 ≤ limit }
     requires most { limit ≤ 4294967295 }
     ensures { IsMade limit (two.symmetric_difference one.now.map other.now.map) result }
@@ -101,7 +107,7 @@ pub fn symmetric_difference(
 /// An array with the same keys, values and limit. The error is want of memory.
 ///
 ///     let kept = copy(alloc, &prices)?;
-pub fn copy(alloc: Global, array: &JudySl) -> Result<JudySl, AllocError>
+pub fn copy<L: KeyLength>(alloc: Global, array: &StringsOf<L>) -> Result<StringsOf<L>, AllocError>
     ensures { IfOk result (λ copy. copy ≡ array.now) }
 {
     let limit = array.limit();

@@ -7,13 +7,13 @@ ghost use Rattle.judy_string_sets.specs.Walks.{picked, rest_of, kept};
 
 use crate::keys::{Keys, next_of};
 use crate::which::Which;
-use judy_sl::JudySl;
+use judy_sl::{KeyLength, StringsOf};
 
 /// How many keys both arrays have. The array that has fewer is gone through once, and each of its keys is looked up in
 /// the other.
 ///
 /// Of the keys `a`, `b` and `c` the keys `b`, `c` and `d` have two.
-pub fn common_count(one: &JudySl, other: &JudySl) -> u64
+pub fn common_count<L: KeyLength>(one: &StringsOf<L>, other: &StringsOf<L>) -> u64
     ensures { result ≡ map.len (two.intersection one.now.map other.now.map) }
 {
     if one.len() <= other.len() {
@@ -24,7 +24,7 @@ pub fn common_count(one: &JudySl, other: &JudySl) -> u64
 }
 
 // How many keys of the one the other has.
-fn count_in(one: &JudySl, other: &JudySl) -> u64
+fn count_in<L: KeyLength>(one: &StringsOf<L>, other: &StringsOf<L>) -> u64
     ensures { result ≡ map.len (two.intersection one.now.map other.now.map) }
 {
     let _most = one.len();
@@ -37,14 +37,14 @@ fn count_in(one: &JudySl, other: &JudySl) -> u64
 }
 
 /// How many keys of the one array the other lacks.
-pub fn difference_count(one: &JudySl, other: &JudySl) -> u64
+pub fn difference_count<L: KeyLength>(one: &StringsOf<L>, other: &StringsOf<L>) -> u64
     ensures { result ≡ map.len (two.difference one.now.map other.now.map) }
 {
     one.len() - common_count(one, other)
 }
 
 /// How many keys the one or the other has: never more than a word tells, as each has at most 4,294,967,295.
-pub fn union_count(one: &JudySl, other: &JudySl) -> u64
+pub fn union_count<L: KeyLength>(one: &StringsOf<L>, other: &StringsOf<L>) -> u64
     ensures { result ≡ map.len (two.union one.now.map other.now.map) }
 {
     let _most = other.len();
@@ -52,7 +52,7 @@ pub fn union_count(one: &JudySl, other: &JudySl) -> u64
 }
 
 /// How many keys exactly one of them has.
-pub fn symmetric_difference_count(one: &JudySl, other: &JudySl) -> u64
+pub fn symmetric_difference_count<L: KeyLength>(one: &StringsOf<L>, other: &StringsOf<L>) -> u64
     ensures { result ≡ map.len (two.symmetric_difference one.now.map other.now.map) }
 {
     let common = common_count(one, other);
@@ -60,7 +60,7 @@ pub fn symmetric_difference_count(one: &JudySl, other: &JudySl) -> u64
 }
 
 // How many keys of the one are meant.
-fn picked_count(which: Which, one: &JudySl, other: &JudySl) -> u64
+fn picked_count<L: KeyLength>(which: Which, one: &StringsOf<L>, other: &StringsOf<L>) -> u64
     ensures { result ≡ map.len (picked which one.now.map other.now.map) }
 {
     match which {
@@ -71,7 +71,7 @@ fn picked_count(which: Which, one: &JudySl, other: &JudySl) -> u64
 }
 
 // How many keys the other has alone, where these are wanted.
-fn rest_count(rest: bool, one: &JudySl, other: &JudySl) -> u64
+fn rest_count<L: KeyLength>(rest: bool, one: &StringsOf<L>, other: &StringsOf<L>) -> u64
     ensures { result ≡ map.len (rest_of rest one.now.map other.now.map) }
 {
     if rest {
@@ -82,7 +82,12 @@ fn rest_count(rest: bool, one: &JudySl, other: &JudySl) -> u64
 }
 
 // How many both are.
-pub fn kept_count(which: Which, rest: bool, one: &JudySl, other: &JudySl) -> u64
+pub fn kept_count<L: KeyLength>(
+    which: Which,
+    rest: bool,
+    one: &StringsOf<L>,
+    other: &StringsOf<L>,
+) -> u64
     ensures { result ≡ map.len (kept which rest one.now.map other.now.map) }
 {
     let _ours = one.len();

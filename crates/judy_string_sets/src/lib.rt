@@ -7,8 +7,9 @@
 //!
 //! longest.rt has the longest key that begins some bytes, by fronts that fronts.rt measures.
 //!
-//! What two have goes through the keys of an array by a cursor, and looks each up in the other: keys.rt has the walk,
-//! and which.rt says which keys it stops at. Its tests stand in judy_string_tests.
+//! What two have goes through the keys of an array by a cursor, or from place to place where keys are long, and looks
+//! each up in the other: keys.rt has the walk, which.rt says which keys it stops at, and room.rt has the bytes that a
+//! long key is copied to. Its tests stand in judy_string_tests.
 //!
 //! The crate stands on judy_sl's public calls alone.
 #![tactic(auto)]
@@ -21,6 +22,7 @@ mod keys;
 mod longest;
 mod ranges;
 mod relations;
+mod room;
 mod which;
 
 pub use combine::{copy, difference, intersection, symmetric_difference, union};

@@ -22,6 +22,11 @@ fn array_of(rt: &impl Abort, alloc: Global, pairs: &[Pair<'_>]) -> JudySl {
     JudySl::from_sorted(alloc, 100, pairs).expect(rt, "there is memory")
 }
 
+// How many keys that begin with some bytes are taken out.
+fn taken_out(rt: &impl Abort, alloc: Global, array: &mut JudySl, prefix: &[u8]) -> u64 {
+    remove_prefix(alloc, array, prefix).expect(rt, "short keys ask for no memory")
+}
+
 // An array has these pairs alone.
 fn has_pairs(rt: &impl Abort, array: &JudySl, pairs: &[Pair<'_>]) {
     same_number(rt, array.len(), pairs.len() as u64);
@@ -45,11 +50,15 @@ fn counts_of_strings(rt: HostRuntime) -> Result<(), Fail> {
 #[test]
 fn prefixes_taken_out(rt: HostRuntime) -> Result<(), Fail> {
     let mut array = array_of(&rt, rt.alloc(), &ONE);
-    same_number(&rt, remove_prefix(&mut array, b"abcdefghij"), 0);
-    same_number(&rt, remove_prefix(&mut array, b"a\x00"), 0);
-    same_number(&rt, remove_prefix(&mut array, b"ab"), 2);
+    same_number(
+        &rt,
+        taken_out(&rt, rt.alloc(), &mut array, b"abcdefghij"),
+        0,
+    );
+    same_number(&rt, taken_out(&rt, rt.alloc(), &mut array, b"a\x00"), 0);
+    same_number(&rt, taken_out(&rt, rt.alloc(), &mut array, b"ab"), 2);
     has_pairs(&rt, &array, &[(b"a", 1), (b"b", 4)]);
-    same_number(&rt, remove_prefix(&mut array, b""), 2);
+    same_number(&rt, taken_out(&rt, rt.alloc(), &mut array, b""), 2);
     same_number(&rt, array.len(), 0);
     Ok(())
 }

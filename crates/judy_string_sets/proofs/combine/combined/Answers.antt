@@ -8,7 +8,7 @@ use Rattle.judy_string_sets.proofs.FillFacts.{with_nothing, not_more}
 use Rattle.judy_string_sets.proofs.combine.combined.Goals as goal
 
 pub returns-in-Ok : goal.returns-in-Ok
-returns-in-Ok c =
+returns-in-Ok g c =
     let one = c.args.one.now.map in
     let other = c.args.other.now.map in
     let front = picked c.args.which one other in

@@ -6,4 +6,4 @@ use Rattle.judy_string_sets.proofs.CountFacts.{kept_alone}
 use Rattle.judy_string_sets.proofs.combine.difference.Goals as goal
 
 pub returns : goal.returns
-returns c = subst (λ (map : Strings). IsMade c.args.limit map c.combined.result) (kept_alone Alone c.args.one.now.map c.args.other.now.map) c.combined.ensures
+returns g c = subst (λ (map : Strings). IsMade c.args.limit map c.combined.result) (kept_alone Alone c.args.one.now.map c.args.other.now.map) c.combined.ensures

@@ -5,4 +5,4 @@ use Rattle.judy_string_sets.proofs.CountFacts.{kept_symmetric}
 use Rattle.judy_string_sets.proofs.combine.symmetric_difference.Goals as goal
 
 pub returns : goal.returns
-returns c = subst (λ (map : Strings). IsMade c.args.limit map c.combined.result) (kept_symmetric c.args.one.now.map c.args.other.now.map) c.combined.ensures
+returns g c = subst (λ (map : Strings). IsMade c.args.limit map c.combined.result) (kept_symmetric c.args.one.now.map c.args.other.now.map) c.combined.ensures

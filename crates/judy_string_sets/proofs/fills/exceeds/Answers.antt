@@ -4,7 +4,7 @@ use Rattle.judy_string_sets.proofs.CountFacts.{kept_most}
 use Rattle.judy_string_sets.proofs.fills.exceeds.Goals as goal
 
 pub returns-then-share-limit : goal.returns-then-share-limit
-returns-then-share-limit c =
+returns-then-share-limit g c =
     let rest = c.args.rest in
     let other = c.args.other.now.map in
     let most = kept_most c.args.which rest c.args.one.now.map other in
@@ -15,7 +15,7 @@ returns-then-share-limit c =
     (λ never. absurd cc, λ more. absurd (omega (arith, most, shared, ours, room, left, more)))
 
 pub returns : goal.returns
-returns c =
+returns g c =
     let counted = c.kept_count.ensures in
     let few = c.requires in (
       λ test. let less = ltb-true _ _ test in omega (arith, counted, few, less),

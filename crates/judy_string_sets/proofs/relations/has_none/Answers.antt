@@ -5,7 +5,7 @@ use Rattle.judy_string_sets.proofs.RelationFacts.{none_found}
 use Rattle.judy_string_sets.proofs.relations.has_none.Goals as goal
 
 pub returns : goal.returns
-returns c =
+returns g c =
     let which = c.args.which in
     let other = c.args.other.now.map in
     subst (λ (w : Strings). IsTrue c.is_none.result ↔ (picked which w other ≡ empty)) c.of-keys.ensures
