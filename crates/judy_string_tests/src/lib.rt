@@ -3,15 +3,9 @@
 //! The crate stands on the arrays alone, so it is proved beside the program and not behind it. It has no code of its
 //! own.
 //!
-<<<<<<< ours
 //! strings.rt has the rows of arrays over strings, cursors.rt those of walks over them, readers.rt those of keys read
-//! where they stand, two_arrays.rt those of what two arrays have together, bytes.rt those of arrays over byte strings,
-//! and check.rt what rows compare.
-=======
-//! strings.rt has the rows of arrays over strings, cursors.rt those of walks over them, two_arrays.rt those of what two
-//! have together, long_keys.rt the same of keys that have more bytes than a store's, bytes.rt those of arrays over byte
-//! strings, and check.rt what rows compare.
->>>>>>> theirs
+//! where they stand, two_arrays.rt those of what two have together, long_keys.rt the same of keys that have more bytes
+//! than a store's, bytes.rt those of arrays over byte strings, and check.rt what rows compare.
 #![tactic(auto)]
 
 #[cfg(test)]
@@ -21,11 +15,9 @@ mod check;
 #[cfg(test)]
 mod cursors;
 #[cfg(test)]
-<<<<<<< ours
-mod readers;
-=======
 mod long_keys;
->>>>>>> theirs
+#[cfg(test)]
+mod readers;
 #[cfg(test)]
 mod strings;
 #[cfg(test)]
