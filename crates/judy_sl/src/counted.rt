@@ -1,6 +1,6 @@
-//! How levels come to tell how many keys stand behind them: the way of an insert or a delete notes those that it passes.
-//! Once a key is in, it is counted there, and before one goes, it is counted no more. Where the places aren't noted but
-//! how many there are, another way down passes the same levels.
+//! How levels come to tell how many keys stand behind them: the way of an insert or a delete notes those that it
+//! passes. Once a key is in, it is counted there, and before one goes, it is counted no more. Where the places aren't
+//! noted but how many there are, another way down passes the same levels.
 
 ghost use Rattle.std.specs.Prelude.{◌≡◌, ◌<◌, ◌≤◌, ℕ, List, Some, IsSome, IfOk, OnOk, OnErr, length, take};
 ghost use Rattle.std.specs.FinMap as map;

@@ -27,8 +27,8 @@ use std::alloc::AllocError;
 
 // Adds a key that isn't there, with the value 0, and counts it but in the lists of levels below the first. What may be
 // refused in the list comes first; where the key itself is refused, the list is as it was. What is noted are the levels
-// that the way passes. An insert calls it for each kind of notes, so it is told to be inlined: else the way goes through
-// memory.
+// that the way passes. An insert calls it for each kind of notes, so it is told to be inlined: else the way goes
+// through memory.
 #[inline(always)]
 fn insert_first(
     arena: &mut Arena,

@@ -263,8 +263,8 @@ impl<'a> KeyReader<'a> {
 
 impl<L: KeyLength> StringsOf<L> {
     /// A reader at the `n`-th key in ascending order, counted from 1, which has all of it to read. `None` for 0, and
-    /// for an `n` above the number of keys, as [`StringsOf::by_count_in`] answers. It takes a few steps: the way down the
-    /// array is the reader's. (This project's own.)
+    /// for an `n` above the number of keys, as [`StringsOf::by_count_in`] answers. It takes a few steps: the way down
+    /// the array is the reader's. (This project's own.)
     pub fn read_nth(&self, n: u64) -> Option<KeyReader<'_>>
         ensures { MatchOption result (counts.by_count self.now.map n ≡ None)
             (λ reader. (reader.left ≡ counts.by_count self.now.map n)

@@ -1,5 +1,6 @@
 -- `Scan::tell_in`: where no value was found, no key was, and the buffer stays.
-use Rattle.std.proofs.Common.{◌∙◌, refl}
+use Rattle.std.proofs.Common.{◌∙◌, refl, length, take, arith}
+use Rattle.judy_sl.proofs.lemmas.scans.Rooms.{neighbour-within}
 use Rattle.judy_c.specs.KeyScans.{CallerBuffer}
 use Rattle.judy_c.proofs.ScanFacts.{told, key_found, key_is, value_is, none_stays}
 use Rattle.judy_c.proofs.scans.Scan.tell_in.Goals as goal
@@ -14,3 +15,9 @@ returns-in-None c =
     let stays = none_stays scan c.look.result map (c.look.ensures map) buffer count inside after.buffer after.count c.in-None.ensures.key value in
     told map before after scan c.requires.start _ (key_found scan c.look.result map (c.look.ensures map) buffer count inside) 0 (key_is scan c.look.result map (c.look.ensures map) buffer count inside)
     value (refl, λ t. record { buffer = stays.0 t; count = stays.1 t; value = c.args.value.now })
+
+pub neighbour_in-requires-clause-room : goal.neighbour_in-requires-clause-room
+neighbour_in-requires-clause-room c =
+    let most = c.longest-longest.ensures.most in let room = c.requires.room in
+    neighbour-within c.args.array.now.map c.longest-longest.result c.longest-longest.ensures.within (length c.args.buffer.now) (omega (arith, most, room)) c.look.result
+    (take c.args.count.now c.args.buffer.now)
