@@ -1,5 +1,7 @@
 -- `slot_beside`: the key in the buffer of its own is the one that the scan looks for; where it isn't told, its value is as it was.
 use Rattle.std.proofs.Common.{refl, ap, inr, Some, None}
+use Rattle.std.proofs.Common.{length, take, arith}
+use Rattle.judy_sl.proofs.lemmas.scans.Rooms.{neighbour-within}
 use Rattle.judy_c.specs.KeyScans.{CallerBuffer}
 use Rattle.judy_c.proofs.ScanFacts.{told, found_held, key_beside, value_beside, room_begins}
 use Rattle.judy_c.proofs.StringHandles.{kept_value}
@@ -38,3 +40,9 @@ returns-in-None c =
             told map before before scan c.requires.start None _ 0 key value (refl, refl);
       },
     )
+
+pub neighbour_slot_in-requires-clause-room : goal.neighbour_slot_in-requires-clause-room
+neighbour_slot_in-requires-clause-room c =
+    let most = c.longest-longest.ensures.most in
+    neighbour-within c.args.array.now.map c.longest-longest.result c.longest-longest.ensures.within (length c.room_for-room.result) (let size = c.room_for-room.type_inv in omega (arith, most, size)) c.look.result
+    (take c.args.count.now c.room_for-room.result)

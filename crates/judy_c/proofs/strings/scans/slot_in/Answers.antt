@@ -1,5 +1,7 @@
 -- `slot_in`: where no slot was lent, no key was found, and the buffer stays.
 use Rattle.std.proofs.Common.{◌∙◌, refl, None}
+use Rattle.std.proofs.Common.{length, take, arith}
+use Rattle.judy_sl.proofs.lemmas.scans.Rooms.{neighbour-within}
 use Rattle.judy_c.specs.KeyScans.{CallerBuffer}
 use Rattle.judy_c.proofs.ScanFacts.{told, key_found, key_is, value_is, none_stays}
 use Rattle.judy_c.proofs.strings.scans.slot_in.Goals as goal
@@ -21,3 +23,9 @@ returns-in-None c =
             value (refl, λ t. record { buffer = stays.0 t; count = stays.1 t; value = other });
       },
     )
+
+pub neighbour_slot_in-requires-clause-room : goal.neighbour_slot_in-requires-clause-room
+neighbour_slot_in-requires-clause-room c =
+    let most = c.longest-longest.ensures.most in let room = c.requires.room in
+    neighbour-within c.args.array.now.map c.longest-longest.result c.longest-longest.ensures.within (length c.args.buffer.now) (omega (arith, most, room)) c.look.result
+    (take c.args.count.now c.args.buffer.now)
