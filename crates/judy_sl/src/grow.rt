@@ -178,6 +178,41 @@ impl Arena {
         }
     }
 
+    // The same; but where memory is refused, and may come back where tails go together, it answers that the key is to
+    // be looked up.
+    #[inline(always)]
+    pub fn try_first<L: KeyLength>(
+        &mut self,
+        key: &[u8],
+        tries: bool,
+    ) -> Result<Option<Place>, AllocError>
+        requires is_arena { IsArena self.old }
+        requires counted { AreCounted self.old }
+        requires led { AllLed (world_of self.old) }
+        ensures tried { IfShown result (IsTrue tries) }
+        ensures counted { AreCounted self.new }
+        ensures key { IfShown result (L.IsKey key.now) }
+        ensures absent { IfShown result (map.get (map_of self.old) key.now ≡ None) }
+        ensures added { IfOk result
+            (λ found. IfSome found (λ place. IsAdded self.old self.new key.now place)) }
+        ensures first { IfOk result
+            (λ found. IfSome found (λ place. beginning (map_of self.old) (piece_of key.now) ≡ 0)) }
+        ensures stays { IfOk result (λ found. IsSome found → StaysLed self.old self.new) }
+        ensures open { IfOk result (λ found. found ≡ None → IsSame self.old self.new) }
+        ensures refused { OnErr result (IsSame self.old self.new) }
+    {
+        match self.try_add::<L>(key, tries) {
+            Ok(found) => Ok(found),
+            Err(error) => {
+                if self.tails.are_spare() {
+                    Ok(None)
+                } else {
+                    Err(error)
+                }
+            }
+        }
+    }
+
     // Adds a key whose way ends at a place without an entry.
     fn fill(&mut self, key: &[u8], place: Place, left: usize) -> Result<Place, AllocError>
         requires is_arena { IsArena self.old }

@@ -154,7 +154,7 @@ impl<L: KeyLength> StringsOf<L> {
         ensures refused { IfErr result (IsRefusal L.IsKey self.old key.now) }
     {
         let tries = self.expects_new & (self.count != self.limit);
-        if let Some(place) = self.arena.try_add::<L>(key, tries).unwrap_or(None) {
+        if let Some(place) = self.arena.try_first::<L>(key, tries)? {
             self.count += 1;
             self.longest = self.longest.max(key.len());
             self.added = true;

@@ -91,7 +91,7 @@ impl<const N: usize> LevelNotes for ArrayVec<u64, N> {
     }
 }
 
-// How many levels there are, for keys of any length.
+// How many levels there are, for keys of any length: none has 2^60 whole pieces.
 #[derive(Drop)]
 pub struct Number(usize);
 

@@ -1,7 +1,6 @@
 -- A key that is put in where an arena has settled before.
 use Rattle.std.proofs.Common.{◌≡◌, ◌≢◌, ℕ, suc, List, ◌++◌, Option, None, Some, Result, Ok, Err, IfOk, OnOk, OnErr, refl, sym, ap, subst, ◌∙◌}
 use Rattle.std.proofs.lemmas.Option.{none-some}
-use Rattle.std.specs.Result.{result_unwrap_or}
 use Rattle.std.specs.FinMap.{FinMap, get}
 use Rattle.judy_model.specs.Keys.{byte_order}
 use Rattle.judy_model.specs.Arrays.{ArrayOf}
@@ -39,19 +38,6 @@ same_settled before after kept same = record {
   levels = λ at there. subst IsLevelChild (sym (same.children at)) there;
   behind = λ at is. ap (λ (w : World). map_behind w (suc at)) (world-same before after same);
 }
-
--- A trial that put a key in,
-pub tried_some : {E : Type 0} (result : Result (Option Place) E) (found : Option Place) (place : Place) → found ≡ result_unwrap_or result None → found ≡ Some place → result ≡ Ok (Some place)
-tried_some (Ok found) other place is some = ap (λ (f : Option Place). Ok f) (sym is ∙ some)
-tried_some (Err error) other place is some = let never : None ≡ Some place = sym is ∙ some in absurd (cc)
-
--- and one that put none in, after which all is settled.
-pub tried_settled : {E : Type 0} (before after : Arena) → IsKept before → (result : Result (Option Place) E) (found : Option Place) → found ≡ result_unwrap_or result None → found ≡ None →
-    IfOk result (λ found. found ≡ None → after ≡ before) → OnErr result (IsSame before after) → IsSettled before after
-tried_settled before after kept (Ok found) other is none same refused =
-    let still = same (sym is ∙ none) in
-    same_settled before after kept (record { root = ap (λ (a : Arena). a.root) still; children = λ at. ap (λ (a : Arena). child_at a at) still })
-tried_settled before after kept (Err error) other is none same refused = same_settled before after kept refused
 
 module _ (before after : Arena) (is : IsArena before) (settled : IsSettled before after) where
   by_key : (ps : List ℕ) → SpellKey ps → lookup (world_of after) 0 ps ≡ lookup (world_of before) 0 ps

@@ -19,6 +19,6 @@ returns c =
 
 pub neighbour_in-found-requires-clause-room : goal.neighbour_in-found-requires-clause-room
 neighbour_in-found-requires-clause-room c =
-    let most = c.longest-longest.ensures.most in
-    neighbour-within c.args.array.now.map c.longest-longest.result c.longest-longest.ensures.within (length c.room_for-room.result) (let size = c.room_for-room.type_inv in omega (arith, most, size)) c.look.result
+    let most = c.longest-longest.ensures.most in let size = c.room_for-room.type_inv in
+    neighbour-within c.args.array.now.map c.longest-longest.result c.longest-longest.ensures.within (length c.room_for-room.result) (omega (arith, most, size)) c.look.result
     (take c.args.count.now c.room_for-room.result)
