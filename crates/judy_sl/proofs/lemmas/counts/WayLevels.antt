@@ -147,9 +147,6 @@ pub noted-count : (count : ℕ) (places : List ℕ) → AreNoted (Count count) p
 noted-count count places are world key first = ap (λ n. take n (levels_passed world key)) are ∙ first
 
 module _ (world : World) (key places : List ℕ) (first : AreFirstPassed world key places) where
-  pub first-along : AreAlong world 0 places key
-  first-along = subst (λ ps. AreAlong world 0 ps key) first (along-front world (length places) (levels_passed world key) 0 key (along-way world key))
-
   pub first-short : length places ≤ length (levels_passed world key)
   first-short =
       let long = length-take (length places) (levels_passed world key) in

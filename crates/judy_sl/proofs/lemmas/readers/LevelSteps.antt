@@ -75,9 +75,6 @@ module _ (arena : Arena) (is_arena : IsArena arena) (at : ℕ) (held : List ℕ)
   pub tail_back : text_in words ≡ held
   tail_back = ap text_in are ∙ text-back held text
 
-  pub tail_are : IsTextOf words
-  tail_are = are ∙ ap words_of (sym tail_back)
-
   pub tail_string : IsString (text_in words)
   tail_string = subst IsString (sym tail_back) (tail_key arena is_arena at held value here text)
 

@@ -19,14 +19,6 @@ use Rattle.judy_sl.proofs.lemmas.readers.TextSteps.{inner_long}
 
 -- ---- what two strings share
 
-shared_none : (key : List ℕ) → shared_length key [] ≡ 0
-shared_none [] = refl
-shared_none (k ∷ key) = refl
-
--- Nothing more is shared where one of two strings ends, or they part.
-pub shared_past : (n : ℕ) (key bytes : List ℕ) → length bytes ≤ n → shared_length (drop n key) (drop n bytes) ≡ 0
-shared_past n key bytes past = ap (shared_length (drop n key)) (drop_all n bytes past) ∙ shared_none (drop n key)
-
 pub shared_ended : (n : ℕ) (key bytes : List ℕ) → length key ≤ n → shared_length (drop n key) (drop n bytes) ≡ 0
 shared_ended n key bytes past = ap (λ left. shared_length left (drop n bytes)) (drop_all n key past)
 
@@ -132,11 +124,6 @@ same_whole text bytes is are within same inner =
     ∙ sym (get_or-take 8 bytes at 0 few)) in
     ap (λ front. shared_length front bytes) alike ∙ shared_own 8 bytes within
 
-pub be_long : (piece : ℕ) → length (to_be_bytes w64 piece) ≡ 8
-be_long piece = ap length (be-low_bytes piece) ∙ length-low_bytes 8 piece
-
--- ---- one byte of a piece
-
 module _ (text bytes : List ℕ) (is : IsText text) (piece : ℕ) (first : piece ≡ piece_of text) (at : ℕ) (few : at < 8) (inside : at < length bytes) where
   its_byte : get_or (to_be_bytes w64 piece) at 0 ≡ get_or text at 0
   its_byte = be_at text (text-bytes text is) piece first at few
@@ -157,7 +144,7 @@ module _ (text bytes : List ℕ) (is : IsText text) (piece : ℕ) (first : piece
   pub stops : (get_or (to_be_bytes w64 piece) at 0 ≡ 0) ⊎ (get_or (to_be_bytes w64 piece) at 0 ≢ get_or bytes at 0) → shared_length (drop at (take 8 text)) (drop at bytes) ≡ 0
   stops why = ⊎_elim
       (λ (within : at < length text). ⊎_elim
-      (λ none. absurd (let past = zero_past none in let never : ⊥ = omega (arith, past, within) in never))
+      (λ none. absurd (let never : ⊥ = omega (arith, zero_past none, within) in never))
       (λ differ. shared_parts at (take 8 text) bytes (front-long within) inside (λ same. differ (sym front-at ∙ same)))
       why)
       (λ (past : length text ≤ at). shared_ended at (take 8 text) bytes (let long = length-take 8 text in omega (arith, long, past)))
@@ -174,16 +161,6 @@ module _ (text bytes : List ℕ) (is : IsText text) (piece : ℕ) (first : piece
     goes_on = shared_on at (take 8 text) bytes (front-long still_within) inside (front-at ∙ same)
 
 -- ---- a whole piece
-
--- No more is shared than there is.
-pub shared_within : (key bytes : List ℕ) → shared_length key bytes ≤ length bytes
-shared_within [] bytes = omega arith
-shared_within (k ∷ key) [] = omega arith
-shared_within (k ∷ key) (b ∷ bytes) = by (k == b) (shared_within key bytes)
-  where
-    by : (test : Bool) → shared_length key bytes ≤ length bytes → cond test (suc (shared_length key bytes)) 0 ≤ suc (length bytes)
-    by true rest = omega (arith, rest)
-    by false rest = omega arith
 
 -- A text ends where the piece in which it parts from bytes has a zero byte.
 pub ends_there : (text bytes : List ℕ) → IsText text → (piece : ℕ) → piece ≡ piece_of text → (same : ℕ) → same ≡ shared_length text bytes → same < 8 →

@@ -34,12 +34,6 @@ abbrev pub how_long : Option (List ℕ) → ℕ
 how_long None = 0
 how_long (Some text) = suc (length text)
 
-pub less_behind : (text : List ℕ) → how_long (left_behind (Some text)) < how_long (Some text)
-less_behind text = ⊎_elim
-    (λ short. let none = ap how_long (behind_short text short) in omega (arith, none))
-    (λ long. let rest = ap how_long (behind_long text long) in let less = length-drop 8 text in omega (arith, rest, less, long))
-    (cases_lt (length text) 8)
-
 -- That is a string.
 pub string_behind : (text : List ℕ) → IsString text → IfSome (left_behind (Some text)) IsString
 string_behind text is = ⊎_elim

@@ -33,10 +33,6 @@ module _ (map : FinMap byte_order ℕ) where
     found-fits None held = tt
     found-fits (Some key) held = held-fits key (held key refl)
 
-    -- The neighbour fits,
+    -- The neighbour fits.
     pub neighbour-within : (look : Look) (from : List ℕ) → IfSome (neighbour_along look.side look.itself map from) (λ key. length key ≤ room)
     neighbour-within look from = found-fits (neighbour_along look.side look.itself map from) (neighbour-held look.side look.itself from)
-
-    -- and so does the key at a place.
-    pub counted-within : (n : ℕ) → IfSome (by_count map n) (λ key. length key ≤ room)
-    counted-within n = found-fits (by_count map n) (λ key is. (by_count_found byte_order_total byte_order_same map n key is).0)
