@@ -8,9 +8,8 @@
 #include "check.h"
 #include "refusing.h"
 
-/* ROOM is for how many bytes a key, CAP how many bytes a map may take that is filled. JUDYSL_SHRINKS says whether an
- * insert into a judysl that is refused memory shrinks the map, as one into a judyhs does. */
-enum { MOST = 40000, LONGEST = 1100, ROOM = 8, CAP = 4 << 20, JUDYSL_SHRINKS = 0 };
+/* ROOM is for how many bytes a key, CAP how many bytes a map may take that is filled. */
+enum { MOST = 40000, LONGEST = 1100, ROOM = 8, CAP = 4 << 20 };
 
 typedef struct {
     const char *name;
@@ -191,6 +190,6 @@ int main(void) {
                 CHECK(is_small || (kinds[kind] == &judysl && spells[spell] == pairs));
             }
     filled_again(&judyhs, 16, 15);
-    if (JUDYSL_SHRINKS) filled_again(&judysl, 24, 16);
+    filled_again(&judysl, 24, 16);
     return 0;
 }
