@@ -498,7 +498,8 @@ uint64_t sellumaq_judysl_remove_prefix(sellumaq_judysl *map, const uint8_t *pref
 
 /* Moves keys together, so that memory which deletes left free within the map's pages goes back: one walk over the map,
  * of use after many deletes. It asks for no memory and can't fail; no key and no value changes, but slots that were
- * handed out are no longer theirs. */
+ * handed out are no longer theirs. An insert that is refused memory after many deletes does the same itself, and is
+ * tried once more before it answers. */
 void sellumaq_judysl_shrink(sellumaq_judysl *map);
 
 /* Makes `made` a copy, in place of what it held: SELLUMAQ_ADDED. Else it is as it was: SELLUMAQ_NO_MEMORY. The two
@@ -575,8 +576,7 @@ bool sellumaq_judyhs_walk(const sellumaq_judyhs *map, size_t behind, uint8_t *by
 uint64_t sellumaq_judyhs_len(const sellumaq_judyhs *map);
 
 /* Moves keys together, as sellumaq_judysl_shrink does. A key of at most 8 bytes or of more than 1,024, and one that
- * shares its hash with another, stays where it is. An insert that is refused memory after many deletes does the same
- * itself, and is tried once more before it answers. */
+ * shares its hash with another, stays where it is. */
 void sellumaq_judyhs_shrink(sellumaq_judyhs *map);
 
 /* Gives all memory back, and answers how many keys there were. The handle is the empty array then. */
