@@ -1,6 +1,6 @@
 # The library's calls for C as x86-64 assembly, for GNU as and clang, made by tools/compiled of what is proved.
 # Change crates/ and run `make compiled`, not this file. compiled/README.md tells what it is and how to check it.
-# sources: 38c7e39b9cd05ac3ab7167c241776b5f7fab342f1226f3e828710aa2d423481f
+# sources: d820323503cc0c3dbbbcbcf9c8498245c0cc447db385cfab53b8f02d6129be4b
 # kit: rattle-kit-13f logic dac8208d650f15bf
 	.section	.text.pop_called.7h3ezo,"ax",@progbits
 	.p2align	4

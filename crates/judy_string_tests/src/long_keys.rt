@@ -1,12 +1,12 @@
-//! Rows of arrays whose keys have more than 1,024 bytes: what two have together, keys taken out, and the longest key
-//! that bytes begin with.
+//! Rows of arrays whose keys have more than 1,024 bytes: what two have together, and the longest key that bytes begin
+//! with.
 
 use crate::check::{same_answer, same_number, same_value};
 use judy_sl::LongStrings;
 use judy_string_sets::{
     common_count, copy, difference, difference_count, intersection, is_disjoint, is_subset,
-    longest_prefix, remove_prefix, remove_range, same_keys, symmetric_difference,
-    symmetric_difference_count, union, union_count,
+    longest_prefix, same_keys, symmetric_difference, symmetric_difference_count, union,
+    union_count,
 };
 use std::alloc::Global;
 use std::process::Abort;
@@ -72,19 +72,6 @@ fn arrays_of_long_keys(rt: HostRuntime) {
     let made = copy(rt.alloc(), &one).expect(&rt, "there is memory");
     has_keys(&rt, &made, b"bcd", 4);
     same_answer(&rt, union(rt.alloc(), 4, &one, &other).is_err(), true);
-}
-
-#[test]
-fn long_keys_taken_out(rt: HostRuntime) {
-    let mut array = array_of(&rt, rt.alloc(), b"bcd");
-    let taken = remove_range(rt.alloc(), &mut array, &long_key(b'b'), &long_key(b'c'));
-    same_number(&rt, taken.expect(&rt, "there is memory"), 2);
-    has_keys(&rt, &array, b"d", 2);
-    let taken = remove_prefix(rt.alloc(), &mut array, &long_key(b'd')[..1500]);
-    same_number(&rt, taken.expect(&rt, "there is memory"), 1);
-    let taken = remove_range(rt.alloc(), &mut array, b"", &long_key(b'z'));
-    same_number(&rt, taken.expect(&rt, "there is memory"), 1);
-    same_number(&rt, array.len(), 0);
 }
 
 // Compares the longest key that bytes begin with, its length and its value, with those wanted.
