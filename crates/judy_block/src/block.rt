@@ -1,6 +1,6 @@
 //! A block of words, and its calls.
 
-ghost use Rattle.std.specs.Prelude.{◌≡◌, ◌+◌, ◌-◌, ◌<◌, ◌≤◌, ◌^◌, length, take, drop, replicate, ◌++◌, slice_index, slice_set, IfOk};
+ghost use Rattle.std.specs.Prelude.{◌≡◌, ◌+◌, ◌-◌, ◌*◌, ◌<◌, ◌≤◌, ◌^◌, length, take, drop, replicate, ◌++◌, slice_index, slice_set, IfOk};
 ghost use Rattle.std.specs.Borrow.{sem};
 ghost use Rattle.std.specs.List.{insert, copy_within};
 ghost use Rattle.judy_block.specs.Contents.{Contents, empty_block, with_gap, without_gap};
@@ -84,6 +84,17 @@ impl Block {
         ensures within { (1 ≤ result) × (result ≤ 65535) }
     {
         self.header().capacity()
+    }
+
+    /// How many bytes of memory it asked for: eight for each word that there is room for, and eight for the header. So
+    /// it is from 16 to 524,288.
+    ///
+    ///     Block::new(Global, 4)?.bytes() == 40
+    pub fn bytes(&self) -> u64
+        ensures bytes { result ≡ (self.now.capacity + 1) * 8 }
+        ensures within { result ≤ 524288 }
+    {
+        (self.capacity() as u64 + 1) * 8
     }
 
     /// The tag, 32 bits.
