@@ -13,8 +13,8 @@
 //! child.rt has the nodes (bundle.rt the array that one is moved in, head.rt the seven bytes beside its word), node.rt
 //! the root, and view.rt what a node shows to those who enter it. branch.rt has what is asked of a branch, step.rt
 //! where a key goes there, populations.rt how many keys its children have, and sums.rt the same by sixteens, where all
-//! 256 stand. shape.rt, fill.rt and clone.rt go over a whole tree, build.rt makes the tight tree of sorted pairs,
-//! room.rt makes room for a child, seat.rt finds where a value stands, and slot.rt lends its slot. The parts for
+//! 256 stand. shape.rt, memory.rt, fill.rt and clone.rt go over a whole tree, build.rt makes the tight tree of sorted
+//! pairs, room.rt makes room for a child, seat.rt finds where a value stands, and slot.rt lends its slot. The parts for
 //! writing ([`KindOf`], [`RootOf`], [`BranchOf`], [`Sums`]) are for judy_change. Which nodes there are and how they lie
 //! is this project's own.
 //!
@@ -30,6 +30,7 @@ mod clone;
 mod fill;
 mod head;
 pub mod laws;
+mod memory;
 mod node;
 mod populations;
 mod room;
