@@ -8,6 +8,7 @@ ghost use Rattle.judy_sums.specs.Chunks.{BeginsBy, BeginsAbove, IsFirst, IsPlace
 use crate::entry::Entry;
 use std::alloc::{AllocError, Global};
 use std::marker::Model;
+use std::mem::size_of;
 
 // The sum of the numbers of entries.
 fn sum(entries: &[Entry]) -> u64
@@ -118,6 +119,11 @@ impl Chunk {
         ensures { result ≡ length self.now }
     {
         self.entries.len()
+    }
+
+    // How many bytes it has asked for: those of the entries that it has room for.
+    pub fn bytes(&self) -> u64 {
+        (self.entries.capacity() as u64).wrapping_mul(size_of::<Entry>() as u64)
     }
 
     // Whether it doesn't begin above a word.

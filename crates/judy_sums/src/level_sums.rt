@@ -11,6 +11,7 @@ ghost use Rattle.judy_sums.specs.Listed.{list_at, more_of, less_of, AreOthers};
 use crate::sums::Sums;
 use std::alloc::{AllocError, Global};
 use std::marker::Model;
+use std::mem::size_of;
 
 /// A list of sums for each of some indices. To contracts it is the row of them, with `None` where there is none.
 #[derive(Drop)]
@@ -81,6 +82,21 @@ impl LevelSums {
             Some(Some(list)) => Some(list),
             _ => None,
         }
+    }
+
+    /// How many bytes of memory the row has asked for: those of its places and of the lists. It goes over all lists.
+    /// The number is tested and not proved, as that of [`Sums::bytes`].
+    ///
+    ///     LevelSums::new(Global).bytes() == 0
+    pub fn bytes(&self) -> u64 {
+        let place = size_of::<Option<Sums>>() as u64;
+        let mut total = (self.lists.capacity() as u64).wrapping_mul(place);
+        for list in &self.lists {
+            if let Some(sums) = list {
+                total = total.wrapping_add(sums.bytes());
+            }
+        }
+        total
     }
 
     /// Adds one to the number of a word in the list of an index, where it has one. The error is want of memory: the

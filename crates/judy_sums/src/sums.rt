@@ -8,6 +8,7 @@ use crate::chunk::Chunk;
 use crate::{chunks, steps};
 use std::alloc::{AllocError, Global};
 use std::marker::Model;
+use std::mem::size_of;
 
 /// An ordered list of words with numbers. To contracts it is the finite map from the words to their numbers.
 #[derive(Drop)]
@@ -69,6 +70,18 @@ impl Sums {
         ensures unchanged { OnErr result (self.new ≡ self.old) }
     {
         steps::add(&mut self.chunks, word, number)
+    }
+
+    /// How many bytes of memory the list has asked for: those of its chunks and of their entries. It goes over the
+    /// chunks. The number is tested and not proved, since a list doesn't tell its callers how much room it has.
+    ///
+    ///     Sums::new(Global).bytes() == 0
+    pub fn bytes(&self) -> u64 {
+        let mut total = (self.chunks.capacity() as u64).wrapping_mul(size_of::<Chunk>() as u64);
+        for chunk in &self.chunks {
+            total = total.wrapping_add(chunk.bytes());
+        }
+        total
     }
 
     /// Whether a word is there.
