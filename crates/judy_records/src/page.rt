@@ -87,6 +87,11 @@ impl Page {
         }
     }
 
+    // How many bytes it has asked for: those of the words that it has room for.
+    pub fn bytes(&self) -> u64 {
+        (self.words.capacity() as u64).wrapping_mul(8)
+    }
+
     // Whether it has so many places, and all are taken.
     pub fn is_full(&self, places: usize) -> bool
         ensures { IsTrue result ↔ IsFull places self.now }

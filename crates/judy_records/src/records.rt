@@ -15,6 +15,7 @@ use crate::turns::Turns;
 use crate::words;
 use std::alloc::{AllocError, Global};
 use std::marker::Model;
+use std::mem;
 
 /// Records of one length, each a value and a text of so many words. To contracts it is a `RecordList`.
 #[derive(Drop)]
@@ -64,6 +65,21 @@ impl Records {
         ensures { result ≡ self.now.size }
     {
         self.size
+    }
+
+    /// How many bytes of memory the list has asked for: those of its pages and of the lists of these. It goes over the
+    /// pages, and reads no record. The number is tested and not proved, since a list doesn't tell its callers how much
+    /// room it has.
+    ///
+    ///     Records::new(Global, 2).memory() == 0
+    pub fn memory(&self) -> u64 {
+        let page = mem::size_of::<Page>() as u64;
+        let places = (self.pages.capacity() as u64).wrapping_mul(page);
+        let mut total = places.wrapping_add(self.turns.bytes());
+        for page in &self.pages {
+            total = total.wrapping_add(page.bytes());
+        }
+        total
     }
 
     /// Does nothing: it tells a caller's proof that no free place is lost, and that no page stands without a record.

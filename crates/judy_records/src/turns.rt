@@ -7,6 +7,7 @@ ghost use Rattle.judy_records.specs.Kinds.{full, roomy, gone, kind_of, first_of,
 
 use std::alloc::{AllocError, Global};
 use std::marker::Model;
+use std::mem::size_of;
 
 // The page whose turn it is at this place of the row, and beside it the turn of the page of this number.
 #[derive(Clone, Copy)]
@@ -83,6 +84,11 @@ impl Turns {
             full: 0,
             standing: 0,
         }
+    }
+
+    // How many bytes it has asked for: those of the turns that it has room for.
+    pub fn bytes(&self) -> u64 {
+        (self.row.capacity() as u64).wrapping_mul(size_of::<Turn>() as u64)
     }
 
     // The roomy page that is filled next.
