@@ -13,13 +13,15 @@
 // judy_query; changes, and those that answer the value that was there (values.rt), over judy_change; slots; arrays made
 // at once of keys that ascend (sorted.rt, in src too); fronts of such lists put in (fronts.rt, and filling.rt in src,
 // arrays that are filled by keys that ascend); and the law of what every array keeps (kept.rt). laws.rt has laws of
-// nodes, and error.rt has why an insert is refused. iter.rt has the iterators, and how an array is printed.
+// nodes, and error.rt has why an insert is refused. iter.rt has the iterators, and how an array is printed; memory.rt
+// how many bytes of memory one has asked for.
 #![tactic(auto)]
 
 mod error;
 mod filling;
 mod iter;
 mod laws;
+mod memory;
 mod sorted;
 mod tree_array;
 mod word_array;
