@@ -6,8 +6,9 @@
 //! which has the texts of one length in words, or the longer ones. To contracts a `Tails` is a `TailLists`: what stands
 //! at each place.
 //!
-//! tails.rt has all tails, short.rt the lists by length, long.rt the longer ones, tail.rt one tail as it is read, and
-//! writer.rt where a key is written byte behind byte, and handed out.
+//! tails.rt has all tails, short.rt the lists by length, long.rt the longer ones, and the folders of these names how
+//! many bytes of memory each has asked for. tail.rt has one tail as it is read, and writer.rt where a key is written
+//! byte behind byte, and handed out.
 #![tactic(auto)]
 
 mod long;

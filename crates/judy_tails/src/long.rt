@@ -7,6 +7,8 @@ ghost use Rattle.judy_records.specs.Texts.{IsText};
 ghost use Rattle.judy_tails.specs.Places.{text_of};
 ghost use Rattle.judy_tails.specs.Long.{tail_at, Updates};
 
+mod memory;
+
 use crate::tail::Tail;
 use judy_records::{Record, record_of};
 use slab::Slab;

@@ -8,6 +8,8 @@ ghost use Rattle.judy_records.specs.Texts.{IsText, words_for};
 ghost use Rattle.judy_tails.specs.Places.{text_of};
 ghost use Rattle.judy_tails.specs.Short.{tail_at, list_for, next_place, HasFree, no_tails, Updates, SameTails};
 
+mod memory;
+
 use crate::tail::Tail;
 use judy_records::{Records, words_for};
 use std::alloc::{AllocError, Global};

@@ -8,6 +8,8 @@ ghost use Rattle.judy_records.specs.Texts.{IsText};
 ghost use Rattle.judy_tails.specs.Places.{text_of};
 ghost use Rattle.judy_tails.specs.Tails.{is_long, tail_at, next_place, HasFree, no_tails, Updates, SameTails};
 
+mod memory;
+
 use crate::long::LongTails;
 use crate::short::ShortTails;
 use crate::tail::Tail;
