@@ -9,6 +9,8 @@ ghost use Rattle.judy_model.specs.Keys.{IsWord, word_order};
 ghost use Rattle.judy_model.specs.Arrays.{ArrayOf, IsArrayOf};
 ghost use Rattle.judy_sl.specs.LevelLists.{parts_of, keys_in, words_in, with_keys};
 
+mod memory;
+
 use judy_word::WordMap;
 use slab::Slab;
 use std::alloc::{AllocError, Global};

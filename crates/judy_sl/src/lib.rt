@@ -18,7 +18,8 @@
 //! those that a way passes (passed.rt), counts.rt what is counted by that, firsts.rt how many keys begin with each
 //! first piece, lists.rt the same behind wide levels, and nth.rt which key stands at a place. reader.rt reads such a
 //! key where it stands, and text_reader.rt what is left of it in a tail. sorted.rt and planting.rt have arrays made at
-//! once of strings that ascend, kept.rt what every array keeps, and laws.rt laws of pieces.
+//! once of strings that ascend, kept.rt what every array keeps, memory.rt how many bytes of memory one has asked for,
+//! and laws.rt laws of pieces.
 #![tactic(auto)]
 
 mod ahead;
@@ -39,6 +40,7 @@ mod level;
 mod level_list;
 mod lists;
 mod measure;
+mod memory;
 mod moves;
 mod nearest_slots;
 mod nth;
