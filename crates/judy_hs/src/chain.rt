@@ -8,7 +8,10 @@ ghost use Rattle.judy_hs.specs.Listed.{entries_in};
 ghost use Rattle.judy_hs.specs.Values.{AreWords};
 ghost use Rattle.judy_model.specs.Keys.{IsWord};
 
+mod memory;
+
 use crate::entry::{HsEntry, HsKey};
+pub use memory::tree_bytes;
 use std::alloc::{AllocError, Global};
 use std::collections::BTreeMap;
 use std::marker::Model;

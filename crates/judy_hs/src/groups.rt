@@ -12,6 +12,8 @@ ghost use Rattle.judy_hs.specs.Keyed.{IsFreeGroup};
 ghost use Rattle.judy_hs.specs.Relaid.{AreRelaid};
 ghost use Rattle.judy_places.specs.Places.{NoneLost, IsNextPlace};
 
+mod memory;
+
 use crate::entry::HsEntry;
 use crate::error::HsError;
 use crate::group::{GroupPlace, Inside};

@@ -8,6 +8,8 @@ ghost use Rattle.judy_model.specs.Arrays as array;
 ghost use Rattle.judy_hs.specs.Kept.{map_of};
 ghost use Rattle.judy_hs.specs.Found.{StandsAt};
 
+mod memory;
+
 use crate::entry::HsEntry;
 use crate::error::HsError;
 use crate::groups::{Groups, KeyPlace};

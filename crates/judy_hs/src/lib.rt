@@ -12,7 +12,8 @@
 //! decide. An insert (insert.rt) is tried as that of a new key where the last one was (trial.rt), and once more where
 //! it was refused memory and records can move together. A record that goes to another place is copied to the stack
 //! meanwhile (spare.rt). judyhs.rt has the array, entry.rt its entries as a list has them, and error.rt why an insert
-//! is refused.
+//! is refused. memory.rt in the folders of judyhs.rt, groups.rt, long_group.rt and chain.rt has how many bytes of
+//! memory each has asked for.
 #![tactic(auto)]
 
 mod chain;

@@ -13,6 +13,8 @@ ghost use Rattle.judy_hs.specs.LongRecords.{IsSpelled, others_at, pairs_of};
 ghost use Rattle.judy_hs.specs.Chains.{value_in};
 ghost use Rattle.judy_hs.specs.Listed.{entries_in};
 
+mod memory;
+
 use crate::chain::{Chain, word_law};
 use crate::entry::{HsEntry, HsKey, sort_from};
 use crate::shared::{join, leave, take_first};
