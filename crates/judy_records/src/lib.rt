@@ -22,6 +22,6 @@ mod turns;
 mod words;
 
 pub use record::Record;
-pub use records::Records;
+pub use records::{MOST_STEPS, Records};
 pub use text::record_of;
 pub use words::{first_word, fresh_word, words_for};

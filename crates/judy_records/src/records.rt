@@ -39,6 +39,11 @@ impl Model for Records {
     ghost invariant = { AreRecords };
 }
 
+/// A walk that is to bring records together, where memory was refused, takes at most so many steps for each record that
+/// went since the last one. So calls that are refused one after another, with few records taken out between them, take
+/// no walk each. (This project's own.)
+pub const MOST_STEPS: u64 = 32;
+
 // The most places that a list has, so that each is a word.
 const MOST: usize = 288_230_376_151_711_744;
 
@@ -228,12 +233,6 @@ impl Records {
     {
         let (number, _) = locate(self.shift, place);
         self.turns.is_spare(number)
-    }
-
-    /// Whether more than one page has a free place, so that records may go together. It reads no page. No contract says
-    /// so: a caller whose proof relies on it has none.
-    pub fn are_spare(&self) -> bool {
-        self.turns.are_spare()
     }
 
     /// Puts a record in the place of the one that stands there. Its text takes as many words as each does here. It asks

@@ -132,11 +132,6 @@ impl Turns {
         self.full < turn && turn < self.standing
     }
 
-    // Whether more than one page is roomy. No contract says so.
-    pub fn are_spare(&self) -> bool {
-        self.standing.saturating_sub(self.full) > 1
-    }
-
     // A roomy page has become full.
     pub fn fill(&mut self, page: usize)
         requires within { page < length self.old.kinds }

@@ -86,16 +86,6 @@ impl ShortTails {
         list.is_spare((place / 256) as usize)
     }
 
-    // Whether some list has more than one page with a free place. No contract says so.
-    pub fn are_spare(&self) -> bool {
-        for list in self.lists.iter() {
-            if list.are_spare() {
-                return true;
-            }
-        }
-        false
-    }
-
     // The place that the next text of so many bytes takes.
     pub fn next_place(&self, bytes: usize) -> u64
         requires { bytes ≤ LONGEST_KEY }

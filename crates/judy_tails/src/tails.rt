@@ -108,12 +108,6 @@ impl Tails {
         self.short.is_spare(place)
     }
 
-    /// Whether of some length more than one page has a free place, so that tails may go together. It reads no page. No
-    /// contract says so: a caller whose proof relies on it has none.
-    pub fn are_spare(&self) -> bool {
-        self.short.are_spare()
-    }
-
     /// The place that the next text of so many bytes takes.
     pub fn next_place(&self, bytes: usize) -> u64
         ensures { result ≡ next_place self.now bytes }
