@@ -1,15 +1,17 @@
 /* What shrink leaves of maps of strings from which most keys went: the same keys, and no pages but full ones and one of
  * each length. Beside these the trees of words by which keys are found keep room, some bytes for each key that there
  * was. No call for memory is answered meanwhile. And what an insert does itself that is refused memory: it shrinks the
- * map, and is tried once more. */
+ * map, where enough keys went since that was last done, and is tried once more. */
 #include <string.h>
+#include <time.h>
 
 #include "../sellumaq.h"
 #include "check.h"
 #include "refusing.h"
 
-/* ROOM is for how many bytes a key, CAP how many bytes a map may take that is filled. */
-enum { MOST = 40000, LONGEST = 1100, ROOM = 8, CAP = 4 << 20 };
+/* ROOM is for how many bytes a key, CAP how many bytes a map may take that is filled. So many inserts are REFUSED, in
+ * less time than each key takes to be looked up LOOKS times. */
+enum { MOST = 40000, LONGEST = 1100, ROOM = 8, CAP = 4 << 20, REFUSED = 1000, LOOKS = 10 };
 
 typedef struct {
     const char *name;
@@ -175,6 +177,38 @@ static void filled_again(const Kind *kind, size_t length, size_t other) {
     CHECK(held == blocks);
 }
 
+/* How long it takes to look up each of so many keys, several times. */
+static clock_t looked_up(const Kind *kind, const void *map, size_t length, unsigned keys) {
+    uint8_t key[LONGEST];
+    uint64_t value;
+    clock_t begin = clock();
+    for (unsigned look = 0; look < LOOKS; look++)
+        for (unsigned n = 0; n < keys; n++)
+            CHECK(kind->get(map, key, key_of(n, length, key), &value) && value == n);
+    return clock() - begin;
+}
+
+/* One key of another page goes before each insert that is refused. Those inserts shrink the map once at most: one that
+ * did so each time would walk all keys, a thousand times. */
+static void refused_between_deletes(const Kind *kind, size_t length, size_t other) {
+    void *map[1] = {NULL};
+    uint8_t key[LONGEST];
+    long blocks = held;
+    for (unsigned n = 0; n < MOST; n++)
+        CHECK(kind->put(map, key, key_of(n, length, key), n) == SELLUMAQ_ADDED);
+    clock_t most = looked_up(kind, map, length, MOST), begin = clock();
+    for (unsigned n = 0; n < REFUSED; n++) {
+        CHECK(kind->del(map, key, key_of(n * (MOST / REFUSED), length, key)));
+        answered = 0;
+        CHECK(kind->put(map, key, key_of(n, other, key), n) == SELLUMAQ_NO_MEMORY);
+        answered = -1;
+    }
+    CHECK(clock() - begin < most);
+    CHECK(kind->len(map) == MOST - REFUSED);
+    CHECK(kind->free(map) == MOST - REFUSED);
+    CHECK(held == blocks);
+}
+
 int main(void) {
     static Spell *const spells[] = {digits, lengths, pairs};
     static const Kind *const kinds[] = {&judysl, &judyhs};
@@ -191,5 +225,7 @@ int main(void) {
             }
     filled_again(&judyhs, 16, 15);
     filled_again(&judysl, 24, 16);
+    refused_between_deletes(&judyhs, 16, 15);
+    refused_between_deletes(&judysl, 24, 16);
     return 0;
 }

@@ -97,14 +97,17 @@ fn insert_counted(
     Ok(made)
 }
 
-// Adds a key for which memory was refused, where tails that go together may give some back. It is no part of its
-// caller.
+// Adds a key for which memory was refused, where tails go together (`settle_again`), so that some comes back. It is no
+// part of its caller.
+#[cold]
 #[inline(never)]
 fn insert_again(
     arena: &mut Arena,
     firsts: &mut Sums,
     lists: &mut LevelSums,
     key: &[u8],
+    count: u64,
+    gone: &mut u64,
 ) -> Result<Place, AllocError>
     requires is_arena { IsArena arena.old }
     requires counted { AreCounted arena.old }
@@ -120,18 +123,17 @@ fn insert_again(
     ensures firsts { AreFirsts (map_of arena.new) firsts.new }
     ensures listed { AreListed (world_of arena.new) lists.new }
 {
-    if !arena.tails.are_spare() {
+    if !arena.settle_again(count, gone) {
         return Err(AllocError);
     }
-    arena.settle_all();
     let mut passed = Number::none();
     let way = arena.walk(key, &mut passed);
     insert_counted(arena, firsts, lists, key, way, passed.noted())
 }
 
 // Adds a key that isn't there, with the value 0, and counts it everywhere. Where memory is refused it is asked for once
-// more, once tails have gone together, if that may give some back; and where it is refused then, tails may stand
-// elsewhere.
+// more, if tails go together then; and where it is refused again, tails may stand elsewhere. It is told how many keys
+// there are, and how many went since tails last went together.
 #[inline(always)]
 pub fn insert(
     arena: &mut Arena,
@@ -140,6 +142,8 @@ pub fn insert(
     key: &[u8],
     way: Way,
     passed: Noted<'_>,
+    count: u64,
+    gone: &mut u64,
 ) -> Result<Place, AllocError>
     requires is_arena { IsArena arena.old }
     requires counted { AreCounted arena.old }
@@ -159,7 +163,7 @@ pub fn insert(
 {
     match insert_counted(arena, firsts, lists, key, way, passed) {
         Ok(made) => Ok(made),
-        Err(_) => insert_again(arena, firsts, lists, key),
+        Err(_) => insert_again(arena, firsts, lists, key, count, gone),
     }
 }
 

@@ -17,6 +17,7 @@ ghost use Rattle.judy_sl.specs.WorldInvariants.{AllLed};
 ghost use Rattle.judy_sl.specs.Counted.{AreCounted, AreCountedBut};
 ghost use Rattle.judy_sl.specs.Firsts.{beginning};
 ghost use Rattle.judy_sl.specs.Listed.{StaysLed};
+ghost use Rattle.judy_sl.specs.Settled.{IsSettled};
 ghost use Rattle.judy_sl.specs.Grown.{IsPut, IfShown, IsHung, AreHung, HasTwig, IsTwigText, IsSound, IsGraft, IsGrafted, IsAdded, IsSame};
 ghost use Rattle.judy_model.specs.declared.keys.TheConstants.{LONGEST_STRING};
 ghost use Rattle.judy_sl.specs.Strings.{IsString};
@@ -178,13 +179,15 @@ impl Arena {
         }
     }
 
-    // The same; but where memory is refused, and may come back where tails go together, it answers that the key is to
-    // be looked up.
+    // The same; but where memory is refused and tails go together (`settle_again`), so that some comes back, it answers
+    // that the key is to be looked up. It is told how many keys there are, and how many went since that was last done.
     #[inline(always)]
     pub fn try_first<L: KeyLength>(
         &mut self,
         key: &[u8],
         tries: bool,
+        count: u64,
+        gone: &mut u64,
     ) -> Result<Option<Place>, AllocError>
         requires is_arena { IsArena self.old }
         requires counted { AreCounted self.old }
@@ -198,13 +201,13 @@ impl Arena {
         ensures first { IfOk result
             (λ found. IfSome found (λ place. beginning (map_of self.old) (piece_of key.now) ≡ 0)) }
         ensures stays { IfOk result (λ found. IsSome found → StaysLed self.old self.new) }
-        ensures open { IfOk result (λ found. found ≡ None → IsSame self.old self.new) }
-        ensures refused { OnErr result (IsSame self.old self.new) }
+        ensures open { IfOk result (λ found. found ≡ None → IsSettled self.old self.new) }
+        ensures refused { OnErr result (IsSettled self.old self.new) }
     {
         match self.try_add::<L>(key, tries) {
             Ok(found) => Ok(found),
             Err(error) => {
-                if self.tails.are_spare() {
+                if self.settle_again(count, gone) {
                     Ok(None)
                 } else {
                     Err(error)

@@ -1,6 +1,6 @@
 //! The array that maps keys without zero bytes to words.
 
-ghost use Rattle.std.specs.Prelude.{◌≡◌, ◌+◌, ◌*◌, ◌<◌, ◌≤◌, ◌↔◌, length, Some, IfOk, OnOk, IfErr, IsTrue, IsFalse};
+ghost use Rattle.std.specs.Prelude.{◌≡◌, ◌+◌, ◌*◌, ◌<◌, ◌≤◌, ◌↔◌, max, length, Some, IfOk, OnOk, IfErr, IsTrue, IsFalse};
 ghost use Rattle.std.specs.Borrow.{sem};
 ghost use Rattle.std.specs.FinMap as map;
 ghost use Rattle.std.specs.Option.{option_copied_mut};
@@ -26,6 +26,8 @@ pub struct StringsOf<L: KeyLength> {
     count: u64,
     // No key has more bytes.
     longest: usize,
+    // How many keys went since tails last went together.
+    pub(crate) gone: u64,
     pub(crate) arena: Arena,
     // How many keys begin with each first piece, less one.
     pub(crate) firsts: Sums,
@@ -66,6 +68,16 @@ impl<L: KeyLength> Model for StringsOf<L> {
         × AreListed (world_of a.arena) a.lists };
 }
 
+// Raises a length to that of a key, if it is longer. Few keys are, so the test is nearly never true.
+#[inline(always)]
+fn lengthen(longest: &mut usize, len: usize)
+    ensures { longest.new ≡ max longest.old len }
+{
+    if len > *longest {
+        *longest = len;
+    }
+}
+
 impl<L: KeyLength> StringsOf<L> {
     ghost use Rattle.judy_sl.specs.Lends.{LendsSlot, LendsIns};
     ghost use Rattle.judy_sl.specs.Refusals.{IsRefusal};
@@ -85,6 +97,7 @@ impl<L: KeyLength> StringsOf<L> {
             limit,
             count: 0,
             longest: 0,
+            gone: 0,
             arena: Arena::new(alloc),
             firsts: Sums::new(alloc),
             lists: LevelSums::new(alloc),
@@ -107,6 +120,7 @@ impl<L: KeyLength> StringsOf<L> {
             limit,
             count,
             longest,
+            gone: 0,
             arena,
             firsts,
             lists,
@@ -122,6 +136,10 @@ impl<L: KeyLength> StringsOf<L> {
     /// limit (both limits are this project's own). `NoMemory` only where they are an absent one and the array isn't
     /// full.
     /// Each leaves the array as it was.
+    ///
+    /// Where memory is refused, what is left of keys moves together as by `shrink`, if at least one key went since the
+    /// last time for each 32 keys and levels that are there. Where something moved, the insert is tried again. (This
+    /// project's own.)
     pub fn ins(&mut self, key: &[u8]) -> Result<&mut u64, SlError>
         ensures* writes_back { sem 𝓛 (LendsIns L.row L.KeyLength self.entry key.now result) }
         ensures value { IfOk result
@@ -154,9 +172,12 @@ impl<L: KeyLength> StringsOf<L> {
         ensures refused { IfErr result (IsRefusal L.IsKey self.old key.now) }
     {
         let tries = self.expects_new & (self.count != self.limit);
-        if let Some(place) = self.arena.try_first::<L>(key, tries)? {
+        if let Some(place) = self
+            .arena
+            .try_first::<L>(key, tries, self.count, &mut self.gone)?
+        {
             self.count += 1;
-            self.longest = self.longest.max(key.len());
+            lengthen(&mut self.longest, key.len());
             self.added = true;
             return Ok(self.arena.lend(place));
         }
@@ -182,9 +203,11 @@ impl<L: KeyLength> StringsOf<L> {
                     key,
                     way,
                     passed,
+                    self.count,
+                    &mut self.gone,
                 )?;
                 self.count += 1;
-                self.longest = self.longest.max(key.len());
+                lengthen(&mut self.longest, key.len());
                 let first = way.ends_first();
                 self.expects_new = first | self.added;
                 self.added = first;
@@ -235,6 +258,7 @@ impl<L: KeyLength> StringsOf<L> {
         let found = firsts::del(&mut self.arena, &mut self.firsts, &mut self.lists, key);
         if found {
             self.count -= 1;
+            self.gone = self.gone.wrapping_add(1);
             self.give_back();
         }
         found
@@ -309,6 +333,7 @@ impl<L: KeyLength> StringsOf<L> {
         self.lists = LevelSums::new(alloc);
         self.count = 0;
         self.longest = 0;
+        self.gone = 0;
         freed
     }
 }
@@ -323,6 +348,7 @@ impl JudySl {
             limit,
             count,
             longest,
+            gone,
             arena,
             firsts,
             lists,
@@ -334,6 +360,7 @@ impl JudySl {
             limit,
             count,
             longest,
+            gone,
             arena,
             firsts,
             lists,

@@ -191,7 +191,9 @@ impl Arena {
     }
 
     // Counts a key in at the list of a level on its way, or out. Where memory is refused the level has no list. Of a
-    // key that comes it is told whether others begin with its next piece.
+    // key that comes it is told whether others begin with its next piece. It is told to be inlined: a call for each
+    // level is dear.
+    #[inline(always)]
     fn list_key(&self, lists: &mut LevelSums, at: u64, rest: &[u8], comes: bool, beside: bool)
         requires is_arena { IsArena self.now }
         requires counted { AreCounted self.now }

@@ -1,6 +1,7 @@
 //! How tails go from pages with free places to other such pages, so that the memory of pages that are left goes back.
 
-ghost use Rattle.std.specs.Prelude.{◌≡◌};
+ghost use Rattle.std.specs.Prelude.{◌≡◌, ◌<◌, ◌≤◌, ◌+◌, ◌*◌, IsFalse};
+ghost use Rattle.judy_records.specs.declared.records.TheConstants.{MOST_STEPS};
 ghost use Rattle.judy_sl.specs.World.{level};
 ghost use Rattle.judy_sl.specs.Arenas.{world_of};
 ghost use Rattle.judy_sl.specs.Places.{IsLevelPlace};
@@ -13,6 +14,7 @@ use crate::grow::MOST;
 use crate::judysl::StringsOf;
 use crate::keys::KeyLength;
 use judy_model::keys::LONGEST_KEY;
+use judy_records::MOST_STEPS;
 use judy_word::WordMap;
 
 impl Arena {
@@ -35,18 +37,21 @@ impl Arena {
         }
     }
 
-    // Moves what stands at a place, to which an entry leads, where it is a tail in a spare page.
-    fn settle(&mut self, from: Place, at: u64)
+    // Moves what stands at a place, to which an entry leads, where it is a tail in a spare page, and says whether it
+    // was.
+    fn settle(&mut self, from: Place, at: u64) -> bool
         requires kept { IsKept self.old }
         requires entry { IsEntry self.old from at }
         ensures { IsSettled self.old self.new }
     {
         if is_level(at) {
-            return;
+            return false;
         }
-        if self.tails.is_spare(at) {
-            self.move_tail(from, at);
+        if !self.tails.is_spare(at) {
+            return false;
         }
+        self.move_tail(from, at);
+        true
     }
 
     // The entries of the first level, or of the level of a child.
@@ -60,8 +65,9 @@ impl Arena {
         }
     }
 
-    // Settles what the entries of a level lead to, one after another: that of the first, or of a child.
-    fn settle_level(&mut self, child: Option<u64>)
+    // Settles what the entries of a level lead to, one after another: that of the first, or of a child. It says whether
+    // a tail was moved.
+    fn settle_level(&mut self, child: Option<u64>) -> bool
         requires kept { IsKept self.old }
         requires there { IsLevelPlace self.old (place_in child 0) }
         ensures { IsSettled self.old self.new }
@@ -69,29 +75,53 @@ impl Arena {
         let entries = self.entries_of(child);
         let count = entries.len();
         let mut next = entries.array().first_entry(0);
+        let mut moved = false;
         'entries: for _turn in 0..count {
             let Some((piece, at)) = next else {
-                return;
+                return moved;
             };
             if piece % 256 != 0 {
-                self.settle(place_in(child, piece), at);
+                moved |= self.settle(place_in(child, piece), at);
             }
             next = self.entries_of(child).array().next_entry(piece);
         }
+        moved
     }
 
-    // Settles the tails of all levels: a loop over the levels, and in each over its entries.
-    pub fn settle_all(&mut self)
+    // Settles the tails of all levels: a loop over the levels, and in each over its entries. It says whether one was
+    // moved.
+    fn settle_all(&mut self) -> bool
         requires kept { IsKept self.old }
         ensures { IsSettled self.old self.new }
     {
-        self.settle_level(None);
+        let mut moved = self.settle_level(None);
         let end = self.levels.places().min(MOST);
         'levels: for index in 0..end {
             if self.levels.has(index) {
-                self.settle_level(Some(index as u64 * 256 + LEVEL));
+                moved |= self.settle_level(Some(index as u64 * 256 + LEVEL));
             }
         }
+        moved
+    }
+
+    // The same where a walk over its keys, of which there are `count`, and over the places of its levels takes at most
+    // `MOST_STEPS` for each key that has gone since the last one. So calls that are refused memory one after another,
+    // with few keys taken out between them, take no walk each.
+    #[cold]
+    #[inline(never)]
+    pub fn settle_again(&mut self, count: u64, gone: &mut u64) -> bool
+        requires kept { IsKept self.old }
+        ensures settled { IsSettled self.old self.new }
+        ensures dear { MOST_STEPS * gone.old < count
+            → (self.new ≡ self.old) × (gone.new ≡ gone.old) × IsFalse result }
+        ensures due { count + self.old.levels.capacity ≤ MOST_STEPS * gone.old → gone.new ≡ 0 }
+    {
+        let steps = count.saturating_add(self.levels.capacity() as u64);
+        if steps > gone.saturating_mul(MOST_STEPS) {
+            return false;
+        }
+        *gone = 0;
+        self.settle_all()
     }
 }
 
@@ -103,6 +133,7 @@ impl<L: KeyLength> StringsOf<L> {
     pub fn shrink(&mut self)
         ensures { self.new ≡ self.old }
     {
+        self.gone = 0;
         self.arena.settle_all();
     }
 }

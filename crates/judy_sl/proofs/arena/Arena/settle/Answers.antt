@@ -14,7 +14,7 @@ is_spare-requires c =
 pub move_tail-requires-clause-free : goal.move_tail-requires-clause-free
 move_tail-requires-clause-free c =
     spare-tail c.args.self.now c.args.at (sym c.is_level.ensures ∙ c.if-is_level.false)
-    (entry-taken c.args.self.now c.requires.kept.is_arena c.args.from c.args.at c.requires.entry) (c.is_spare.ensures c.if-is_spare.true)
+    (entry-taken c.args.self.now c.requires.kept.is_arena c.args.from c.args.at c.requires.entry) (c.is_spare.ensures c.if-not-is_spare.false)
 
-pub returns-else-is_spare : goal.returns-else-is_spare
-returns-else-is_spare c = settled-start c.args.self.now c.requires.kept
+pub returns-then-not-is_spare : goal.returns-then-not-is_spare
+returns-then-not-is_spare c = settled-start c.args.self.now c.requires.kept

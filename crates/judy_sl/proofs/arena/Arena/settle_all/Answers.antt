@@ -8,6 +8,6 @@ pub levels-preserved : goal.levels-preserved
 levels-preserved c = elim c.if-has.branch [
   | then-has w ↦
       subst (IsSettled c.args.self.now) (sym w.self-is)
-      (settled-then c.args.self.now c.levels.self w.settle_level-then-has.new.self c.levels.invariant w.settle_level-then-has.ensures)
+      (settled-then c.args.self.now c.levels.self w.settle_level-moved-then-has.new.self c.levels.invariant w.settle_level-moved-then-has.ensures)
   | else-has w ↦ subst (IsSettled c.args.self.now) (sym w.self-is) c.levels.invariant
 ]

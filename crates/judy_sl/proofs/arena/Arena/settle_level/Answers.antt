@@ -30,8 +30,8 @@ entries-init c = record {
       c.first_entry-next.result c.first_entry-next.ensures.value;
 }
 
-pub settle-requires-clause-entry : goal.settle-requires-clause-entry
-settle-requires-clause-entry c =
+pub settle-moved-requires-clause-entry : goal.settle-moved-requires-clause-entry
+settle-moved-requires-clause-entry c =
     subst (λ (place : Place). IsEntry c.entries.self place c.in-Some.at) (sym c.place_in.ensures)
     (stands-entry c.entries.self c.args.child c.in-Some.piece c.in-Some.at (λ e. omega (arith, e, c.if-piece-ne0.true))
     (c.entries.invariant.next (c.in-Some.piece, c.in-Some.at) c.in-Some.is))
@@ -40,7 +40,7 @@ pub entries-preserved : goal.entries-preserved
 entries-preserved c =
     let settled : IsSettled c.args.self.now c.if-piece-ne0.self = elim c.if-piece-ne0.branch [
       | then-piece-ne0 w ↦
-          subst (IsSettled c.args.self.now) (sym w.self-is) (settled-then c.args.self.now c.entries.self w.settle.new.self c.entries.invariant.settled w.settle.ensures)
+          subst (IsSettled c.args.self.now) (sym w.self-is) (settled-then c.args.self.now c.entries.self w.settle-moved.new.self c.entries.invariant.settled w.settle-moved.ensures)
       | else-piece-ne0 w ↦ subst (IsSettled c.args.self.now) (sym w.self-is) c.entries.invariant.settled
     ] in record {
       settled = settled;

@@ -12,19 +12,18 @@ use Rattle.judy_sl.specs.Ways.{levels_passed}
 use Rattle.judy_sl.specs.Counted.{AreCounted}
 use Rattle.judy_sl.specs.Firsts.{AreFirsts}
 use Rattle.judy_sl.specs.Listed.{AreListed}
-use Rattle.judy_sl.proofs.lemmas.counts.FirstWays.{firsts_slot, firsts_same, added_first}
+use Rattle.judy_sl.proofs.lemmas.counts.FirstWays.{firsts_slot, added_first}
 use Rattle.judy_sl.proofs.lemmas.counts.CountedWrites.{counted_written}
 use Rattle.judy_sl.proofs.lemmas.pieces.PieceLemmas.{text_of_key}
 use Rattle.judy_sl.proofs.lemmas.seats.Maps.{get-map}
 use Rattle.judy_sl.proofs.lemmas.counts.PassedLevels.{passed-few}
 use Rattle.judy_sl.proofs.lemmas.seats.Keeping.{get-there, strings-written, array-written}
 use Rattle.judy_sl.proofs.lemmas.inserts.Inserted.{is-new, way-none, there-not_full, there-value, absent-full, absent-room, tried-room, strings-added, array-added, added-value}
-use Rattle.judy_sl.proofs.lemmas.inserts.Inserted.{strings-same, array-same}
 use Rattle.judy_sl.proofs.lemmas.inserts.Written.{value-there}
 use Rattle.judy_sl.proofs.lemmas.moves.Settled.{settled-strings, settled-firsts, settled-listed}
-use Rattle.judy_sl.proofs.lemmas.moves.Tries.{same_settled, settled_array}
+use Rattle.judy_sl.proofs.lemmas.moves.Tries.{settled_array}
 use Rattle.judy_sl.proofs.lemmas.pieces.Strings.{string_of_key, key-within, key_of_string}
-use Rattle.judy_sl.proofs.lemmas.counts.ListWrites.{listed_same, listed_tried, listed_slot}
+use Rattle.judy_sl.proofs.lemmas.counts.ListWrites.{listed_tried, listed_slot}
 use Rattle.judy_sl.proofs.judysl.StringsOf.ins_noted.Goals as goal
 
 -- ---- put in by one way down
@@ -38,7 +37,7 @@ invariant_of-self-lent g c w =
     let added = rw c.in-Some.is at c.in_ok-place.ensures.added in
     let room = tried-room c.self.inside.expects_new c.self.inside.count c.self.inside.limit tried in
     let after = strings-added _ _ _ c.self.invariant.0 c.args.key.now key none c.try_first.new.self c.in-Some.place added room _
-    (c.max-self-inside.ensures) (key-within g.L.KeyLength c.args.key.now is_key) in
+    (c.lengthen.ensures) (key-within g.L.KeyLength c.args.key.now is_key) in
     let nothing = rw c.in-Some.is at c.in_ok-place.ensures.first in
     let stays = (rw c.in-Some.is at c.in_ok-place.ensures.stays) refl in
     let firsts = added_first c.self.inside.arena c.try_first.new.self c.args.key.now key none c.self.inside.firsts c.self.invariant.2 nothing c.in-Some.place added in (
@@ -72,19 +71,19 @@ returns-in-Some g c =
     )
 
 pub invariant_of-self : goal.invariant_of-self
-invariant_of-self g c = (
-  strings-same _ _ _ c.self.invariant.0 c.args.key.now (string_of_key g.L.KeyLength c.args.key.now c.in_err-place.ensures.key) c.try_first.new.self c.in_err-place.ensures.refused,
-  c.in_err-place.ensures.counted,
-  firsts_same c.self.inside.arena c.try_first.new.self c.in_err-place.ensures.refused c.self.inside.firsts c.self.invariant.2,
-  listed_same c.self.inside.arena c.try_first.new.self c.in_err-place.ensures.refused c.self.inside.lists c.self.invariant.3,
-)
+invariant_of-self g c =
+    let settled = c.in_err-place.ensures.refused in (
+      settled-strings c.self.inside.arena c.try_first.new.self settled c.self.inside.limit c.self.inside.count c.self.invariant.0,
+      settled.kept.counted,
+      settled-firsts c.self.inside.arena c.try_first.new.self settled c.self.inside.firsts c.self.invariant.2,
+      settled-listed c.self.inside.arena c.try_first.new.self settled c.self.inside.lists c.self.invariant.3,
+    )
 
 -- ---- there
 
 pub invariant_of-self-lent-in-At : goal.invariant_of-self-lent-in-At
 invariant_of-self-lent-in-At g c w =
-    let settled = same_settled c.self.inside.arena c.try_first.new.self (record { is_arena = c.self.invariant.0.is_arena; led = c.self.invariant.0.led; counted = c.self.invariant.1 })
-    (c.in_ok-place.ensures.open c.in_default.is) in
+    let settled = c.in_ok-place.ensures.open c.in_default.is in
     let is = settled-strings c.self.inside.arena c.try_first.new.self settled c.self.inside.limit c.self.inside.count c.self.invariant.0 in
     let key = c.in-At.ensures.there c.in-At.place refl in
     let found = c.in-At.ensures.way (text_of_key _ key) in
@@ -99,8 +98,7 @@ invariant_of-self-lent-in-At g c w =
 
 pub returns-in-At : goal.returns-in-At
 returns-in-At g c =
-    let settled = same_settled c.self.inside.arena c.try_first.new.self (record { is_arena = c.self.invariant.0.is_arena; led = c.self.invariant.0.led; counted = c.self.invariant.1 })
-    (c.in_ok-place.ensures.open c.in_default.is) in
+    let settled = c.in_ok-place.ensures.open c.in_default.is in
     let is = settled-strings c.self.inside.arena c.try_first.new.self settled c.self.inside.limit c.self.inside.count c.self.invariant.0 in
     let view = settled_array c.self.inside.arena c.try_first.new.self c.self.invariant.0.is_arena settled c.self.inside.limit ∙ c.self.view_is in
     let key = c.in-At.ensures.there c.in-At.place refl in
@@ -122,8 +120,7 @@ returns-in-At g c =
 
 pub invariant_of-self-then-not-is_key_of : goal.invariant_of-self-then-not-is_key_of
 invariant_of-self-then-not-is_key_of g c =
-    let settled = same_settled c.self.inside.arena c.try_first.new.self (record { is_arena = c.self.invariant.0.is_arena; led = c.self.invariant.0.led; counted = c.self.invariant.1 })
-    (c.in_ok-place.ensures.open c.in_default.is) in (
+    let settled = c.in_ok-place.ensures.open c.in_default.is in (
       settled-strings c.self.inside.arena c.try_first.new.self settled c.self.inside.limit c.self.inside.count c.self.invariant.0,
       settled.kept.counted,
       settled-firsts c.self.inside.arena c.try_first.new.self settled c.self.inside.firsts c.self.invariant.2,
@@ -132,8 +129,7 @@ invariant_of-self-then-not-is_key_of g c =
 
 pub invariant_of-self-then-self : goal.invariant_of-self-then-self
 invariant_of-self-then-self g c =
-    let settled = same_settled c.self.inside.arena c.try_first.new.self (record { is_arena = c.self.invariant.0.is_arena; led = c.self.invariant.0.led; counted = c.self.invariant.1 })
-    (c.in_ok-place.ensures.open c.in_default.is) in (
+    let settled = c.in_ok-place.ensures.open c.in_default.is in (
       settled-strings c.self.inside.arena c.try_first.new.self settled c.self.inside.limit c.self.inside.count c.self.invariant.0,
       settled.kept.counted,
       settled-firsts c.self.inside.arena c.try_first.new.self settled c.self.inside.firsts c.self.invariant.2,
@@ -142,8 +138,7 @@ invariant_of-self-then-self g c =
 
 pub returns-then-self : goal.returns-then-self
 returns-then-self g c =
-    let settled = same_settled c.self.inside.arena c.try_first.new.self (record { is_arena = c.self.invariant.0.is_arena; led = c.self.invariant.0.led; counted = c.self.invariant.1 })
-    (c.in_ok-place.ensures.open c.in_default.is) in
+    let settled = c.in_ok-place.ensures.open c.in_default.is in
     let is = settled-strings c.self.inside.arena c.try_first.new.self settled c.self.inside.limit c.self.inside.count c.self.invariant.0 in
     let view = settled_array c.self.inside.arena c.try_first.new.self c.self.invariant.0.is_arena settled c.self.inside.limit ∙ c.self.view_is in
     let is_key = c.is_key_of.ensures.0 c.if-not-is_key_of.false in
@@ -154,8 +149,7 @@ returns-then-self g c =
 
 pub invariant_of-self-in-Break-branch-3 : goal.invariant_of-self-in-Break-branch-3
 invariant_of-self-in-Break-branch-3 g c =
-    let settled = same_settled c.self.inside.arena c.try_first.new.self (record { is_arena = c.self.invariant.0.is_arena; led = c.self.invariant.0.led; counted = c.self.invariant.1 })
-    (c.in_ok-place.ensures.open c.in_default.is) in
+    let settled = c.in_ok-place.ensures.open c.in_default.is in
     let is = settled-strings c.self.inside.arena c.try_first.new.self settled c.self.inside.limit c.self.inside.count c.self.invariant.0 in
     let refused = c.in_err-made-in_default-walk.ensures.refused in (
       settled-strings c.try_first.new.self c.insert.new.arena refused c.self.inside.limit c.self.inside.count is,
@@ -176,14 +170,13 @@ returns-in_err-place g c =
     let none = c.in_err-place.ensures.absent in
     let room = tried-room c.self.inside.expects_new c.self.inside.count c.self.inside.limit c.in_err-place.ensures.tried in
     rw (no_memory c.from_residual.result c.from_residual.ensures.1) (
-      ap (λ a. inr a) (array-same _ _ _ c.self.invariant.0 c.args.key.now key c.try_first.new.self c.in_err-place.ensures.refused ∙ c.self.view_is),
+      ap (λ a. inr a) (settled_array c.self.inside.arena c.try_first.new.self c.self.invariant.0.is_arena c.in_err-place.ensures.refused c.self.inside.limit ∙ c.self.view_is),
       record { writes_back = tt; value = tt; accepted = tt; refused = rw (← c.self.view_is) (is_key, none, absent-room _ _ _ c.self.invariant.0 c.args.key.now key none room) },
     )
 
 pub returns-in_err-made-in_default-walk : goal.returns-in_err-made-in_default-walk
 returns-in_err-made-in_default-walk g c =
-    let settled = same_settled c.self.inside.arena c.try_first.new.self (record { is_arena = c.self.invariant.0.is_arena; led = c.self.invariant.0.led; counted = c.self.invariant.1 })
-    (c.in_ok-place.ensures.open c.in_default.is) in
+    let settled = c.in_ok-place.ensures.open c.in_default.is in
     let is = settled-strings c.self.inside.arena c.try_first.new.self settled c.self.inside.limit c.self.inside.count c.self.invariant.0 in
     let view = settled_array c.self.inside.arena c.try_first.new.self c.self.invariant.0.is_arena settled c.self.inside.limit ∙ c.self.view_is in
     let is_key = c.is_key_of.ensures.0 c.if-not-is_key_of.false in
@@ -197,15 +190,14 @@ returns-in_err-made-in_default-walk g c =
 
 pub invariant_of-self-lent-2 : goal.invariant_of-self-lent-2
 invariant_of-self-lent-2 g c w =
-    let settled = same_settled c.self.inside.arena c.try_first.new.self (record { is_arena = c.self.invariant.0.is_arena; led = c.self.invariant.0.led; counted = c.self.invariant.1 })
-    (c.in_ok-place.ensures.open c.in_default.is) in
+    let settled = c.in_ok-place.ensures.open c.in_default.is in
     let is = settled-strings c.self.inside.arena c.try_first.new.self settled c.self.inside.limit c.self.inside.count c.self.invariant.0 in
     let is_key = c.is_key_of.ensures.0 c.if-not-is_key_of.false in
     let key = string_of_key g.L.KeyLength c.args.key.now is_key in
     let none = get-map c.try_first.new.self c.args.key.now key ∙ way-none c.try_first.new.self c.args.key.now c.walk.result (c.walk.ensures.way (text_of_key _ key))
     (is-new c.walk.result c.in_default-walk.not-At) in
     let after = strings-added _ _ _ is c.args.key.now key none c.insert.new.arena c.in_ok-made-in_default-walk.made c.in_ok-made-in_default-walk.ensures.added c.if-self.false _
-    (c.max-self-inside-in_default-walk.ensures) (key-within g.L.KeyLength c.args.key.now is_key) in (
+    (c.lengthen-in_default-walk.ensures) (key-within g.L.KeyLength c.args.key.now is_key) in (
       strings-written _ _ _ after c.args.key.now key c.in_ok-made-in_default-walk.made c.in_ok-made-in_default-walk.ensures.added.found w,
       counted_written c.insert.new.arena c.in_ok-made-in_default-walk.ensures.added.is_arena c.args.key.now c.in_ok-made-in_default-walk.made
           c.in_ok-made-in_default-walk.ensures.added.found w c.insert.ensures.counted,
@@ -215,8 +207,7 @@ invariant_of-self-lent-2 g c w =
 
 pub returns : goal.returns
 returns g c =
-    let settled = same_settled c.self.inside.arena c.try_first.new.self (record { is_arena = c.self.invariant.0.is_arena; led = c.self.invariant.0.led; counted = c.self.invariant.1 })
-    (c.in_ok-place.ensures.open c.in_default.is) in
+    let settled = c.in_ok-place.ensures.open c.in_default.is in
     let is = settled-strings c.self.inside.arena c.try_first.new.self settled c.self.inside.limit c.self.inside.count c.self.invariant.0 in
     let view = settled_array c.self.inside.arena c.try_first.new.self c.self.invariant.0.is_arena settled c.self.inside.limit ∙ c.self.view_is in
     let is_key = c.is_key_of.ensures.0 c.if-not-is_key_of.false in
@@ -240,14 +231,12 @@ returns g c =
 
 pub insert-requires-clause-firsts : goal.insert-requires-clause-firsts
 insert-requires-clause-firsts g c =
-    let settled = same_settled c.self.inside.arena c.try_first.new.self (record { is_arena = c.self.invariant.0.is_arena; led = c.self.invariant.0.led; counted = c.self.invariant.1 })
-    (c.in_ok-place.ensures.open c.in_default.is) in
+    let settled = c.in_ok-place.ensures.open c.in_default.is in
     settled-firsts c.self.inside.arena c.try_first.new.self settled c.self.inside.firsts c.self.invariant.2
 
 pub insert-requires-clause-led : goal.insert-requires-clause-led
 insert-requires-clause-led g c =
-    let settled = same_settled c.self.inside.arena c.try_first.new.self (record { is_arena = c.self.invariant.0.is_arena; led = c.self.invariant.0.led; counted = c.self.invariant.1 })
-    (c.in_ok-place.ensures.open c.in_default.is) in
+    let settled = c.in_ok-place.ensures.open c.in_default.is in
     settled.kept.led
 
 -- The levels that the way passed are noted.
@@ -263,26 +252,22 @@ insert-requires-clause-is_key g c = string_of_key g.L.KeyLength c.args.key.now (
 
 pub insert-requires-clause-listed : goal.insert-requires-clause-listed
 insert-requires-clause-listed g c =
-    let settled = same_settled c.self.inside.arena c.try_first.new.self (record { is_arena = c.self.invariant.0.is_arena; led = c.self.invariant.0.led; counted = c.self.invariant.1 })
-    (c.in_ok-place.ensures.open c.in_default.is) in
+    let settled = c.in_ok-place.ensures.open c.in_default.is in
     settled-listed c.self.inside.arena c.try_first.new.self settled c.self.inside.lists c.self.invariant.3
 
 pub walk-requires-clause-is_arena : goal.walk-requires-clause-is_arena
 walk-requires-clause-is_arena g c =
-    let settled = same_settled c.self.inside.arena c.try_first.new.self (record { is_arena = c.self.invariant.0.is_arena; led = c.self.invariant.0.led; counted = c.self.invariant.1 })
-    (c.in_ok-place.ensures.open c.in_default.is) in
+    let settled = c.in_ok-place.ensures.open c.in_default.is in
     settled.kept.is_arena
 
 pub insert-requires-clause-is_arena : goal.insert-requires-clause-is_arena
 insert-requires-clause-is_arena g c =
-    let settled = same_settled c.self.inside.arena c.try_first.new.self (record { is_arena = c.self.invariant.0.is_arena; led = c.self.invariant.0.led; counted = c.self.invariant.1 })
-    (c.in_ok-place.ensures.open c.in_default.is) in
+    let settled = c.in_ok-place.ensures.open c.in_default.is in
     settled.kept.is_arena
 
 pub insert-requires-clause-few : goal.insert-requires-clause-few
 insert-requires-clause-few g c =
-    let settled = same_settled c.self.inside.arena c.try_first.new.self (record { is_arena = c.self.invariant.0.is_arena; led = c.self.invariant.0.led; counted = c.self.invariant.1 })
-    (c.in_ok-place.ensures.open c.in_default.is) in
+    let settled = c.in_ok-place.ensures.open c.in_default.is in
     let is = settled-strings c.self.inside.arena c.try_first.new.self settled c.self.inside.limit c.self.inside.count c.self.invariant.0 in
     omega (arith, is.counted, is.within_limit, is.limit_fits, c.if-self.false)
 
@@ -293,8 +278,7 @@ lend-requires-in_default-walk g c =
 
 pub returns-then-not-is_key_of : goal.returns-then-not-is_key_of
 returns-then-not-is_key_of g c =
-    let settled = same_settled c.self.inside.arena c.try_first.new.self (record { is_arena = c.self.invariant.0.is_arena; led = c.self.invariant.0.led; counted = c.self.invariant.1 })
-    (c.in_ok-place.ensures.open c.in_default.is) in
+    let settled = c.in_ok-place.ensures.open c.in_default.is in
     let view = settled_array c.self.inside.arena c.try_first.new.self c.self.invariant.0.is_arena settled c.self.inside.limit ∙ c.self.view_is in (
       ap (λ a. inr a) view,
       record { writes_back = tt; value = tt; accepted = tt; refused = λ is. let never = sym (c.is_key_of.ensures.1 is) ∙ c.if-not-is_key_of.true in cc },
