@@ -9,10 +9,7 @@ use crate::groups::{Groups, KeyPlace};
 use crate::hash::ByteHash;
 use crate::part::part_of;
 use crate::trial::Trial;
-
-// A walk over the keys of a length that is to make room takes at most so many steps for each of them that went since
-// the last one. So inserts that are refused one after another, with few deletes between them, take no walk each.
-const MOST_STEPS: u64 = 32;
+use judy_records::MOST_STEPS;
 
 // Where a key stands, and whether it is new there.
 #[derive(Clone, Copy)]
