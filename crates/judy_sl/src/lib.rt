@@ -12,7 +12,8 @@
 //! judysl.rt has the array, and error.rt why an insert is refused. arena.rt has the way of a key, child.rt what
 //! stands behind a piece of it, level_list.rt the levels below the first, level.rt a level as seen from outside,
 //! grow.rt and branches.rt how a key comes in, shrink.rt how one goes, moves.rt how tails go to other pages,
-//! scans.rt the neighbours, measure.rt how long one is, and nearest_slots.rt the nearest key with its slot;
+//! scans.rt the neighbours, turns.rt how they are found, measure.rt how long one is, and nearest_slots.rt the nearest
+//! key with its slot;
 //! cursor.rt and runs.rt have walks that go from key to key by what a level and the one above it still have, some
 //! of which is read ahead (ahead.rt). counted.rt has how levels come to tell how many keys stand behind them, by
 //! those that a way passes (passed.rt), counts.rt what is counted by that, firsts.rt how many keys begin with each
@@ -53,6 +54,7 @@ mod scans;
 mod shrink;
 mod sorted;
 mod text_reader;
+mod turns;
 mod zeros;
 
 pub use cursor::KeyCursor;

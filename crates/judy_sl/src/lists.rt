@@ -139,6 +139,7 @@ impl Arena {
     // Counts a key that has come in behind the level at a place in the level's list. Where others begin with its next
     // piece the list is raised there; else that is a new entry, and a level without a list may get it. The error is
     // want of memory, and then the level has none.
+    #[inline(always)]
     fn list_more(
         &self,
         lists: &mut LevelSums,
@@ -171,6 +172,7 @@ impl Arena {
     }
 
     // Counts a key that has gone no more. Where few keys are left, the list goes too.
+    #[inline(always)]
     fn list_less(&self, lists: &mut LevelSums, at: u64, rest: &[u8])
         requires is_arena { IsArena self.now }
         requires counted { AreCounted self.now }
@@ -191,8 +193,8 @@ impl Arena {
     }
 
     // Counts a key in at the list of a level on its way, or out. Where memory is refused the level has no list. Of a
-    // key that comes it is told whether others begin with its next piece. It is told to be inlined: a call for each
-    // level is dear.
+    // key that comes it is told whether others begin with its next piece. It is told to be inlined, with the two above:
+    // most levels have no list, and a call that finds that out is dear for each of them.
     #[inline(always)]
     fn list_key(&self, lists: &mut LevelSums, at: u64, rest: &[u8], comes: bool, beside: bool)
         requires is_arena { IsArena self.now }

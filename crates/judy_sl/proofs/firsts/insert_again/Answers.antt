@@ -1,9 +1,8 @@
 use Rattle.std.proofs.Common.{◌≡◌, ◌∙◌, ℕ, ◌<◌, sym, ap, subst, arith}
 use Rattle.std.specs.FinMap.{FinMap, len, get}
 use Rattle.judy_model.specs.Keys.{byte_order}
-use Rattle.judy_sl.specs.Arenas.{world_of, map_of}
+use Rattle.judy_sl.specs.Arenas.{world_of}
 use Rattle.judy_sl.specs.Ways.{levels_passed}
-use Rattle.judy_sl.specs.Settled.{IsKept}
 use Rattle.judy_sl.proofs.lemmas.pieces.PieceLemmas.{text_of_key}
 use Rattle.judy_sl.proofs.lemmas.pieces.Exact.{ends-text}
 use Rattle.judy_sl.proofs.lemmas.counts.PassedLevels.{passed-few}

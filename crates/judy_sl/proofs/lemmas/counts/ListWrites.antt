@@ -13,7 +13,7 @@ use Rattle.judy_sl.specs.Arenas.{world_of, map_of, IsArena, IsStrings}
 use Rattle.judy_sl.specs.Behind.{map_behind}
 use Rattle.judy_sl.specs.Places.{place_with}
 use Rattle.judy_sl.specs.Ways.{IsFound, HasValue, seat_of, piece_at, passed_from, levels_passed}
-use Rattle.judy_sl.specs.Grown.{IsAdded, IsSame}
+use Rattle.judy_sl.specs.Grown.{IsAdded}
 use Rattle.judy_sl.specs.Firsts.{beginning, AreFirsts}
 use Rattle.judy_sl.specs.Listed.{place_of, Lists, AreListed, AreListedBut, StaysLed}
 use Rattle.judy_sl.proofs.lemmas.pieces.OnWay.{pieces-head}
@@ -22,7 +22,6 @@ use Rattle.judy_sl.proofs.lemmas.seats.Keeping.{get-there}
 use Rattle.judy_sl.proofs.lemmas.seats.Led.{KeepsEntries, keeps-none, keeps-insert, keeps-set}
 use Rattle.judy_sl.proofs.lemmas.seats.Linked.{node_with, world-with_place}
 use Rattle.judy_sl.proofs.lemmas.seats.Maps.{get-map, len-written}
-use Rattle.judy_sl.proofs.lemmas.inserts.Filled.{world-same}
 use Rattle.judy_sl.proofs.lemmas.inserts.Written.{place-there, written-change}
 use Rattle.judy_sl.proofs.lemmas.counts.KeysBehind.{rest-key}
 use Rattle.judy_sl.proofs.lemmas.counts.PassedLevels.{passed-none}
@@ -37,10 +36,6 @@ use Rattle.judy_sl.specs.Strings.{IsString}
 -- No list is right for any levels.
 pub no_lists : (world : World) (lists : Lists) → lists ≡ [] → AreListed world lists
 no_lists world lists none index list some = absurd (none-some list (sym (ap (λ (row : Lists). list_at row index) none) ∙ some))
-
--- Nothing has changed.
-pub listed_same : (arena same : Arena) → IsSame arena same → (lists : Lists) → AreListed (world_of arena) lists → AreListed (world_of same) lists
-listed_same arena same is lists listed = subst (λ (w : World). AreListed w lists) (sym (world-same arena same is)) listed
 
 -- ---- a key whose first piece was new
 

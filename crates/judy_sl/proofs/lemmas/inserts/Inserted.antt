@@ -4,7 +4,6 @@ use Rattle.std.proofs.lemmas.Bool.{ne_eqb, false≢true}
 use Rattle.std.specs.FinMap.{FinMap, get, len}
 use Rattle.judy_model.specs.Keys.{byte_order}
 use Rattle.judy_model.specs.Arrays.{ins, is_full}
-use Rattle.judy_model.specs.Tables.{table}
 use Rattle.judy_model.proofs.lemmas.maps.Inserts.{get-insert_itself, ins_present, ins_absent, is_full_present, is_full_absent}
 use Rattle.judy_model.proofs.lemmas.maps.TableLemmas.{byte_order_total}
 use Rattle.judy_sl.specs.declared.arena.Arena.{Arena}
@@ -12,19 +11,17 @@ use Rattle.judy_sl.specs.declared.arena.Place.{Place}
 use Rattle.judy_sl.specs.declared.arena.Way.{Way}
 use Rattle.judy_sl.specs.declared.arena.Way.TheVariants.{At, Gap, Clash}
 use Rattle.judy_sl.specs.Pieces.{pieces}
-use Rattle.judy_sl.specs.World.{World, lookup}
-use Rattle.judy_sl.specs.WorldInvariants.{AllLed}
+use Rattle.judy_sl.specs.World.{lookup}
 use Rattle.judy_sl.specs.Arenas.{world_of, map_of, array_of, AreWithin, IsStrings}
 use Rattle.judy_sl.specs.Places.{place_with, place_value}
 use Rattle.judy_sl.specs.Ways.{IsWay, IsNew, IsFound}
-use Rattle.judy_sl.specs.Grown.{IsChange, IsAdded, IsSame}
+use Rattle.judy_sl.specs.Grown.{IsChange, IsAdded}
 use Rattle.judy_sl.specs.Lends.{with_value}
 use Rattle.judy_sl.proofs.lemmas.pieces.Strings.{within-insert, within-more}
 use Rattle.judy_sl.proofs.lemmas.seats.Maps.{map_written, len-added}
-use Rattle.judy_sl.proofs.lemmas.inserts.Filled.{world-same, arena-same}
 use Rattle.judy_sl.proofs.lemmas.inserts.Written.{written-change, found-there, value-there}
 use Rattle.judy_sl.proofs.lemmas.seats.Keeping.{gap-none, clash-none, get-there}
-use Rattle.judy_sl.specs.Strings.{IsString, all_strings}
+use Rattle.judy_sl.specs.Strings.{IsString}
 
 -- ---- the key isn't there
 
@@ -98,23 +95,3 @@ module _ {most longest : ℕ} (limit count : ℕ) (arena : Arena) (is : IsString
           ∙ sym (found-there after added.is_arena key place added.found)
           ∙ added.change.at_key
           ∙ sym absent-ins
-
-  -- Nothing has changed.
-  module _ (same : Arena) (is_same : IsSame arena same) where
-    map-same : map_of same ≡ map_of arena
-    map-same = ap (λ (w : World). table all_strings (λ k. lookup w 0 (pieces k))) (world-same arena same is_same)
-
-    pub strings-same : IsStrings most longest limit count same
-    strings-same = record {
-      is_arena = arena-same arena same is_same is.is_arena;
-      led = subst AllLed (sym (world-same arena same is_same)) is.led;
-      counted = is.counted ∙ sym (ap (λ (m : FinMap byte_order ℕ). len m) map-same);
-      within_limit = is.within_limit;
-      holds_some = is.holds_some;
-      limit_fits = is.limit_fits;
-      short = subst (AreWithin longest) (sym map-same) is.short;
-      longest_fits = is.longest_fits;
-    }
-
-    pub array-same : array_of limit same ≡ array_of limit arena
-    array-same = ap (λ (m : FinMap byte_order ℕ). record { limit = limit; map = m }) map-same

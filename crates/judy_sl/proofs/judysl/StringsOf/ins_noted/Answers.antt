@@ -3,15 +3,10 @@ use Rattle.std.specs.Result.{IsErrAnd}
 use Rattle.judy_model.specs.Arrays.{ArrayOf}
 use Rattle.judy_model.specs.Keys.{byte_order}
 use Rattle.judy_sl.specs.Lends.{with_value}
-use Rattle.judy_sl.specs.declared.arena.Arena.{Arena}
 use Rattle.judy_sl.specs.declared.error.SlError.{SlError}
 use Rattle.judy_sl.specs.declared.error.SlError.TheVariants.{NoMemory}
-use Rattle.judy_sl.specs.Arenas.{array_of, map_of, world_of, IsStrings}
-use Rattle.judy_sl.specs.WorldInvariants.{AllLed}
+use Rattle.judy_sl.specs.Arenas.{world_of}
 use Rattle.judy_sl.specs.Ways.{levels_passed}
-use Rattle.judy_sl.specs.Counted.{AreCounted}
-use Rattle.judy_sl.specs.Firsts.{AreFirsts}
-use Rattle.judy_sl.specs.Listed.{AreListed}
 use Rattle.judy_sl.proofs.lemmas.counts.FirstWays.{firsts_slot, added_first}
 use Rattle.judy_sl.proofs.lemmas.counts.CountedWrites.{counted_written}
 use Rattle.judy_sl.proofs.lemmas.pieces.PieceLemmas.{text_of_key}
