@@ -1,7 +1,7 @@
 -- The text of the store of one array, with the most keys that a dump lets it hold.
 use Rattle.std.specs.Prelude.{◌≡◌, ℕ, ◌<◌, ◌≤◌, Bool, true, false, nat_le, List, [], ◌∷◌, ◌++◌, length, Result, Ok, Err}
 use Rattle.std.specs.List.{list_all}
-use Rattle.std.specs.FinMap.{FinMap, len}
+use Rattle.std.specs.FinMap.{FinMap, len, entries}
 use Rattle.judy_model.specs.Keys.{word_order, byte_order}
 use Rattle.judy_model.specs.WordBytes.{low_bytes}
 use Rattle.judy_model.specs.Arrays.{ArrayValue, judy1, judyl, judysl, judyhs}
@@ -41,9 +41,9 @@ head_text version name kind count =
 abbrev pub entry_text : List ℕ × ℕ → List ℕ
 entry_text entry = text.string entry.0 ++ text.word entry.1
 
--- No key has more bytes than a dump can say.
-abbrev pub is_short : FinMap byte_order ℕ → Bool
-is_short map = list_all (λ entry. nat_le (length entry.0) LONGEST_KEY) (entries_by length_order map)
+-- No key of these entries has more bytes than a dump can say.
+abbrev pub is_short : List (List ℕ × ℕ) → Bool
+is_short pairs = list_all (λ entry. nat_le (length entry.0) LONGEST_KEY) pairs
 
 -- A dump that is asked for: its text, how many keys it has, whether none of them is longer than a dump can say, and whether they are sorted first,
 -- which takes memory.
@@ -60,13 +60,13 @@ abbrev pub map_dump : Version → List ℕ → FinMap word_order ℕ → Dump
 map_dump version name map = record { text = map_text version name map; count = len map; short = true; sorts = false }
 
 abbrev pub strings_dump : Version → List ℕ → FinMap byte_order ℕ → Dump
-strings_dump version name map = record { text = strings_text version name map; count = len map; short = true; sorts = false }
+strings_dump version name map = record { text = strings_text version name map; count = len map; short = is_short (entries map); sorts = false }
 
 abbrev pub bytes_dump : Version → List ℕ → FinMap byte_order ℕ → Dump
-bytes_dump version name map = record { text = bytes_text version name map; count = len map; short = is_short map; sorts = true }
+bytes_dump version name map = record { text = bytes_text version name map; count = len map; short = is_short (entries_by length_order map); sorts = true }
 
--- Why it isn't made: there are more keys than a dump can say; or there aren't, and there is no memory to sort them, or one is too long. So of words and
--- of strings no other error comes than the first.
+-- Why it isn't made: there are more keys than a dump can say; or there aren't, and there is no memory to sort them, or one is too long. So of words no
+-- other error comes than the first, and of strings want of memory never does.
 abbrev pub IsUnsaid : Dump → SaveError → Type 0
 IsUnsaid dump TooMany = most < dump.count
 IsUnsaid dump NoMemory = (dump.count ≤ most) × (dump.sorts ≡ true)

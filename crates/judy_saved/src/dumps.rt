@@ -1,25 +1,27 @@
 //! One array as the dump of a store that has it alone, written to the front of a room.
 
-ghost use Rattle.std.specs.Prelude.{◌≡◌, ◌≢◌, ◌<◌, ◌≤◌, ◌+◌, ◌^◌, ◌++◌, length, true, nat_le, Err, IsOk};
+ghost use Rattle.std.specs.Prelude.{◌≡◌, ◌≢◌, ◌<◌, ◌≤◌, ◌+◌, ◌^◌, ◌++◌, length, true, nat_le, Err, IfErr, IfSome, IsOk, IsTrue};
 ghost use Rattle.std.specs.FinMap as map;
-ghost use Rattle.std.specs.List.{flat_map, list_all};
+ghost use Rattle.std.specs.List.{flat_map};
 ghost use Rattle.judy_model.specs.Arrays.{judy1, judyl, judysl};
+ghost use Rattle.judy_model.specs.Counts.{by_count};
 ghost use Rattle.judy_model.specs.DumpText as text;
 ghost use Rattle.judy_model.specs.DumpText.{jdy1};
 ghost use Rattle.judy_model.specs.WordBytes.{low_bytes};
 ghost use Rattle.judy_hs.specs.Listed.{entries_in};
 ghost use Rattle.judy_model.specs.declared.keys.TheConstants.{LONGEST_KEY};
+ghost use Rattle.judy_sl.specs.Arenas.{AreWithin};
 ghost use Rattle.judy_shelf.specs.Versions.{format_of};
 ghost use Rattle.judy_shelf.specs.Writes.{kind_number};
-ghost use Rattle.judy_saved.specs.Dumps.{head_text, set_text, map_text, strings_text, entry_text, set_dump, map_dump, strings_dump, bytes_dump, IsDumped};
+ghost use Rattle.judy_saved.specs.Dumps.{head_text, set_text, map_text, strings_text, entry_text, is_short, set_dump, map_dump, strings_dump, bytes_dump, IsDumped};
 ghost use Rattle.judy_saved.specs.Rooms.{Adds};
-ghost use Rattle.judy_saved.specs.declared.dumps.SaveError.TheVariants.{TooMany};
+ghost use Rattle.judy_saved.specs.declared.dumps.SaveError.TheVariants.{TooMany, LongKey};
 
 use crate::room::put;
 use judy_hs::{ByteHash, HsEntry, JudyHs};
 use judy_model::keys::LONGEST_KEY;
 use judy_shelf::{Kind, LastKey, MAX_LIMIT, Name, Version, head_of, heading_of, shared_len};
-use judy_sl::JudySl;
+use judy_sl::{KeyLength, StringsOf};
 use judy_word::{Judy1, JudyL};
 use thiserror::Error;
 
@@ -32,7 +34,7 @@ pub enum SaveError {
     /// It is one of byte strings, and there is no memory to sort its keys.
     #[error("out of memory")]
     NoMemory,
-    /// It is one of byte strings, and a key has more than 1,024 bytes, which no dump can say.
+    /// It is one of strings or of byte strings, and a key has more than 1,024 bytes, which no dump can say.
     #[error("a key is too long for a dump")]
     LongKey,
 }
@@ -105,8 +107,10 @@ pub fn dump_map(
 }
 
 /// Writes the dump of a map from strings under a name, as [`dump_set`] writes that of a set. Its size takes a walk
-/// through the keys, so two walks are made where it is written. No error comes: no such map has more keys than a dump
-/// can say.
+/// through the keys, so two walks are made where it is written. `LongKey`, and nothing else, is the error: where a key
+/// has more than 1,024 bytes, as none has in a map whose keys are a store's. The room is as it was then. A map that held
+/// such a key since it was last empty is asked for the length of each key first, which takes a way down the map each.
+/// `TooMany` never comes: no such map has more keys than a dump can say. It asks for no memory.
 ///
 /// The second format writes what two strings share once, so `a` and `ab` take a byte less for the shared one, and two
 /// more each to tell how many are shared:
@@ -115,18 +119,24 @@ pub fn dump_map(
 /// // of the map from `a` to 2 and `ab` to 3 under the name `s`
 /// assert!(dump_strings(Version::First, &name, &strings, &mut []) == Ok(50));
 /// assert!(dump_strings(Version::Second, &name, &strings, &mut []) == Ok(53));
+/// // and from 1,025 bytes of 7 to 0
+/// assert!(dump_strings(Version::Second, &name, &longer, &mut []) == Err(SaveError::LongKey));
 /// ```
-pub fn dump_strings(
+pub fn dump_strings<L: KeyLength>(
     version: Version,
     name: &Name,
-    strings: &JudySl,
+    strings: &StringsOf<L>,
     room: &mut [u8],
 ) -> Result<usize, SaveError>
     ensures dumped { IsDumped (strings_dump (format_of version) name.now strings.now.map) room.old
         result room.new }
-    ensures always { IsOk result }
+    ensures refused { IfErr result (λ error. error ≡ LongKey) }
+    ensures always { L.LONGEST ≤ LONGEST_KEY → IsOk result }
 {
     let _most = strings.len();
+    if !are_sayable(strings) {
+        return Err(SaveError::LongKey);
+    }
     let mut none = [];
     let size = write_strings(version, name, strings, &mut none);
     if size > room.len() {
@@ -229,9 +239,40 @@ fn put_entries(words: &JudyL, room: &mut [u8], at: usize) -> usize
     end
 }
 
-// Writes the dump of a map from strings.
-fn write_strings(version: Version, name: &Name, strings: &JudySl, room: &mut [u8]) -> usize
-    requires { map.len strings.now.map ≤ 4294967295 }
+// Whether no key of a map from strings has more bytes than a dump can say. Where one may, each is asked for its length.
+fn are_sayable<L: KeyLength>(strings: &StringsOf<L>) -> bool
+    ensures answer { result ≡ is_short (map.entries strings.now.map) }
+    ensures within { IsTrue result → AreWithin LONGEST_KEY strings.now.map }
+    ensures always { L.LONGEST ≤ LONGEST_KEY → IsTrue result }
+{
+    if strings.longest() <= LONGEST_KEY {
+        return true;
+    }
+    'keys: for place in 0..strings.len() {
+        if !is_sayable(strings, place + 1) {
+            return false;
+        }
+    }
+    true
+}
+
+// Whether the n-th key of a map from strings, counted from 1, has no more bytes than a dump can say.
+fn is_sayable<L: KeyLength>(strings: &StringsOf<L>, n: u64) -> bool
+    ensures { IfSome (by_count strings.now.map n)
+        (λ key. result ≡ nat_le (length key) LONGEST_KEY) }
+{
+    strings.by_count_len(n).unwrap_or(0) <= LONGEST_KEY
+}
+
+// Writes the dump of a map from strings, none of which has more bytes than a dump can say.
+fn write_strings<L: KeyLength>(
+    version: Version,
+    name: &Name,
+    strings: &StringsOf<L>,
+    room: &mut [u8],
+) -> usize
+    requires few { map.len strings.now.map ≤ 4294967295 }
+    requires short { AreWithin LONGEST_KEY strings.now.map }
     ensures { Adds (strings_text (format_of version) name.now strings.now.map) 0 room.old result
         room.new }
 {
@@ -240,15 +281,21 @@ fn write_strings(version: Version, name: &Name, strings: &JudySl, room: &mut [u8
 }
 
 // Writes the keys of a map from strings, each by the one before, and the value of each behind it.
-fn put_strings(version: Version, strings: &JudySl, room: &mut [u8], at: usize) -> usize
+fn put_strings<L: KeyLength>(
+    version: Version,
+    strings: &StringsOf<L>,
+    room: &mut [u8],
+    at: usize,
+) -> usize
     requires few { map.len strings.now.map ≤ 4294967295 }
+    requires short { AreWithin LONGEST_KEY strings.now.map }
     requires early { at ≤ 58 }
     ensures { Adds (text.contents (format_of version)
         (judysl (record { limit = 4294967295; map = strings.now.map }))) at room.old result
         room.new }
 {
     let mut last = LastKey::new();
-    let mut cursor = strings.cursor(&[]);
+    let mut cursor = strings.short_cursor(&[]);
     let mut next = cursor.first();
     let mut end = at;
     'keys: while let Some(value) = next {
@@ -308,8 +355,7 @@ fn put_string(key: &[u8], room: &mut [u8], at: usize) -> usize
 
 // Whether no key has more bytes than a dump can say.
 fn are_short(entries: &[HsEntry<'_>]) -> bool
-    ensures { result
-        ≡ list_all (λ entry. nat_le (length entry.0) LONGEST_KEY) (entries_in entries.now) }
+    ensures { result ≡ is_short (entries_in entries.now) }
 {
     'entries: for entry in entries {
         if entry.key.bytes().len() > LONGEST_KEY {
@@ -328,8 +374,7 @@ fn write_byte_strings(
     room: &mut [u8],
 ) -> usize
     requires few { length entries.now ≤ 4294967295 }
-    requires short { list_all (λ entry. nat_le (length entry.0) LONGEST_KEY)
-        (entries_in entries.now) ≡ true }
+    requires short { is_short (entries_in entries.now) ≡ true }
     ensures { Adds (head_text (format_of version) name.now 4 count
         ++ flat_map entry_text (entries_in entries.now)) 0 room.old result room.new }
 {
@@ -340,8 +385,7 @@ fn write_byte_strings(
 // Writes byte strings, each behind its length, and the value of each behind it.
 fn put_byte_strings(entries: &[HsEntry<'_>], room: &mut [u8], at: usize) -> usize
     requires few { length entries.now ≤ 4294967295 }
-    requires short { list_all (λ entry. nat_le (length entry.0) LONGEST_KEY)
-        (entries_in entries.now) ≡ true }
+    requires short { is_short (entries_in entries.now) ≡ true }
     requires early { at ≤ 58 }
     ensures { Adds (flat_map entry_text (entries_in entries.now)) at room.old result room.new }
 {

@@ -1,7 +1,6 @@
-use Rattle.std.proofs.Common.{◌≡◌, ◌≤◌, ℕ, List, true, nat_le, length, sym, ap, ◌∙◌, refl, arith}
+use Rattle.std.proofs.Common.{◌≡◌, ◌≤◌, true, sym, ap, ◌∙◌, refl, arith}
 use Rattle.std.specs.FinMap.{len}
-use Rattle.std.specs.List.{list_all}
-use Rattle.judy_model.specs.declared.keys.TheConstants.{LONGEST_KEY}
+use Rattle.judy_model.specs.DumpText.{entries_by, length_order}
 use Rattle.judy_hs.specs.Listed.{entries_in}
 use Rattle.judy_shelf.specs.Versions.{format_of}
 use Rattle.judy_saved.specs.Dumps.{most, bytes_text, is_short}
@@ -16,7 +15,7 @@ returns-then-not-are_short-clause-dumped g c =
     let few : len c.args.bytes.now.map ≤ most = omega (arith, c.len-count.ensures.count, c.len-count.ensures.most) in (
       (
         few,
-        ap (list_all (λ (entry : List ℕ × ℕ). nat_le (length entry.0) LONGEST_KEY)) (sym (ap entries_in c.deref.ensures.value ∙ c.in-Ok.ensures)) ∙ sym c.are_short.ensures
+        ap is_short (sym (ap entries_in c.deref.ensures.value ∙ c.in-Ok.ensures)) ∙ sym c.are_short.ensures
             ∙ c.if-not-are_short.true,
       ),
       refl,
@@ -29,8 +28,8 @@ returns-then-size-room-clause-dumped g c =
     let m = c.args.bytes.now.map in
     let text = bytes_text version name m in
     let few : len m ≤ most = omega (arith, c.len-count.ensures.count, c.len-count.ensures.most) in
-    let short : is_short m ≡ true =
-    ap (list_all (λ (entry : List ℕ × ℕ). nat_le (length entry.0) LONGEST_KEY)) (sym (ap entries_in c.deref.ensures.value ∙ c.in-Ok.ensures)) ∙ sym c.are_short.ensures ∙ c.if-not-are_short.false in
+    let short : is_short (entries_by length_order m) ≡ true =
+    ap is_short (sym (ap entries_in c.deref.ensures.value ∙ c.in-Ok.ensures)) ∙ sym c.are_short.ensures ∙ c.if-not-are_short.false in
     let asked = adds_listed version name m c.len-count.result c.len-count.ensures.count (entries_in c.deref-2.result.now) (ap entries_in c.deref-2.ensures.value ∙ c.in-Ok.ensures) _ _ _
     c.write_byte_strings-size.ensures in
     let stands = from_front text _ _ _ asked in
@@ -43,8 +42,8 @@ returns-clause-dumped g c =
     let m = c.args.bytes.now.map in
     let text = bytes_text version name m in
     let few : len m ≤ most = omega (arith, c.len-count.ensures.count, c.len-count.ensures.most) in
-    let short : is_short m ≡ true =
-    ap (list_all (λ (entry : List ℕ × ℕ). nat_le (length entry.0) LONGEST_KEY)) (sym (ap entries_in c.deref.ensures.value ∙ c.in-Ok.ensures)) ∙ sym c.are_short.ensures ∙ c.if-not-are_short.false in
+    let short : is_short (entries_by length_order m) ≡ true =
+    ap is_short (sym (ap entries_in c.deref.ensures.value ∙ c.in-Ok.ensures)) ∙ sym c.are_short.ensures ∙ c.if-not-are_short.false in
     let asked = adds_listed version name m c.len-count.result c.len-count.ensures.count (entries_in c.deref-2.result.now) (ap entries_in c.deref-2.ensures.value ∙ c.in-Ok.ensures) _ _ _
     c.write_byte_strings-size.ensures in
     let written = adds_listed version name m c.len-count.result c.len-count.ensures.count (entries_in c.deref-3.result.now) (ap entries_in c.deref-3.ensures.value ∙ c.in-Ok.ensures) _ _ _

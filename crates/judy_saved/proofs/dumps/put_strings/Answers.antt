@@ -20,22 +20,22 @@ abbrev entry_text : Version → List ℕ × (List ℕ × ℕ) → List ℕ
 entry_text version beside = text.string_key version beside.0 beside.1.0 ++ text.word beside.1.1
 
 pub keys-init : goal.keys-init
-keys-init c =
+keys-init g c =
     let m = c.args.strings.now.map in
-    let old = c.cursor-cursor.result.key in record {
+    let old = c.short_cursor-cursor.result.key in record {
       place = 0;
       stands =
-          is_at m 0 old c.first-next.new.self.key (first m old) c.first-next.result (ap (first m) c.cursor-cursor.ensures.key ∙ walk_first_string m)
-          (c.first-next.ensures.key ∙ ap (λ (map : FinMap byte_order ℕ). unwrap_or (first map old) old) c.cursor-cursor.ensures.map)
-          (c.first-next.ensures.value ∙ ap (λ (map : FinMap byte_order ℕ). value_found map (first map old)) c.cursor-cursor.ensures.map);
+          is_at m 0 old c.first-next.new.self.key (first m old) c.first-next.result (ap (first m) c.short_cursor-cursor.ensures.key ∙ walk_first_string m)
+          (c.first-next.ensures.key ∙ ap (λ (map : FinMap byte_order ℕ). unwrap_or (first map old) old) c.short_cursor-cursor.ensures.map)
+          (c.first-next.ensures.value ∙ ap (λ (map : FinMap byte_order ℕ). value_found map (first map old)) c.short_cursor-cursor.ensures.map);
       ends = omega arith;
       adds = adds_nothing c.args.at c.args.room.now;
       kept = ap (λ last. unwrap_or last []) c.new-last.ensures ∙ sym (key_before_first [] (entries m));
-      same = c.first-next.ensures.map ∙ c.cursor-cursor.ensures.map;
+      same = c.first-next.ensures.map ∙ c.short_cursor-cursor.ensures.map;
     }
 
 pub put_key-end-requires-clause-early : goal.put_key-end-requires-clause-early
-put_key-end-requires-clause-early c =
+put_key-end-requires-clause-early g c =
     let m = c.args.strings.now.map in
     let here = subst (λ o. IsAt m c.keys.invariant.place c.keys.cursor.key o) c.in-Some.is c.keys.invariant.stands in
     let within = slice_get_within (entries m) c.keys.invariant.place _ (entry_here m c.keys.invariant.place c.keys.cursor.key c.in-Some.value here) in
@@ -44,7 +44,7 @@ put_key-end-requires-clause-early c =
     omega arith
 
 pub put-end-requires : goal.put-end-requires
-put-end-requires c =
+put-end-requires g c =
     let m = c.args.strings.now.map in
     let here = subst (λ o. IsAt m c.keys.invariant.place c.keys.cursor.key o) c.in-Some.is c.keys.invariant.stands in
     let within = slice_get_within (entries m) c.keys.invariant.place _ (entry_here m c.keys.invariant.place c.keys.cursor.key c.in-Some.value here) in
@@ -54,7 +54,7 @@ put-end-requires c =
     omega arith
 
 pub keys-preserved : goal.keys-preserved
-keys-preserved c =
+keys-preserved g c =
     let m = c.args.strings.now.map in
     let version = format_of c.args.version in
     let key = c.keys.cursor.key in
@@ -87,7 +87,7 @@ keys-preserved c =
     }
 
 pub keys-smaller : goal.keys-smaller
-keys-smaller c =
+keys-smaller g c =
     let m = c.args.strings.now.map in
     let key = c.keys.cursor.key in
     let value = c.in-Some.value in
@@ -100,7 +100,7 @@ keys-smaller c =
     subst (λ o. to_come m after c.next-next.result < to_come m key o) (sym c.in-Some.is) (falls m place key after value c.next-next.result here there)
 
 pub returns : goal.returns
-returns c =
+returns g c =
     let m = c.args.strings.now.map in
     let place = c.keys.invariant.place in
     let items = beside_before [] (entries m) in
@@ -109,4 +109,4 @@ returns c =
     c.keys.invariant.adds
 
 pub keep-requires : goal.keep-requires
-keep-requires c = c.key-in-Some.ensures.short
+keep-requires g c = c.key-in-Some.ensures.short

@@ -12,7 +12,7 @@ use Rattle.judy_saved.proofs.dumps.put_strings.Given as goal
 
 -- the entries before a place are written, the walk through the map stands there, and the key before it is kept
 abbrev pub invariant-keys : goal.invariant-keys
-invariant-keys l = record {
+invariant-keys g l = record {
   place : ℕ;
   stands : IsAt l.strings.map place l.cursor.key l.next;
   ends : l.end ≤ l.at + 1036 * place;
@@ -23,4 +23,4 @@ invariant-keys l = record {
 }
 
 abbrev pub decreases-keys : goal.decreases-keys
-decreases-keys l = to_come l.strings.map l.cursor.key l.next
+decreases-keys g l = to_come l.strings.map l.cursor.key l.next
