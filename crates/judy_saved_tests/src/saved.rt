@@ -145,6 +145,26 @@ fn saved_strings(rt: HostRuntime) {
     assert!(&rt; room == *STRINGS);
 }
 
+// A string of 1,025 bytes can't be dumped; without it the others are, one of 1,024 bytes too.
+#[test]
+fn saved_long_strings(rt: HostRuntime) {
+    let loaded = load_strings(rt.alloc(), STRINGS, 7);
+    let Ok(strings) = loaded else {
+        panic!(&rt; "a dump");
+    };
+    let mut strings = strings.with_any_length();
+    assert!(&rt; strings.ins(&[7; 1025]).is_ok());
+    let name = named(&rt, b"s");
+    let mut room = [9; 53];
+    let long = dump_strings(Version::Second, &name, &strings, &mut room);
+    assert!(&rt; long == Err(SaveError::LongKey) && room == [9; 53]);
+    assert!(&rt; strings.del(&[7; 1025]) && strings.longest() == 1025);
+    assert!(&rt; dump_strings(Version::Second, &name, &strings, &mut room) == Ok(53));
+    assert!(&rt; room == *STRINGS);
+    assert!(&rt; strings.ins(&[7; 1024]).is_ok());
+    assert!(&rt; dump_strings(Version::Second, &name, &strings, &mut room) == Ok(1089));
+}
+
 #[test]
 fn saved_byte_strings(rt: HostRuntime) {
     let loaded = load_byte_strings(rt.alloc(), BYTES, 7, Eights);
