@@ -108,9 +108,9 @@ pub fn dump_map(
 
 /// Writes the dump of a map from strings under a name, as [`dump_set`] writes that of a set. Its size takes a walk
 /// through the keys, so two walks are made where it is written. `LongKey`, and nothing else, is the error: where a key
-/// has more than 1,024 bytes, as none has in a map whose keys are a store's. The room is as it was then. A map that held
-/// such a key since it was last empty is asked for the length of each key first, which takes a way down the map each.
-/// `TooMany` never comes: no such map has more keys than a dump can say. It asks for no memory.
+/// has more than 1,024 bytes, as none has in a map whose keys are a store's. The room is as it was then. A map that
+/// held such a key since it was last empty is asked for the length of each key first, which takes a way down the map
+/// each. `TooMany` never comes: no such map has more keys than a dump can say. It asks for no memory.
 ///
 /// The second format writes what two strings share once, so `a` and `ab` take a byte less for the shared one, and two
 /// more each to tell how many are shared:

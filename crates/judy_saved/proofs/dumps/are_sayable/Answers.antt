@@ -13,7 +13,8 @@ returns-then-not-is_sayable-clause-answer g c =
 
 pub keys-preserved : goal.keys-preserved
 keys-preserved g c =
-    short_passed c.args.strings.now.map c.keys.place (omega (arith, c.keys-test.true, c.len-place-end.ensures.count)) c.is_sayable.result c.is_sayable.ensures c.if-not-is_sayable.false c.keys.invariant
+    short_passed c.args.strings.now.map c.keys.place (omega (arith, c.keys-test.true, c.len-place-end.ensures.count)) c.is_sayable.result c.is_sayable.ensures
+    c.if-not-is_sayable.false c.keys.invariant
 
 pub returns-clause-answer : goal.returns-clause-answer
 returns-clause-answer g c =

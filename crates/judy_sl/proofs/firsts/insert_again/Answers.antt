@@ -47,7 +47,8 @@ insert_counted-requires-clause-way c = c.walk-way.ensures.way (text_of_key c.arg
 
 pub insert_counted-requires-clause-new : goal.insert_counted-requires-clause-new
 insert_counted-requires-clause-new c =
-    absent_new c.settle_again.new.self c.settle_again.ensures.settled.kept.is_arena c.args.key.now c.requires.is_key c.walk-way.result (c.walk-way.ensures.way (text_of_key c.args.key.now c.requires.is_key))
+    absent_new c.settle_again.new.self c.settle_again.ensures.settled.kept.is_arena c.args.key.now c.requires.is_key c.walk-way.result
+    (c.walk-way.ensures.way (text_of_key c.args.key.now c.requires.is_key))
     (ap (λ (m : FinMap byte_order ℕ). get m c.args.key.now) c.settle_again.ensures.settled.same ∙ c.requires.absent)
 
 pub insert_counted-requires-clause-passed : goal.insert_counted-requires-clause-passed
@@ -69,7 +70,8 @@ insert_counted-requires-clause-listed c = settled-listed c.args.arena.now c.sett
 pub returns-clause-added : goal.returns-clause-added
 returns-clause-added c =
     if_ok c.insert_counted.result
-    (λ made added. settled_added c.args.arena.now c.settle_again.new.self c.requires.is_arena c.settle_again.ensures.settled c.insert_counted.new.arena c.args.key.now made added) c.insert_counted.ensures.added
+    (λ made added. settled_added c.args.arena.now c.settle_again.new.self c.requires.is_arena c.settle_again.ensures.settled c.insert_counted.new.arena c.args.key.now made added)
+    c.insert_counted.ensures.added
 
 pub returns-clause-refused : goal.returns-clause-refused
 returns-clause-refused c =
