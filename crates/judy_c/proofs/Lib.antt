@@ -15,6 +15,7 @@ pub mod ScannedSlots
 pub mod PageFaults
 pub mod SortedAnswers
 pub mod PairLemmas
+pub mod PlacePairs
 pub mod PageLemmas
 pub mod Storing
 pub mod FirstKeys

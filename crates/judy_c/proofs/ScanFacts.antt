@@ -1,93 +1,118 @@
 -- What a scan of C tells is what its contract says.
-use Rattle.std.proofs.Common.{◌≡◌, ℕ, zero, suc, ◌≤◌, ◌<◌, ◌++◌, length, take, drop, List, [], Option, Some, None, IsTrue, is_some, unwrap_or, refl, sym, ap, subst, ◌∙◌, true≢false}
+use Rattle.std.proofs.Common.{◌≡◌, ℕ, ◌≤◌, ◌<◌, ◌++◌, length, take, drop, List, Option, Some, None, IsTrue, IfSome, MatchOption, is_some, unwrap_or, refl, sym, ap, subst, ◌∙◌, true≢false, arith}
 use Rattle.std.proofs.lemmas.Bool.{and_parts}
 use Rattle.std.proofs.lemmas.List.{length-take-le, take-append-drop}
-use Rattle.judy_sl.proofs.lemmas.scans.Fronts.{front-key}
 use Rattle.std.specs.FinMap.{FinMap, get, contains_key, empty, get-empty}
+use Rattle.std.specs.Option.{option_map}
 use Rattle.judy_model.specs.Keys.{byte_order}
 use Rattle.judy_model.specs.Nearest.{IsFirst, IsNext, IsLast, IsPrev}
 use Rattle.judy_model.proofs.lemmas.queries.NearestLemmas.{first-IsFirst, next-IsNext, last-IsLast, prev-IsPrev}
 use Rattle.judy_model.proofs.lemmas.maps.TableLemmas.{byte_order_total, byte_order_same}
 use Rattle.judy_model.specs.Counts.{by_count}
 use Rattle.judy_model.proofs.lemmas.queries.CountsLemmas.{by_count_found}
+use Rattle.judy_sl.specs.Arenas.{AreWithin}
 use Rattle.judy_sl.specs.declared.scans.Look.{Look}
 use Rattle.judy_sl.specs.Scans.{neighbour_along, nearest_key, value_found, IsFront}
 use Rattle.judy_c.specs.declared.scans.Scan.{Scan}
 use Rattle.judy_c.specs.declared.scans.Scan.TheVariants.{First, Next, Last, Prev}
-use Rattle.judy_c.specs.Answers.{IsSaid}
-use Rattle.judy_c.specs.KeyScans.{CallerBuffer, start, IsStart, neighbour, told_says, scan_says, entry_says}
+use Rattle.judy_c.specs.KeyScans.{CallerBuffer, neighbour, told_says, IsTooLong}
 
 -- a neighbour is a key of the map
-pub neighbour_held : (scan : Scan) (map : FinMap byte_order ℕ) (from key : List ℕ) → neighbour scan map from ≡ Some key → IsTrue (contains_key map key)
+neighbour_held : (scan : Scan) (map : FinMap byte_order ℕ) (from key : List ℕ) → neighbour scan map from ≡ Some key → IsTrue (contains_key map key)
 neighbour_held First map from key is = (and_parts _ _ (subst (IsFirst byte_order (contains_key map) from) is (first-IsFirst byte_order_total byte_order_same map from)).0).0
 neighbour_held Next map from key is = (and_parts _ _ (subst (IsNext byte_order (contains_key map) from) is (next-IsNext byte_order_total byte_order_same map from)).0).0
 neighbour_held Last map from key is = (and_parts _ _ (subst (IsLast byte_order (contains_key map) from) is (last-IsLast byte_order_total byte_order_same map from)).0).0
 neighbour_held Prev map from key is = (and_parts _ _ (subst (IsPrev byte_order (contains_key map) from) is (prev-IsPrev byte_order_total byte_order_same map from)).0).0
 
--- a map without keys has no neighbours
+-- and so is the n-th key
+nth_held : (map : FinMap byte_order ℕ) (n : ℕ) (key : List ℕ) → by_count map n ≡ Some key → IsTrue (contains_key map key)
+nth_held map n key is = (by_count_found byte_order_total byte_order_same map n key is).0
+
+-- Of a key of the map that is looked for.
+module _ (map : FinMap byte_order ℕ) (looked : Option (List ℕ)) (held : (key : List ℕ) → looked ≡ Some key → IsTrue (contains_key map key)) where
+  -- a map without keys has none
+  none_there : map ≡ empty → looked ≡ None
+  none_there is = by looked refl
+    where
+      by : (found : Option (List ℕ)) → looked ≡ found → looked ≡ None
+      by None none = none
+      by (Some key) some = absurd (true≢false (sym (held key some) ∙ ap (λ m. contains_key m key) is ∙ ap is_some (get-empty byte_order key)))
+
+  -- where no value was found there is none
+  none_valued : None ≡ value_found map looked → looked ≡ None
+  none_valued none = by looked refl
+    where
+      by : (found : Option (List ℕ)) → looked ≡ found → looked ≡ None
+      by None is = is
+      by (Some key) is = absurd (true≢false (sym (held key is) ∙ ap is_some (sym (none ∙ ap (value_found map) is))))
+
+  -- it fits where no key is longer than the room
+  fits_within : (longest : ℕ) → AreWithin longest map → (room : ℕ) → longest ≤ room → IfSome looked (λ key. length key ≤ room)
+  fits_within longest within room fits = by looked refl
+    where
+      short : (key : List ℕ) (value : Option ℕ) → get map key ≡ value → IsTrue (is_some value) → length key ≤ room
+      short key None is none = absurd (true≢false (sym none))
+      short key (Some value) is some = let long = within key value is in omega (arith, long, fits)
+
+      by : (found : Option (List ℕ)) → looked ≡ found → IfSome found (λ key. length key ≤ room)
+      by None is = tt
+      by (Some key) is = short key (get map key) refl (held key is)
+
 pub no_neighbour : (scan : Scan) (map : FinMap byte_order ℕ) (from : List ℕ) → map ≡ empty → neighbour scan map from ≡ None
-no_neighbour scan map from is = by (neighbour scan map from) refl
-  where
-    by : (looked : Option (List ℕ)) → neighbour scan map from ≡ looked → looked ≡ None
-    by None none = refl
-    by (Some key) some =
-        absurd (true≢false (sym (neighbour_held scan map from key some) ∙ ap (λ m. contains_key m key) is ∙ ap is_some (get-empty byte_order key)))
+no_neighbour scan map from = none_there map (neighbour scan map from) (neighbour_held scan map from)
 
--- a key that was found with a value has that value
-pub found_held : (map : FinMap byte_order ℕ) (looked : Option (List ℕ)) (from key : List ℕ) (value : ℕ) → key ≡ unwrap_or looked from → Some value ≡ value_found map looked → get map key ≡ Some value
-found_held map None from key value at is = absurd (true≢false (ap is_some is))
-found_held map (Some found) from key value at is = ap (get map) at ∙ sym is
+pub no_nth : (map : FinMap byte_order ℕ) (n : ℕ) → map ≡ empty → by_count map n ≡ None
+no_nth map n = none_there map (by_count map n) (nth_held map n)
 
--- where no value was found there is no neighbour
-none_found : (scan : Scan) (map : FinMap byte_order ℕ) (from : List ℕ) → None ≡ value_found map (neighbour scan map from) → neighbour scan map from ≡ None
-none_found scan map from none = by (neighbour scan map from) refl
-  where
-    by : (looked : Option (List ℕ)) → neighbour scan map from ≡ looked → looked ≡ None
-    by None is = refl
-    by (Some key) is =
-        absurd (true≢false (sym (neighbour_held scan map from key is) ∙ ap is_some (sym (none ∙ ap (value_found map) is))))
+pub neighbour_fits : (scan : Scan) (map : FinMap byte_order ℕ) (from : List ℕ) (longest : ℕ) → AreWithin longest map → (room : ℕ) → longest ≤ room →
+    IfSome (neighbour scan map from) (λ key. length key ≤ room)
+neighbour_fits scan map from = fits_within map (neighbour scan map from) (neighbour_held scan map from)
 
-module _ (map : FinMap byte_order ℕ) (before after : CallerBuffer) where
-  -- what is told of a key of the map that was put into a buffer, with the value that was answered, is what is said of that key
-  pub told_key : (asked looked : Option (List ℕ)) → asked ≡ looked → ((key : List ℕ) → asked ≡ Some key → IsTrue (contains_key map key)) →
-      (from : List ℕ) (found : Option ℕ) (key : List ℕ) (answer : ℕ)
-      → key ≡ unwrap_or looked from → found ≡ value_found map looked → IsSaid (entry_says found key before after) answer → IsSaid (told_says map asked before after) answer
-  told_key asked None none held from found key zero at value said = (none, said.1)
-  told_key asked None none held from found key (suc zero) at value said = absurd (true≢false (sym (ap is_some said.3) ∙ ap is_some value))
-  told_key asked None none held from found key (suc (suc (suc (suc (suc zero))))) at value said = absurd (true≢false (sym said.0 ∙ ap is_some value))
-  told_key asked (Some looked) some held from found key zero at value said =
-      absurd (true≢false (sym (held looked some) ∙ ap is_some (sym value) ∙ ap is_some said.0))
-  told_key asked (Some looked) some held from found key (suc zero) at value said =
-      let moved = subst (λ (k : List ℕ). (length k ≤ length before.buffer) × (after.buffer ≡ k ++ drop (length k) before.buffer) × (after.count ≡ length k)) at (said.0, said.1, said.2) in
-      (looked, some, moved.0, (moved.1, moved.2, sym value ∙ said.3))
-  told_key asked (Some looked) some held from found key (suc (suc (suc (suc (suc zero))))) at value said =
-      ((looked, some, subst (λ (k : List ℕ). length before.buffer < length k) at said.1), said.2)
-  told_key asked looked is held from found key (suc (suc zero)) at value said = absurd said
-  told_key asked looked is held from found key (suc (suc (suc zero))) at value said = absurd said
-  told_key asked looked is held from found key (suc (suc (suc (suc zero)))) at value said = absurd said
-  told_key asked looked is held from found key (suc (suc (suc (suc (suc (suc n)))))) at value said = absurd said
+pub nth_fits : (map : FinMap byte_order ℕ) (n longest : ℕ) → AreWithin longest map → (room : ℕ) → longest ≤ room → IfSome (by_count map n) (λ key. length key ≤ room)
+nth_fits map n = fits_within map (by_count map n) (nth_held map n)
 
-  -- so it is of the n-th key
-  pub told_nth : (n : ℕ) (found : Option ℕ) (key : List ℕ) (answer : ℕ) → key ≡ unwrap_or (by_count map n) [] → found ≡ value_found map (by_count map n) →
-      IsSaid (entry_says found key before after) answer → IsSaid (told_says map (by_count map n) before after) answer
-  told_nth n = told_key (by_count map n) (by_count map n) refl (λ key is. (by_count_found byte_order_total byte_order_same map n key is).0) []
+-- Of a key whose length was asked for: it fits, or is too long, or there is none.
+pub fits_measured : (looked : Option (List ℕ)) (len room : ℕ) → Some len ≡ option_map length looked → len ≤ room → IfSome looked (λ key. length key ≤ room)
+fits_measured None len room is short = tt
+fits_measured (Some key) len room is short = subst (λ n. n ≤ room) (ap (λ o. unwrap_or o len) is) short
 
-  module _ (scan : Scan) (is : IsStart before) where
-    -- behind a string that a scan may begin at, what is said of its neighbour is what is said of the scan
-    begun : (answer : ℕ) → IsSaid (told_says map (neighbour scan map (start before)) before after) answer → IsSaid (scan_says map (neighbour scan map) before after) answer
-    begun zero said = (is, said)
-    begun (suc zero) said = (is, said)
-    begun (suc (suc zero)) said = said
-    begun (suc (suc (suc zero))) said = said
-    begun (suc (suc (suc (suc zero)))) said = absurd said
-    begun (suc (suc (suc (suc (suc zero))))) said = (is, said)
-    begun (suc (suc (suc (suc (suc (suc n)))))) said = said
+pub long_measured : (looked : Option (List ℕ)) (len room : ℕ) → Some len ≡ option_map length looked → room < len → (key : List ℕ) × (looked ≡ Some key) × (length key ≡ len) × (room < length key)
+long_measured None len room is long = absurd (true≢false (ap is_some is))
+long_measured (Some key) len room is long = let same = ap (λ o. unwrap_or o len) is in (key, refl, sym same, subst (λ n. room < n) same long)
 
-    -- and so it is of the key that a scan left in its buffer
-    pub told : (found : Option ℕ) (key : List ℕ) (answer : ℕ) → key ≡ unwrap_or (neighbour scan map (start before)) (start before) →
-        found ≡ value_found map (neighbour scan map (start before)) → IsSaid (entry_says found key before after) answer → IsSaid (scan_says map (neighbour scan map) before after) answer
-    told found key answer at value said =
-        begun answer (told_key (neighbour scan map (start before)) (neighbour scan map (start before)) refl (neighbour_held scan map (start before)) (start before) found key answer at value said)
+pub none_measured : (looked : Option (List ℕ)) → None ≡ option_map length looked → looked ≡ None
+none_measured None is = refl
+none_measured (Some key) is = absurd (true≢false (sym (ap is_some is)))
+
+-- One that is too long is told by its length.
+pub told_long : (map : FinMap byte_order ℕ) (looked : Option (List ℕ)) (before : CallerBuffer) (len : ℕ) → Some len ≡ option_map length looked → length before.buffer < len →
+    (key : List ℕ) × (looked ≡ Some key) × IsTooLong key before (record { buffer = before.buffer; count = before.count; value = len })
+told_long map looked before len is long = let found = long_measured looked len (length before.buffer) is long in (found.0, found.1, (found.3, refl, refl, sym found.2))
+
+-- One that stands at the front of a buffer that it fits is told with its value.
+pub told_found : (map : FinMap byte_order ℕ) (looked : Option (List ℕ)) (from : List ℕ) (before : CallerBuffer) (after : List ℕ) (len value : ℕ) →
+    IfSome looked (λ key. length key ≤ length before.buffer) → IsFront (unwrap_or looked from) before.buffer len after → Some value ≡ value_found map looked
+    → (told_says map looked before (record { buffer = after; count = len; value = value })).found
+told_found map None from before after len value fits is found = absurd (true≢false (ap is_some found))
+told_found map (Some key) from before after len value fits is found = (key, refl, fits, (is.1, is.0, sym found))
+
+-- So is the n-th key, where one was found with a value; else there is none, and the buffer stays.
+abbrev IsNthFront : Option (List ℕ) → List ℕ → ℕ → List ℕ → ℕ → Type 0
+IsNthFront looked buffer count after len = MatchOption looked ((after ≡ buffer) × (len ≡ count)) (λ found. IsFront found buffer len after)
+
+pub nth_told : (map : FinMap byte_order ℕ) (looked : Option (List ℕ)) (buffer : List ℕ) (count before : ℕ) (after : List ℕ) (len value : ℕ) →
+    IfSome looked (λ key. length key ≤ length buffer) → IsNthFront looked buffer count after len → Some value ≡ value_found map looked
+    → (told_says map looked (record { buffer = buffer; count = count; value = before }) (record { buffer = after; count = len; value = value })).found
+nth_told map None buffer count before after len value fits is found = absurd (true≢false (ap is_some found))
+nth_told map (Some key) buffer count before after len value fits is found = (key, refl, fits, (is.1, is.0, sym found))
+
+pub no_nth_told : (map : FinMap byte_order ℕ) (n : ℕ) (buffer : List ℕ) (count value : ℕ) (after : List ℕ) (len : ℕ) → IsNthFront (by_count map n) buffer count after len →
+    None ≡ value_found map (by_count map n)
+    → (told_says map (by_count map n) (record { buffer = buffer; count = count; value = value }) (record { buffer = after; count = len; value = value })).none
+no_nth_told map n buffer count value after len is none =
+    let absent = none_valued map (by_count map n) (nth_held map n) none in
+    let stays = subst (λ (looked : Option (List ℕ)). IsNthFront looked buffer count after len) absent is in
+    (absent, λ t. record { buffer = stays.0 t; count = stays.1 t; value = value })
 
 -- What the array is asked for is what the scan looks for.
 module _ (scan : Scan) (look : Look) (map : FinMap byte_order ℕ) (asks : neighbour_along look.side look.itself map ≡ neighbour scan map) (buffer : List ℕ)
@@ -95,31 +120,33 @@ module _ (scan : Scan) (look : Look) (map : FinMap byte_order ℕ) (asks : neigh
   abbrev from : List ℕ
   from = take count buffer
 
-  abbrev pub key_found : List ℕ
-  key_found = nearest_key look map from
+  pub looked_is : neighbour_along look.side look.itself map from ≡ neighbour scan map from
+  looked_is = ap (λ (looked : List ℕ → Option (List ℕ)). looked from) asks
 
-  pub key_is : key_found ≡ unwrap_or (neighbour scan map from) from
-  key_is = ap (λ (looked : List ℕ → Option (List ℕ)). unwrap_or (looked from) from) asks
+  pub fits_asked : (room : ℕ) → IfSome (neighbour scan map from) (λ key. length key ≤ room) → IfSome (neighbour_along look.side look.itself map from) (λ key. length key ≤ room)
+  fits_asked room = subst (λ (looked : Option (List ℕ)). IfSome looked (λ key. length key ≤ room)) (sym looked_is)
 
-  pub value_is : value_found map (neighbour_along look.side look.itself map from) ≡ value_found map (neighbour scan map from)
-  value_is = ap (λ (looked : List ℕ → Option (List ℕ)). value_found map (looked from)) asks
+  module _ (after : List ℕ) (len : ℕ) (is : IsFront (nearest_key look map from) buffer len after) where
+    abbrev front : IsFront (unwrap_or (neighbour scan map from) from) buffer len after
+    front = subst (λ looked. IsFront (unwrap_or looked from) buffer len after) looked_is is
 
-  module _ (after : List ℕ) (len : ℕ) (is : IsFront key_found buffer len after) where
-    -- Where no value was found there is no such key, and the buffer stays.
-    pub none_stays : None ≡ value_found map (neighbour scan map from) → (after ≡ buffer) × (len ≡ count)
-    none_stays none =
-        let same : key_found ≡ from = key_is ∙ ap (λ looked. unwrap_or looked from) (none_found scan map from none) in
-        let long = ap length same ∙ length-take-le count buffer inside in
-        (is.1 ∙ ap (λ key. key ++ drop (length key) buffer) same ∙ ap (λ n. from ++ drop n buffer) (length-take-le count buffer inside) ∙ take-append-drop count buffer, is.0 ∙ long)
+    -- A neighbour that was found with a value is told with it.
+    pub neighbour_told : (before value : ℕ) → IfSome (neighbour scan map from) (λ key. length key ≤ length buffer)
+        → Some value ≡ value_found map (neighbour_along look.side look.itself map from)
+        → (told_says map (neighbour scan map from) (record { buffer = buffer; count = count; value = before }) (record { buffer = after; count = len; value = value })).found
+    neighbour_told before value fits found =
+        told_found map (neighbour scan map from) from (record { buffer = buffer; count = count; value = before }) after len value fits front (found ∙ ap (value_found map) looked_is)
 
-  -- In a buffer of its own that begins with the same string it is the same key, with the same value.
-  module _ (room : List ℕ) (begins : take count room ≡ from) where
-    pub key_beside : (after : List ℕ) (len : ℕ) → IsFront (nearest_key look map (take count room)) room len after → take len after ≡ unwrap_or (neighbour scan map from) from
-    key_beside after len is = front-key _ room after len is ∙ ap (nearest_key look map) begins ∙ key_is
-
-    pub value_beside : (found : Option ℕ) → found ≡ value_found map (neighbour_along look.side look.itself map (take count room)) → found ≡ value_found map (neighbour scan map from)
-    value_beside found is = is ∙ ap (λ key. value_found map (neighbour_along look.side look.itself map key)) begins ∙ value_is
-
--- A buffer that begins with a string that was read begins with it by its length.
-pub room_begins : (room buffer : List ℕ) (count : ℕ) → count ≤ length buffer → take (length (take count buffer)) room ≡ take count buffer → take count room ≡ take count buffer
-room_begins room buffer count inside is = ap (λ n. take n room) (sym (length-take-le count buffer inside)) ∙ is
+    -- Where no value was found there is no neighbour, and the buffer stays.
+    pub no_neighbour_told : (value : ℕ) → None ≡ value_found map (neighbour_along look.side look.itself map from)
+        → (told_says map (neighbour scan map from) (record { buffer = buffer; count = count; value = value }) (record { buffer = after; count = len; value = value })).none
+    no_neighbour_told value none =
+        let absent = none_valued map (neighbour scan map from) (neighbour_held scan map from) (none ∙ ap (value_found map) looked_is) in
+        let same = ap (λ looked. unwrap_or looked from) absent in let long = length-take-le count buffer inside in (
+          absent,
+          λ t. record {
+            buffer = (front.1 ∙ ap (λ key. key ++ drop (length key) buffer) same ∙ ap (λ n. from ++ drop n buffer) long ∙ take-append-drop count buffer) t;
+            count = (front.0 ∙ ap length same ∙ long) t;
+            value = value;
+          },
+        )

@@ -37,7 +37,7 @@ use Rattle.std.specs.FinMap.{FinMap}
 use Rattle.std.specs.Result.{result_ok}
 use Rattle.judy_model.specs.Keys.{byte_order}
 use Rattle.judy_c.specs.Answers.{IsSaid}
-use Rattle.judy_c.specs.KeyScans.{CallerBuffer, scan_says}
+use Rattle.judy_c.specs.KeyScans.{CallerBuffer, slot_says}
 use Rattle.judy_c.specs.ScanSlots.{IsFoundSlot, behind, number_found}
 use Rattle.judy_c.specs.StringMaps.{array_in}
 use Rattle.judy_c.specs.StringSlots.{LendsSlotOf}
@@ -66,11 +66,11 @@ is_behind (Some slot) told before after is = sym (ap (λ (s : MutBor ℕ). s.now
 -- what a scan says of the slot that it lends it says of what stands where the caller is told
 said : (map : FinMap byte_order ℕ) (look : List ℕ → Option (List ℕ)) (before after : List ℕ × ℕ) (found : Result (MutBor ℕ) Missed) (told : ℕ) (slot last : MutBor ℕ) →
     IsFoundSlot map look before after found → IsAnswered found told slot last
-    → IsSaid (scan_says map look (record { buffer = before.0; count = before.1; value = slot.now }) (record { buffer = after.0; count = after.1; value = last.now })) told
+    → IsSaid (slot_says map look (record { buffer = before.0; count = before.1; value = slot.now }) (record { buffer = after.0; count = after.1; value = last.now })) told
 said map look before after found told slot last answer is =
     let room : List ℕ × ℕ → ℕ → CallerBuffer = λ at value. record { buffer = at.0; count = at.1; value = value } in
-    subst (IsSaid (scan_says map look (room before slot.now) (room after last.now))) (sym is.0)
-    (subst (λ value. IsSaid (scan_says map look (room before slot.now) (room after value)) (number_found found)) (is_behind (result_ok found) (told == 1) slot last is.1) (answer slot.now))
+    subst (IsSaid (slot_says map look (room before slot.now) (room after last.now))) (sym is.0)
+    (subst (λ value. IsSaid (slot_says map look (room before slot.now) (room after value)) (number_found found)) (is_behind (result_ok found) (told == 1) slot last is.1) (answer slot.now))
 
 abbrev Made : Lft → RattleType
 Made = answering.Made Missing missing_laws IsAnswered
@@ -119,7 +119,7 @@ module _ (look : Look) {M : Type 1} (𝓤 : Ura M) (𝓛 : Logic 𝓤) where
     requires = λ g. emp 𝓤;
     ensures = λ g told e. sep 𝓤 (sem 𝓛 (LendsSlotOf a.0 (take e.1.1.0.now e.1.0.now) (lent_where (told == 1) e.1.1.1.0.now)))
         (sep 𝓤
-        (fact 𝓤 (IsSaid (scan_says (array_in a.0.now).map (look (array_in a.0.now).map) (record { buffer = a.1.0.now; count = a.1.1.0.now; value = a.1.1.1.0.now.now })
+        (fact 𝓤 (IsSaid (slot_says (array_in a.0.now).map (look (array_in a.0.now).map) (record { buffer = a.1.0.now; count = a.1.1.0.now; value = a.1.1.1.0.now.now })
         (record { buffer = e.1.0.now; count = e.1.1.0.now; value = e.1.1.1.0.now.now })) told))
         (fact 𝓤 (IsTold (lent_where (told == 1) e.1.1.1.0.now) (told == 1) a.1.1.1.0.now e.1.1.1.0.now)));
   }
@@ -175,6 +175,6 @@ module _ (look : Look) {M : Type 1} (𝓤 : Ura M) (𝓛 : Logic 𝓤) where
       nothing ! $ move ! (1 ∷ 0 ∷ []) $ fjoin ! $ move ! (3 ∷ 0 ∷ []) $ fjoin ! $ move ! (3 ∷ 0 ∷ []) $ fjoin ! $ nothing ! $ fjoin ! $
       flt_i ! told (2 ^ 32) fits $ feq_i ! (List Val) (vint w32 told ∷ []) (vint w32 told ∷ []) refl $ fjoin ! $ move ! (2 ∷ 1 ∷ 0 ∷ []) $
       group ! 3 $ frame ! $ frame ! $ says ! (subst (λ (o : Option (MutBor ℕ)). IsTold o (told == 1) slot.now last) (sym same) is.1) $
-      use0 𝓛 (raw (fact 𝓤 (IsSaid (scan_says (array_in handle.now).map (look (array_in handle.now).map) (record { buffer = buffer.now; count = count.now; value = slot.now.now })
+      use0 𝓛 (raw (fact 𝓤 (IsSaid (slot_says (array_in handle.now).map (look (array_in handle.now).map) (record { buffer = buffer.now; count = count.now; value = slot.now.now })
       (record { buffer = ws.1.0; count = ws.1.1.0; value = last.now })) told)))
       (fact_i 𝓤 _ (emp 𝓤) (said (array_in handle.now).map (look (array_in handle.now).map) (buffer.now, count.now) (ws.1.0, ws.1.1.0) found told slot.now last scanned is)) $ done !)))))))))

@@ -3,8 +3,9 @@ use Rattle.std.proofs.Common.{◌≡◌, ℕ, List, [], ◌∷◌, map, inr, ref
 use Rattle.std.specs.Prelude.{Result, Ok, Err, IfErr}
 use Rattle.std.specs.Result.{IsErrAnd}
 use Rattle.std.specs.Borrow.{Bor}
-use Rattle.judy_model.specs.Keys.{byte_order, IsStringKey}
+use Rattle.judy_model.specs.Keys.{byte_order}
 use Rattle.judy_model.specs.Arrays.{ArrayOf}
+use Rattle.judy_sl.specs.Strings.{IsString}
 use Rattle.judy_sl.specs.Sorted.{pairs_in, strings_in, IsFault}
 use Rattle.judy_sl.specs.declared.sorted.SlSortedError.{SlSortedError}
 use Rattle.judy_sl.specs.declared.sorted.SlSortedError.TheVariants.{BadKey, NotAscending, Full, NoMemory}
@@ -18,8 +19,8 @@ strings_listed (pair ∷ pairs) = ap (λ rest. pair.0.now ∷ rest) (strings_lis
 
 -- a list whose strings don't fit
 pub list_unfit : (page : Page) (pairs : List (Bor (List ℕ) × ℕ)) (fault : SlSortedError) → AreWhole page → pairs_in pairs ≡ pairs_on page.bytes page.entries →
-    IsFault IsStringKey most_strings (strings_in pairs) fault → IsUnfit page fault
-list_unfit page pairs fault whole listed is = inr (whole, subst (λ strings. IsFault IsStringKey most_strings strings fault) (strings_listed pairs ∙ ap (map (λ pair. pair.0)) listed) is)
+    IsFault IsString most_strings (strings_in pairs) fault → IsUnfit page fault
+list_unfit page pairs fault whole listed is = inr (whole, subst (λ strings. IsFault IsString most_strings strings fault) (strings_listed pairs ∙ ap (map (λ pair. pair.0)) listed) is)
 
 -- what is answered then
 pub unfit_answered : (page : Page) (array : ArrayOf byte_order) (same : Type 0) (fault : SlSortedError) (before answer after : ℕ) → IsUnfit page fault →

@@ -1,28 +1,16 @@
 -- What a handle that holds an array of strings, or none, stands for.
-use Rattle.std.proofs.Common.{◌≡◌, ℕ, Bool, true, false, cond, true≢false, List, refl, sym, ap, ◌∙◌, Option, Some, None, IsFalse, not, ◌&&◌, ◌==◌}
+use Rattle.std.proofs.Common.{◌≡◌, ℕ, Bool, true, false, true≢false, List, refl, sym, ap, ◌∙◌, Option, Some, None, IsFalse, not, ◌&&◌, ◌==◌}
 use Rattle.std.specs.Prelude.{is_some}
-use Rattle.std.specs.FinMap.{FinMap, get, contains_key, len, empty, get-empty, get-insert, get_tied, len-empty, same_map}
-use Rattle.std.specs.Cmp.{Equal-is}
-use Rattle.std.specs.Ordering.{eq_by_cmp}
+use Rattle.std.specs.FinMap.{FinMap, get, contains_key, len, empty, get-empty, len-empty}
 use Rattle.judy_model.specs.Keys.{byte_order}
 use Rattle.judy_model.specs.Arrays.{ArrayOf, empty_array, with_map, del, is_full}
 use Rattle.judy_model.proofs.lemmas.maps.SortedMaps.{remove_absent}
 use Rattle.judy_model.proofs.lemmas.maps.TableLemmas.{byte_order_total, byte_order_same}
-use Rattle.judy_sl.specs.Lends.{with_value}
 use Rattle.judy_c.specs.Told.{IsTold}
 
 -- a key that is absent is taken out by no change
 pub absent_deleted : (array : ArrayOf byte_order) (key : List ℕ) → get array.map key ≡ None → array ≡ with_map array (del array.map key)
 absent_deleted array key absent = ap (with_map array) (sym (remove_absent byte_order_total byte_order_same array.map key absent))
-
--- a key that gets the value that it has already changes nothing
-pub kept_value : (array : ArrayOf byte_order) (key : List ℕ) (value : ℕ) → get array.map key ≡ Some value → with_value array key value ≡ array
-kept_value array key value held = ap (with_map array) (same_map byte_order_total byte_order_same _ _ (λ q.
-    get-insert byte_order_total array.map key value q
-    ∙ elim (eq_by_cmp byte_order q key) as (λ b. eq_by_cmp byte_order q key ≡ b → cond b (Some value) (get array.map q) ≡ get array.map q) [
-      | true ↦ λ e. sym held ∙ get_tied byte_order_total array.map q key ((Equal-is (byte_order q key)).0 e)
-      | false ↦ λ e. refl
-    ] refl))
 
 -- an empty array has no key to take out
 pub nothing_deleted : (array : ArrayOf byte_order) (key : List ℕ) → array ≡ empty_array 4294967295 → array ≡ with_map array (del array.map key)

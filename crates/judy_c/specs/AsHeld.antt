@@ -6,7 +6,7 @@ use Rattle.judy_c.specs.declared.map.Map.{Map}
 use Rattle.judy_c.specs.declared.strings.Strings.{Strings}
 use Rattle.judy_c.specs.declared.bytes.Bytes.{Bytes}
 use Rattle.judy_word.specs.Rows.{judy1_row, judyl_row}
-use Rattle.judy_sl.specs.Rows.{judysl_row}
+use Rattle.judy_sl.specs.Rows.{long_strings_row}
 
 -- Of a set: what it holds, and the handle that holds that.
 abbrev pub held_by_set : Set → Held judy1_row.Denot
@@ -23,10 +23,10 @@ abbrev pub as_map : Held judyl_row.Denot → Map
 as_map held = record { at = held.at; array = held.array }
 
 -- Of a map from strings.
-abbrev pub held_by_strings : Strings → Held judysl_row.Denot
+abbrev pub held_by_strings : Strings → Held long_strings_row.Denot
 held_by_strings handle = record { at = handle.at; array = handle.array }
 
-abbrev pub as_strings : Held judysl_row.Denot → Strings
+abbrev pub as_strings : Held long_strings_row.Denot → Strings
 as_strings held = record { at = held.at; array = held.array }
 
 -- Of a map from byte strings.

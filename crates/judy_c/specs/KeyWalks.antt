@@ -1,6 +1,6 @@
 -- How a walk of C over an array of strings, or of byte strings, fills the caller's two buffers: the bytes of the keys one behind the other, and the
 -- length and the value of each.
-use Rattle.std.specs.Prelude.{◌≡◌, ◌++◌, ◌-◌, ℕ, zero, suc, Bool, if◌then◌else◌, nat_le, List, [], ◌∷◌, length, drop, map, flat_map, Option}
+use Rattle.std.specs.Prelude.{◌≡◌, ◌++◌, ◌+◌, ◌-◌, ℕ, zero, suc, Bool, true, if◌then◌else◌, nat_le, List, [], ◌∷◌, length, take, drop, map, flat_map, Option, Some, None}
 use Rattle.std.specs.FinMap.{FinMap, entries}
 use Rattle.judy_model.specs.Keys.{byte_order}
 use Rattle.judy_model.specs.Counts.{rank, count_up_to}
@@ -12,9 +12,13 @@ use Rattle.judy_c.specs.declared.key_walks.KeyEntry.{KeyEntry}
 abbrev pub Pairs : Type 0
 Pairs = List (List ℕ × ℕ)
 
--- Those of a map from a string on, or from above it, by ascending key.
+-- Where those of a map from a string on begin, or from above it, by ascending key.
+abbrev pub place_from : FinMap byte_order ℕ → List ℕ → Bool → ℕ
+place_from map from itself = if itself then rank map from else count_up_to map from
+
+-- They themselves.
 abbrev pub pairs_from : FinMap byte_order ℕ → List ℕ → Bool → Pairs
-pairs_from map from itself = drop (if itself then rank map from else count_up_to map from) (entries map)
+pairs_from map from itself = drop (place_from map from itself) (entries map)
 
 -- The least key of those.
 abbrev pub beside : FinMap byte_order ℕ → List ℕ → Bool → Option (List ℕ)
@@ -56,3 +60,16 @@ IsWritten pairs before count after =
 -- Of what is still to come, as many pairs as fit.
 abbrev pub IsFilled : Pairs → Page → ℕ → Page → Type 0
 IsFilled rest before count after = IsWritten (fitting (length before.bytes) (length before.entries) rest) before count after
+
+-- What is told of a pair whose key is written behind so many bytes; what stands behind it stays.
+pub record IsPutAt (pair : List ℕ × ℕ) (used : ℕ) (before : List ℕ) (entry : KeyEntry) (after : List ℕ) : Type 0 where
+  pub told : entry ≡ record { length = length pair.0; value = pair.1 }
+  pub fits : nat_le (length pair.0) (length before - used) ≡ true
+  pub written : take (used + length pair.0) after ≡ take used before ++ pair.0
+  pub behind : drop (used + length pair.0) after ≡ drop (used + length pair.0) before
+  pub same_length : length after ≡ length before
+
+-- The first pair of what is still to come is written so, where it fits; else the bytes stay.
+abbrev pub IsPut : Pairs → ℕ → List ℕ → Option KeyEntry → List ℕ → Type 0
+IsPut rest used before None after = (fitting (length before - used) 1 rest ≡ []) × (after ≡ before)
+IsPut rest used before (Some entry) after = (pair : List ℕ × ℕ) × (rest ≡ pair ∷ drop 1 rest) × IsPutAt pair used before entry after

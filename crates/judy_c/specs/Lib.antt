@@ -8,6 +8,7 @@ pub mod Told
 pub mod SlotLends
 pub mod Puts
 pub mod StringMaps
+pub mod StringRemovals
 pub mod Answers
 pub mod KeyInserts
 pub mod KeyScans

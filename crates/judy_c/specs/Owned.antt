@@ -9,7 +9,7 @@ use Rattle.std.specs.Global.{Global}
 use Rattle.std.specs.Coded.{coded_option}
 use Rattle.std_heap.specs.contracts.GlobalAllocator.TheImpl.{ghosts}
 use Rattle.judy_word.specs.Rows.{judy1_row, judyl_row}
-use Rattle.judy_sl.specs.Rows.{judysl_row}
+use Rattle.judy_sl.specs.Rows.{long_strings_row}
 use Rattle.judy_hs.specs.contracts.judyhs.JudyHs as judyhs
 use Rattle.judy_hs.specs.contracts.hash.Eights as eights
 use Rattle.judy_hs.specs.contracts.hash.EightsByteHash.TheImpl as hash
@@ -40,11 +40,11 @@ abbrev pub set_coded : Coded (Option judy1_row.Denot)
 set_coded = coded_option judy1_row.coded
 
 -- The same of a map from strings.
-abbrev pub held_judysl : Ptr → Option judysl_row.Denot → Fml
-held_judysl = held judysl_row
+abbrev pub held_judysl : Ptr → Option long_strings_row.Denot → Fml
+held_judysl = held long_strings_row
 
-abbrev pub strings_coded : Coded (Option judysl_row.Denot)
-strings_coded = coded_option judysl_row.coded
+abbrev pub strings_coded : Coded (Option long_strings_row.Denot)
+strings_coded = coded_option long_strings_row.coded
 
 -- An array over byte strings, under the hash `Eights`.
 abbrev pub judyhs_row : RattleType

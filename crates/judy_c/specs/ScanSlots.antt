@@ -8,7 +8,7 @@ use Rattle.judy_model.specs.Keys.{byte_order}
 use Rattle.judy_c.specs.declared.answers.Missed.{Missed}
 use Rattle.judy_c.specs.declared.answers.Missed.TheVariants.{NoKey, BadKey, TooSmall}
 use Rattle.judy_c.specs.Answers.{IsSaid}
-use Rattle.judy_c.specs.KeyScans.{scan_says}
+use Rattle.judy_c.specs.KeyScans.{slot_says}
 
 -- The number of what it lends.
 abbrev pub number_found : Result (MutBor ℕ) Missed → ℕ
@@ -27,5 +27,5 @@ abbrev pub IsFoundSlot : FinMap byte_order ℕ → (List ℕ → Option (List �
 IsFoundSlot map look before after found =
     (other : ℕ)
     → IsSaid
-    (scan_says map look (record { buffer = before.0; count = before.1; value = other }) (record { buffer = after.0; count = after.1; value = behind (result_ok found) other }))
+    (slot_says map look (record { buffer = before.0; count = before.1; value = other }) (record { buffer = after.0; count = after.1; value = behind (result_ok found) other }))
     (number_found found)

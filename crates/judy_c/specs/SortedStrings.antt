@@ -2,8 +2,9 @@
 -- and the value of each in its entries.
 use Rattle.std.specs.Prelude.{◌≡◌, ℕ, zero, suc, ◌<◌, ◌⊎◌, nat_le, if◌then◌else◌, List, [], ◌∷◌, length, take, drop, map}
 use Rattle.std.specs.FinMap as finmap
-use Rattle.judy_model.specs.Keys.{byte_order, IsStringKey}
+use Rattle.judy_model.specs.Keys.{byte_order}
 use Rattle.judy_model.specs.Arrays.{ArrayOf}
+use Rattle.judy_sl.specs.Strings.{IsString}
 use Rattle.judy_sl.specs.Sorted.{IsFault}
 use Rattle.judy_sl.specs.declared.sorted.SlSortedError.{SlSortedError}
 use Rattle.judy_sl.specs.declared.sorted.SlSortedError.TheVariants.{BadKey, NotAscending, Full, NoMemory}
@@ -48,7 +49,7 @@ IsUnlisted page NoMemory = Unit {0}
 
 -- Why no array is made of them: one goes beyond the bytes; or none does, and a string doesn't fit, or all fit and there is no memory.
 abbrev pub IsUnfit : Page → SlSortedError → Type 0
-IsUnfit page fault = IsCut page fault ⊎ (AreWhole page × IsFault IsStringKey most_strings (strings_on page.bytes page.entries) fault)
+IsUnfit page fault = IsCut page fault ⊎ (AreWhole page × IsFault IsString most_strings (strings_on page.bytes page.entries) fault)
 
 -- The number by which that is answered, and the place that is told: of a string that is no key, or isn't above the one before it.
 abbrev pub number_of : SlSortedError → ℕ

@@ -4,8 +4,8 @@ use Rattle.std.specs.Borrow.{Fml, MutBor}
 use Rattle.judy_model.specs.Keys.{byte_order}
 use Rattle.judy_model.specs.Arrays.{ArrayOf}
 use Rattle.judy_sl.specs.Lends as lends
-use Rattle.judy_sl.specs.contracts.keys.StoreKeys as store
-use Rattle.judy_sl.specs.contracts.keys.StoreKeysKeyLength.TheImpl as lengths
+use Rattle.judy_sl.specs.contracts.keys.AnyLength as any
+use Rattle.judy_sl.specs.contracts.keys.AnyLengthKeyLength.TheImpl as any_lengths
 use Rattle.judy_c.specs.KeySlots as slots
 use Rattle.judy_c.specs.declared.answers.InsertRefusal.{InsertRefusal}
 use Rattle.judy_c.specs.declared.strings.Strings.{Strings}
@@ -14,7 +14,7 @@ use Rattle.judy_c.specs.StringMaps.{array_in}
 
 -- Of an array that a handle holds.
 abbrev pub LendsSlotIn : MutBor (ArrayOf byte_order) → List ℕ → Option (MutBor ℕ) → Fml
-LendsSlotIn = lends.LendsSlot store.the_row lengths.ghosts
+LendsSlotIn = lends.LendsSlot any.the_row any_lengths.ghosts
 
 -- Of the handle.
 abbrev pub LendsSlotOf : MutBor Strings → List ℕ → Option (MutBor ℕ) → Fml

@@ -5,7 +5,8 @@ ghost use Rattle.std.specs.Borrow.{sem};
 ghost use Rattle.std.specs.FinMap as map;
 ghost use Rattle.std.specs.Option.{option_copied_mut};
 ghost use Rattle.judy_model.specs.Arrays.{ArrayOf, empty_array};
-ghost use Rattle.judy_model.specs.Keys.{byte_order, IsStringKey};
+ghost use Rattle.judy_model.specs.Keys.{byte_order};
+ghost use Rattle.judy_sl.specs.Strings.{IsString};
 ghost use Rattle.judy_c.specs.KeyInserts.{IsMade, IsShort};
 ghost use Rattle.judy_c.specs.KeyPuts.{IsStored};
 ghost use Rattle.judy_c.specs.KeySlots.{LendsInsOf, LendsSlotOf};
@@ -14,7 +15,7 @@ ghost use Rattle.judy_c.specs.NullArrays.{unbounded, empty_keyed};
 use crate::answers::{InsertRefusal, Outcome};
 use judy_hs::{Eights, HsError, JudyHs};
 use judy_leaf::Words;
-use judy_sl::{JudySl, SlError};
+use judy_sl::{LongStrings, SlError};
 use judy_word::WordArray;
 use std::alloc::Global;
 
@@ -78,11 +79,11 @@ impl<V: Words + Drop> HeldArray for WordArray<V> {
     }
 }
 
-impl HeldArray for JudySl {
+impl HeldArray for LongStrings {
     ghost without_keys = { empty_keyed };
 
-    fn empty(alloc: Global) -> JudySl {
-        JudySl::new(alloc, MOST_KEYS)
+    fn empty(alloc: Global) -> LongStrings {
+        LongStrings::new(alloc, MOST_KEYS)
     }
 }
 
@@ -106,12 +107,12 @@ macro_rules! made {
     };
 }
 
-impl KeyedArray for JudySl {
+impl KeyedArray for LongStrings {
     ghost use Rattle.std.specs.Prelude.{refl};
 
     ghost seen = { λ array. array };
 
-    ghost IsKey = { IsStringKey };
+    ghost IsKey = { IsString };
 
     fn put_in(&mut self, key: &[u8]) -> Outcome<&mut u64> {
         made!(self.ins(key), SlError::BadKey)

@@ -12,7 +12,7 @@ use crate::map::Map;
 use crate::set::Set;
 use crate::strings::Strings;
 use judy_hs::{Eights, JudyHs};
-use judy_sl::JudySl;
+use judy_sl::LongStrings;
 use judy_word::{Judy1, JudyL};
 use std::alloc::{AllocError, Global};
 
@@ -165,7 +165,7 @@ impl Handle for Map {
 }
 
 impl Handle for Strings {
-    type Array = JudySl;
+    type Array = LongStrings;
 
     ghost use Rattle.std.specs.Prelude.{refl};
     ghost use Rattle.judy_c.specs.AsHeld.{held_by_strings, as_strings};
@@ -174,8 +174,8 @@ impl Handle for Strings {
 
     ghost holding = { as_strings };
 
-    fn held(&mut self) -> &mut Held<JudySl> {
-        unsafe { &mut *(self as *mut Strings as *mut Held<JudySl>) }
+    fn held(&mut self) -> &mut Held<LongStrings> {
+        unsafe { &mut *(self as *mut Strings as *mut Held<LongStrings>) }
     }
 
     ghost again = { λ handle. refl };

@@ -1,21 +1,23 @@
 //! The calls of C on maps from strings to words.
 //!
 //! C knows a map by its handle, one word (strings.rt); a handle of zeros is the map without keys. Each call answers
-//! what the call of `judy_sl::JudySl` of the same name does for that map. A key is a pointer and a length. A call that
-//! may have no answer tells it through its last parameter, where it answers true or `FOUND`, and leaves that alone
-//! else.
+//! what the call of `judy_sl::LongStrings` of the same name does for that map. A key is a pointer and a length: bytes
+//! without zeros, at most 9,223,372,036,854,775,807 of them. A call that may have no answer tells it through its last
+//! parameter, where it answers true or `FOUND`, and leaves that alone else.
 //!
 //! A scan begins at the string in a buffer of the caller's, of so many bytes as the count says, and answers `FOUND`
-//! with the key there, its length in the count and its value; or `NONE` where there is no such key, `BAD_KEY` where the
-//! buffer holds no such string or the count is above its length, or `TOO_SMALL` where the key doesn't fit: then buffer,
-//! count and value stay.
+//! with the key there, its length in the count and its value. Or `NONE` where there is no such key, or `BAD_KEY` where
+//! the buffer holds no such string or the count is above its length: then all stays. Or `TOO_SMALL` where the key
+//! doesn't fit: then buffer and count stay, and the value tells how many bytes the key has. `sellumaq_judysl_longest`
+//! tells how much room is always enough.
 
 ghost use Rattle.std.specs.Prelude.{◌≡◌, None};
 ghost use Rattle.std.specs.FinMap as map;
 ghost use Rattle.std.specs.Option.{option_copied_mut};
 ghost use Rattle.judy_model.specs.Arrays as array;
-ghost use Rattle.judy_model.specs.Keys.{IsStringKey};
 ghost use Rattle.judy_model.specs.Neighbours as neighbours;
+ghost use Rattle.judy_sl.specs.Strings.{IsString};
+ghost use Rattle.judy_sl.specs.Arenas.{AreWithin};
 ghost use Rattle.judy_c.specs.Answers.{IsSaid, answered, IsHanded};
 ghost use Rattle.judy_c.specs.KeyInserts.{IsMadeAs};
 ghost use Rattle.judy_c.specs.KeyScans.{scan_says};
@@ -55,7 +57,7 @@ pub extern "C" fn sellumaq_judysl_ins<'a>(
     slot: &mut &'a mut u64,
 ) -> u32
     ensures* writes_back { sem 𝓛 (LendsAnswered handle.entry key.now (answered result slot.new)) }
-    ensures made { IsMadeAs IsStringKey (array_in handle.old) key.now (answered result slot.new) }
+    ensures made { IsMadeAs IsString (array_in handle.old) key.now (answered result slot.new) }
     ensures told { IsHanded (answered result slot.new) slot.old slot.new }
 {
     answer_insert(handle.ins(alloc, key), slot)
@@ -164,6 +166,21 @@ pub extern "C" fn sellumaq_judysl_len(alloc: Global, handle: &mut Strings) -> u6
     ensures same { handle.new ≡ handle.old }
 {
     handle.ask(alloc, |array| array.len())
+}
+
+/// A length that no key exceeds, and so room for what each search finds: that of the longest key that came in since
+/// the map was last empty, also where that key has gone; 0 for a null handle. A walk asks for it once. (This project's
+/// own.)
+#[unsafe(no_mangle)]
+pub extern "C" fn sellumaq_judysl_longest(handle: &mut Strings) -> usize
+    ensures within { AreWithin result (array_in handle.old).map }
+    ensures null { handle.old.array ≡ None → result ≡ 0 }
+    ensures same { handle.new ≡ handle.old }
+{
+    match handle.array() {
+        Some(array) => array.longest(),
+        None => 0,
+    }
 }
 
 /// Moves keys together, so that memory which deletes left free within the map's pages goes back. It asks for no memory

@@ -6,7 +6,7 @@
 ghost use Rattle.std.specs.Prelude.{◌≡◌};
 ghost use Rattle.std.specs.FinMap as map;
 ghost use Rattle.judy_model.specs.Arrays as array;
-ghost use Rattle.judy_model.specs.Keys.{IsStringKey};
+ghost use Rattle.judy_sl.specs.Strings.{IsString};
 ghost use Rattle.judy_c.specs.ByteMaps as bytes;
 ghost use Rattle.judy_c.specs.KeyInserts.{IsShort};
 ghost use Rattle.judy_c.specs.KeyPuts.{IsPut, IsToldOld};
@@ -29,7 +29,7 @@ pub extern "C" fn sellumaq_judysl_put(
     key: &[u8],
     value: u64,
 ) -> u32
-    ensures { IsPut IsStringKey (strings.array_in handle.old) key.now value
+    ensures { IsPut IsString (strings.array_in handle.old) key.now value
         (handle.new ≡ handle.old) result (strings.array_in handle.new) }
 {
     let mut was = 0;
@@ -45,7 +45,7 @@ pub extern "C" fn sellumaq_judysl_insert(
     value: u64,
     was: &mut u64,
 ) -> u32
-    ensures stored { IsPut IsStringKey (strings.array_in handle.old) key.now value
+    ensures stored { IsPut IsString (strings.array_in handle.old) key.now value
         (handle.new ≡ handle.old) result (strings.array_in handle.new) }
     ensures told { IsToldOld
         (map.get (strings.array_in handle.old).map key.now) result was.old was.new }

@@ -4,7 +4,7 @@
 //! other. A walk ends where either has no room for the next key.
 
 ghost use Rattle.std.specs.Prelude.{◌≡◌, IsTrue, IsFalse, []};
-ghost use Rattle.judy_model.specs.Keys.{IsStringKey};
+ghost use Rattle.judy_sl.specs.Strings.{IsString};
 ghost use Rattle.judy_c.specs.ByteMaps as hashed;
 ghost use Rattle.judy_c.specs.KeyWalks.{IsFilled, page_of, pairs_from, pairs_behind};
 ghost use Rattle.judy_c.specs.StringMaps as strings;
@@ -15,7 +15,7 @@ use crate::bytes::Bytes;
 use crate::handles::Handle;
 use crate::strings::Strings;
 use fill::{fill_behind, fill_strings};
-use judy_sl::is_key;
+use judy_sl::LongStrings;
 
 /// What a walk tells of a key: how many bytes it has, and its value.
 #[repr(C)]
@@ -27,7 +27,8 @@ pub struct KeyEntry {
 
 /// The keys of a map from a string on, or from above it, with their values, by ascending key, as many as fit; answers
 /// how many these are. None where the map can't hold the string. The first key is one way down the map, and each later
-/// one a step from the key before.
+/// one a step from the key before; but where a key that came in since the map was last empty, or the string, has more
+/// than 1,024 bytes, each key takes two ways down the map, some microseconds. It asks for no memory.
 #[unsafe(no_mangle)]
 pub extern "C" fn sellumaq_judysl_walk(
     handle: &mut Strings,
@@ -36,14 +37,14 @@ pub extern "C" fn sellumaq_judysl_walk(
     bytes: &mut [u8],
     entries: &mut [KeyEntry],
 ) -> usize
-    ensures filled { IsStringKey from.now
+    ensures filled { IsString from.now
         → IsFilled (pairs_from (strings.array_in handle.old).map from.now itself)
         (page_of bytes.old entries.old) result (page_of bytes.new entries.new) }
-    ensures refused { (IsStringKey from.now → ⊥)
+    ensures refused { (IsString from.now → ⊥)
         → IsFilled [] (page_of bytes.old entries.old) result (page_of bytes.new entries.new) }
     ensures same { handle.new ≡ handle.old }
 {
-    if !is_key(from) {
+    if !LongStrings::is_key(from) {
         return 0;
     }
     match handle.array() {

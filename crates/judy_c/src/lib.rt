@@ -1,7 +1,7 @@
 //! The arrays for C: the calls that `bindings/c/sellumaq.h` declares.
 //!
 //! C holds an array by a handle, one word: null is the array without keys, and any other is the address of a box that
-//! holds a [`judy_word::Judy1`], a [`judy_word::JudyL`], a [`judy_sl::JudySl`] or a [`judy_hs::JudyHs`], which the
+//! holds a [`judy_word::Judy1`], a [`judy_word::JudyL`], a [`judy_sl::LongStrings`] or a [`judy_hs::JudyHs`], which the
 //! handle owns. To contracts a handle is that array or none (specs/Maps.antt, StringMaps.antt, ByteMaps.antt), and each
 //! call's contract says by it what the call answers and what the handle is then. Where a call hands out a slot the
 //! contract says what value is behind it, and that what is left there is the key's value, and no other's. A call whose
@@ -23,7 +23,8 @@
 //! alike, and string_prefixes.rt the longest key that begins some bytes, sorted.rt and sorted_strings.rt those that
 //! make an array at once, saved.rt those that dump and load one, told.rt how a call answers a word or a slot that may
 //! not be there, answers.rt how one answers by a number, scans.rt the scans over strings, string_counts.rt their
-//! counts, and box_parts.rt a box as its pointer. The crate is a static library, and no other stands on it.
+//! counts, memory.rt how many bytes an array takes, and box_parts.rt a box as its pointer. The crate is a static
+//! library, and no other stands on it.
 #![tactic(auto)]
 
 mod answers;
@@ -45,6 +46,7 @@ mod looks;
 mod made_of_strings;
 mod made_of_two;
 mod map;
+mod memory;
 mod nearest_slots;
 mod ranges;
 mod saved;

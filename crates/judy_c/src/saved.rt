@@ -59,7 +59,8 @@ pub extern "C" fn sellumaq_judyl_dump(
     dump(alloc, handle, format, name, room, size)
 }
 
-/// Writes the dump of a map from strings, as `sellumaq_judy1_dump` writes that of a set.
+/// Writes the dump of a map from strings, as `sellumaq_judy1_dump` writes that of a set. Behind 7 and before 5 comes 4,
+/// where a key has more than 1,024 bytes.
 #[unsafe(no_mangle)]
 pub extern "C" fn sellumaq_judysl_dump(
     alloc: Global,

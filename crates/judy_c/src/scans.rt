@@ -1,19 +1,18 @@
 //! The scans of C over an array of strings.
 
-ghost use Rattle.std.specs.Prelude.{◌≡◌, ◌≤◌, ◌<◌, ◌++◌, ◌↔◌, ℕ, IsTrue, IsFalse, length, take, drop};
+ghost use Rattle.std.specs.Prelude.{◌≡◌, ◌≤◌, ◌↔◌, ℕ, IsTrue, IfSome, length, take};
 ghost use Rattle.std.specs.FinMap.{FinMap};
-ghost use Rattle.judy_model.specs.Keys.{byte_order, IsStringKey};
-ghost use Rattle.judy_model.specs.declared.keys.TheConstants.{LONGEST_KEY};
+ghost use Rattle.judy_model.specs.Keys.{byte_order};
+ghost use Rattle.judy_sl.specs.Strings.{IsString};
 ghost use Rattle.judy_sl.specs.Scans.{neighbour_along};
 ghost use Rattle.judy_c.specs.Answers.{IsSaid};
-ghost use Rattle.judy_c.specs.KeyScans.{neighbour, scan_says, entry_says};
+ghost use Rattle.judy_c.specs.KeyScans.{neighbour, scan_says};
 ghost use Rattle.judy_c.specs.StringMaps.{array_in};
 
 use crate::answers::{BAD_KEY, FOUND, NONE, TOO_SMALL};
 use crate::handles::Handle;
 use crate::strings::Strings;
-use judy_model::keys::LONGEST_KEY;
-use judy_sl::{JudySl, Look, Side, is_key};
+use judy_sl::{LongStrings, Look, Side};
 
 // What a scan looks for: the least key from a string on, the least above it, the greatest up to it, the greatest below
 // it.
@@ -46,28 +45,34 @@ impl Scan {
         }
         match handle.array() {
             Some(array) => {
-                if buffer.len() < LONGEST_KEY {
-                    self.tell_beside(array, buffer, count, value)
-                } else {
+                if array.longest() <= buffer.len() {
                     self.tell_in(array, buffer, count, value)
+                } else {
+                    self.tell_measured(array, buffer, count, value)
                 }
             }
             None => NONE,
         }
     }
 
-    // The same where the buffer begins with such a string, and any key fits it: the key is written where it is to
+    // The same where the buffer begins with such a string, and the key fits it: the key is written where it is to
     // stand.
     #[inline(always)]
-    fn tell_in(self, array: &JudySl, buffer: &mut [u8], count: &mut usize, value: &mut u64) -> u32
-        requires room { LONGEST_KEY ≤ length buffer.old }
+    fn tell_in(
+        self,
+        array: &LongStrings,
+        buffer: &mut [u8],
+        count: &mut usize,
+        value: &mut u64,
+    ) -> u32
+        requires room { IfSome (neighbour self array.now.map (take count.old buffer.old))
+            (λ key. length key ≤ length buffer.old) }
         requires start { (count.old ≤ length buffer.old)
-            × IsStringKey (take count.old buffer.old) }
+            × IsString (take count.old buffer.old) }
         ensures { IsSaid (scan_says array.now.map (neighbour self array.now.map)
             (record { buffer = buffer.old; count = count.old; value = value.old })
             (record { buffer = buffer.new; count = count.new; value = value.new })) result }
     {
-        let _longest = array.longest();
         match array.neighbour_in(self.look(), buffer, count) {
             Some(word) => {
                 *value = word;
@@ -77,26 +82,29 @@ impl Scan {
         }
     }
 
-    // The same where not every key fits: the key is found in a buffer of its own.
+    // The same where not every key fits: how long the key is, is asked first.
     #[inline(never)]
-    fn tell_beside(
+    fn tell_measured(
         self,
-        array: &JudySl,
+        array: &LongStrings,
         buffer: &mut [u8],
         count: &mut usize,
         value: &mut u64,
     ) -> u32
         requires start { (count.old ≤ length buffer.old)
-            × IsStringKey (take count.old buffer.old) }
+            × IsString (take count.old buffer.old) }
         ensures { IsSaid (scan_says array.now.map (neighbour self array.now.map)
             (record { buffer = buffer.old; count = count.old; value = value.old })
             (record { buffer = buffer.new; count = count.new; value = value.new })) result }
     {
-        let mut room = room_for(&buffer[..*count]);
-        let mut len = *count;
-        let _longest = array.longest();
-        let found = array.neighbour_in(self.look(), &mut room, &mut len);
-        tell_entry(found, &room[..len], buffer, count, value)
+        let Some(len) = array.neighbour_len(self.look(), &buffer[..*count]) else {
+            return NONE;
+        };
+        if len > buffer.len() {
+            *value = len as u64;
+            return TOO_SMALL;
+        }
+        self.tell_in(array, buffer, count, value)
     }
 
     // What it looks for, as the array is asked.
@@ -116,59 +124,10 @@ impl Scan {
 // Whether a buffer begins with a string of so many bytes that a scan may begin at.
 pub(crate) fn is_start(buffer: &[u8], count: usize) -> bool
     ensures { IsTrue result
-        ↔ ((count ≤ length buffer.now) × IsStringKey (take count buffer.now)) }
+        ↔ ((count ≤ length buffer.now) × IsString (take count buffer.now)) }
 {
     match buffer.get(..count) {
-        Some(string) => is_key(string),
+        Some(string) => LongStrings::is_key(string),
         None => false,
     }
-}
-
-// A buffer that any key fits and that begins with a string.
-pub(crate) fn room_for(string: &[u8]) -> [u8; LONGEST_KEY]
-    requires { length string.now ≤ LONGEST_KEY }
-    ensures { take (length string.now) result ≡ string.now }
-{
-    let mut room = [0; LONGEST_KEY];
-    room[..string.len()].copy_from_slice(string);
-    room
-}
-
-// Tells a key and its value, where it was found and fits the caller's buffer.
-pub(crate) fn tell_entry(
-    found: Option<u64>,
-    key: &[u8],
-    buffer: &mut [u8],
-    count: &mut usize,
-    value: &mut u64,
-) -> u32
-    ensures { IsSaid
-        (entry_says found key.now
-        (record { buffer = buffer.old; count = count.old; value = value.old })
-        (record { buffer = buffer.new; count = count.new; value = value.new })) result }
-{
-    let Some(word) = found else {
-        return NONE;
-    };
-    if !write_key(key, buffer, count) {
-        return TOO_SMALL;
-    }
-    *value = word;
-    FOUND
-}
-
-// Writes a key and its length, where it fits the caller's buffer; else both stay.
-pub(crate) fn write_key(key: &[u8], buffer: &mut [u8], count: &mut usize) -> bool
-    ensures written { IsTrue result → (length key.now ≤ length buffer.old)
-        × (buffer.new ≡ key.now ++ drop (length key.now) buffer.old)
-        × (count.new ≡ length key.now) }
-    ensures stays { IsFalse result → (length buffer.old < length key.now)
-        × (buffer.new ≡ buffer.old) × (count.new ≡ count.old) }
-{
-    if buffer.len() < key.len() {
-        return false;
-    }
-    buffer[..key.len()].copy_from_slice(key);
-    *count = key.len();
-    true
 }

@@ -4,7 +4,8 @@ ghost use Rattle.std.specs.Prelude.{◌≡◌, IfOk, IfErr, OnOk};
 ghost use Rattle.std.specs.FinMap as finmap;
 ghost use Rattle.std.specs.Option.{option_copied};
 ghost use Rattle.judy_model.specs.DumpGrammar.{is_above};
-ghost use Rattle.judy_model.specs.Keys.{byte_order, IsStringKey};
+ghost use Rattle.judy_model.specs.Keys.{byte_order};
+ghost use Rattle.judy_sl.specs.Strings.{IsString};
 ghost use Rattle.judy_sl.specs.Sorted.{pairs_in, IsFault};
 ghost use Rattle.judy_c.specs.KeyWalks.{page_of};
 ghost use Rattle.judy_c.specs.SortedStrings.{pairs_on, strings_on, most_strings, number_of, place_of, whole_on, AreWhole, IsUnlisted, IsUnfit, IsMadeOf};
@@ -17,7 +18,7 @@ use crate::handles::Handle;
 use crate::key_walks::KeyEntry;
 use crate::sorted::MADE;
 use crate::strings::Strings;
-use judy_sl::{JudySl, SlSortedError, is_key};
+use judy_sl::{LongStrings, SlSortedError};
 use std::alloc::Global;
 
 /// Makes the map one of strings that strictly ascend, each with its value, in place of what it held, whose memory is
@@ -67,7 +68,7 @@ fn strings_of_sorted(
     alloc: Global,
     bytes: &[u8],
     entries: &[KeyEntry],
-) -> Result<BoxParts<JudySl, Global>, SlSortedError>
+) -> Result<BoxParts<LongStrings, Global>, SlSortedError>
     ensures whole { OnOk result (AreWhole (page_of bytes.now entries.now)) }
     ensures made { IfOk result
         (λ boxed. finmap.entries boxed.value.map ≡ pairs_on bytes.now entries.now) }
@@ -79,7 +80,7 @@ fn strings_of_sorted(
         Err(SlSortedError::NoMemory) => return Err(fault_without_list(bytes, entries)),
         Err(fault) => return Err(fault),
     };
-    let array = JudySl::from_sorted(alloc, MOST_KEYS, &pairs)?;
+    let array = LongStrings::from_sorted(alloc, MOST_KEYS, &pairs)?;
     let Ok(boxed) = Box::new(alloc, array) else {
         return Err(SlSortedError::NoMemory);
     };
@@ -144,13 +145,13 @@ fn count_whole(bytes: &[u8], entries: &[KeyEntry]) -> usize
 // is.
 fn first_fault(bytes: &[u8], entries: &[KeyEntry]) -> SlSortedError
     requires { AreWhole (page_of bytes.now entries.now) }
-    ensures { IsFault IsStringKey most_strings (strings_on bytes.now entries.now) result }
+    ensures { IsFault IsString most_strings (strings_on bytes.now entries.now) result }
 {
     let mut rest = bytes;
     let mut last = None;
     'entries: for (at, entry) in entries.iter().enumerate() {
         let (key, behind) = rest.split_at(entry.length);
-        if !is_key(key) {
+        if !LongStrings::is_key(key) {
             return SlSortedError::BadKey(at);
         }
         if !comes_after(last, key) {

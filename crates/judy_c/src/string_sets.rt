@@ -7,25 +7,28 @@ ghost use Rattle.std.specs.Prelude.{◌≡◌, ◌↔◌, IsTrue};
 ghost use Rattle.std.specs.FinMap as map;
 ghost use Rattle.judy_model.specs.Arrays as array;
 ghost use Rattle.judy_model.specs.Counts as counts;
-ghost use Rattle.judy_model.specs.Keys.{IsStringKey};
 ghost use Rattle.judy_model.specs.Prefixes.{beginning_with, without_prefix};
 ghost use Rattle.judy_model.specs.Ranges.{outside};
 ghost use Rattle.judy_model.specs.TwoMaps as two;
+ghost use Rattle.judy_sl.specs.Strings.{IsString};
 ghost use Rattle.judy_c.specs.StringMaps.{array_in};
+ghost use Rattle.judy_c.specs.StringRemovals.{removed_number, IsRemoved};
 
 use crate::arrays::HeldArray;
 use crate::handles::Handle;
 use crate::strings::Strings;
 use crate::two_words::of_both;
-use judy_sl::{JudySl, is_key};
+use judy_sl::LongStrings;
 use judy_string_sets::{
     common_count, difference_count, is_disjoint, is_subset, remove_prefix, remove_range, same_keys,
     symmetric_difference_count, union_count,
 };
-use std::alloc::Global;
+use std::alloc::{AllocError, Global};
 
 /// Takes the keys from one string to another out, both included, and answers how many they were: 0 where the first is
-/// above the second, and where the map can't hold one of the two. It can't fail.
+/// above the second, and where one of the two is no key. Or `u64::MAX` where memory was wanted and refused, and then
+/// nothing changed: it is asked for where `sellumaq_judysl_longest` tells more than 1,024 bytes, or the first string
+/// has more, once, for so many bytes. Else it can't fail.
 #[unsafe(no_mangle)]
 pub extern "C" fn sellumaq_judysl_remove_range(
     alloc: Global,
@@ -33,46 +36,50 @@ pub extern "C" fn sellumaq_judysl_remove_range(
     from: &[u8],
     to: &[u8],
 ) -> u64
-    ensures count { IsStringKey from.now → IsStringKey to.now
-        → result ≡ counts.count (array_in handle.old).map from.now to.now }
-    ensures left { IsStringKey from.now → IsStringKey to.now → array_in handle.new
-        ≡ array.with_map (array_in handle.old)
-        (outside (array_in handle.old).map from.now to.now) }
-    ensures refused { (IsStringKey from.now × IsStringKey to.now → ⊥)
+    ensures removed { IsString from.now → IsString to.now
+        → IsRemoved (counts.count (array_in handle.old).map from.now to.now)
+        (array.with_map (array_in handle.old)
+        (outside (array_in handle.old).map from.now to.now))
+        (handle.new ≡ handle.old) result (array_in handle.new) }
+    ensures refused { (IsString from.now × IsString to.now → ⊥)
         → (result ≡ 0) × (handle.new ≡ handle.old) }
 {
-    if !is_key(from) || !is_key(to) {
+    if !LongStrings::is_key(from) || !LongStrings::is_key(to) {
         return 0;
     }
     match handle.array() {
-        Some(array) => match remove_range(alloc, array, from, to) {
-            Ok(count) => count,
-            Err(_) => unreachable!(),
-        },
+        Some(array) => removed(remove_range(alloc, array, from, to)),
         None => 0,
     }
 }
 
-/// Takes the keys that begin with a string out, and answers how many they were: 0 where the map can't hold it, and all
-/// where it is empty. It can't fail.
+/// Takes the keys that begin with a string out, and answers how many they were: 0 where the string is no key, and all
+/// where it is empty. Or `u64::MAX` where memory was wanted and refused, and then nothing changed: it is asked for
+/// where `sellumaq_judysl_longest` tells more than 1,024 bytes, or the string has more, once, for so many bytes. Else
+/// it can't fail.
 #[unsafe(no_mangle)]
 pub extern "C" fn sellumaq_judysl_remove_prefix(
     alloc: Global,
     handle: &mut Strings,
     prefix: &[u8],
 ) -> u64
-    ensures count { result ≡ map.len (beginning_with (array_in handle.old).map prefix.now) }
-    ensures left { array_in handle.new
-        ≡ array.with_map (array_in handle.old)
-        (without_prefix (array_in handle.old).map prefix.now) }
+    ensures { IsRemoved
+        (map.len (beginning_with (array_in handle.old).map prefix.now))
+        (array.with_map (array_in handle.old)
+        (without_prefix (array_in handle.old).map prefix.now))
+        (handle.new ≡ handle.old) result (array_in handle.new) }
 {
     match handle.array() {
-        Some(array) => match remove_prefix(alloc, array, prefix) {
-            Ok(count) => count,
-            Err(_) => unreachable!(),
-        },
+        Some(array) => removed(remove_prefix(alloc, array, prefix)),
         None => 0,
     }
+}
+
+// How many keys were taken out, or that there was no memory for it.
+fn removed(count: Result<u64, AllocError>) -> u64
+    ensures { result ≡ removed_number count }
+{
+    count.unwrap_or(u64::MAX)
 }
 
 /// How many keys both have.
@@ -87,7 +94,7 @@ pub extern "C" fn sellumaq_judysl_intersection_count(
     ensures one_stays { one.new ≡ one.old }
     ensures other_stays { other.new ≡ other.old }
 {
-    of_both!(one, other, JudySl::empty(alloc); left, right => common_count(left, right))
+    of_both!(one, other, LongStrings::empty(alloc); left, right => common_count(left, right))
 }
 
 /// How many keys the one or the other has.
@@ -102,7 +109,7 @@ pub extern "C" fn sellumaq_judysl_union_count(
     ensures one_stays { one.new ≡ one.old }
     ensures other_stays { other.new ≡ other.old }
 {
-    of_both!(one, other, JudySl::empty(alloc); left, right => union_count(left, right))
+    of_both!(one, other, LongStrings::empty(alloc); left, right => union_count(left, right))
 }
 
 /// How many keys of the one the other doesn't have.
@@ -117,7 +124,7 @@ pub extern "C" fn sellumaq_judysl_difference_count(
     ensures one_stays { one.new ≡ one.old }
     ensures other_stays { other.new ≡ other.old }
 {
-    of_both!(one, other, JudySl::empty(alloc); left, right => difference_count(left, right))
+    of_both!(one, other, LongStrings::empty(alloc); left, right => difference_count(left, right))
 }
 
 /// How many keys exactly one of them has.
@@ -132,7 +139,7 @@ pub extern "C" fn sellumaq_judysl_symmetric_difference_count(
     ensures one_stays { one.new ≡ one.old }
     ensures other_stays { other.new ≡ other.old }
 {
-    of_both!(one, other, JudySl::empty(alloc); left, right => {
+    of_both!(one, other, LongStrings::empty(alloc); left, right => {
         symmetric_difference_count(left, right)
     })
 }
@@ -149,7 +156,7 @@ pub extern "C" fn sellumaq_judysl_is_subset(
     ensures one_stays { one.new ≡ one.old }
     ensures other_stays { other.new ≡ other.old }
 {
-    of_both!(one, other, JudySl::empty(alloc); left, right => is_subset(left, right))
+    of_both!(one, other, LongStrings::empty(alloc); left, right => is_subset(left, right))
 }
 
 /// Whether no key of the one is a key of the other, whatever their values are.
@@ -164,7 +171,7 @@ pub extern "C" fn sellumaq_judysl_is_disjoint(
     ensures one_stays { one.new ≡ one.old }
     ensures other_stays { other.new ≡ other.old }
 {
-    of_both!(one, other, JudySl::empty(alloc); left, right => is_disjoint(left, right))
+    of_both!(one, other, LongStrings::empty(alloc); left, right => is_disjoint(left, right))
 }
 
 /// Whether both have the same keys, whatever their values are.
@@ -179,5 +186,5 @@ pub extern "C" fn sellumaq_judysl_has_same_keys(
     ensures one_stays { one.new ≡ one.old }
     ensures other_stays { other.new ≡ other.old }
 {
-    of_both!(one, other, JudySl::empty(alloc); left, right => same_keys(left, right))
+    of_both!(one, other, LongStrings::empty(alloc); left, right => same_keys(left, right))
 }

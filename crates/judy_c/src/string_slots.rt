@@ -1,13 +1,14 @@
 //! The nearest strings with the slots of their values.
 //!
 //! Each of these calls answers as the scan of judysl.rt of the same name does, and hands out the slot of the key found
-//! in place of its value.
+//! in place of its value. Of a key that doesn't fit the buffer nothing is told: that scan, or
+//! `sellumaq_judysl_longest`, tells how much room is wanted.
 
 ghost use Rattle.std.specs.Prelude.{◌≡◌, ◌==◌, take};
 ghost use Rattle.std.specs.Borrow.{sem};
 ghost use Rattle.judy_model.specs.Neighbours as neighbours;
 ghost use Rattle.judy_c.specs.Answers.{IsSaid};
-ghost use Rattle.judy_c.specs.KeyScans.{scan_says};
+ghost use Rattle.judy_c.specs.KeyScans.{slot_says};
 ghost use Rattle.judy_c.specs.StringMaps.{array_in};
 ghost use Rattle.judy_c.specs.StringSlots.{LendsSlotOf};
 ghost use Rattle.judy_c.specs.Told.{IsTold, lent_where};
@@ -26,7 +27,7 @@ pub extern "C" fn sellumaq_judysl_first_slot<'a>(
     ensures* writes_back { sem 𝓛 (LendsSlotOf handle.entry (take count.new buffer.new)
         (lent_where (result == 1) slot.new)) }
     ensures told { IsSaid
-        (scan_says (array_in handle.old).map (neighbours.first (array_in handle.old).map)
+        (slot_says (array_in handle.old).map (neighbours.first (array_in handle.old).map)
         (record { buffer = buffer.old; count = count.old; value = slot.old.now })
         (record { buffer = buffer.new; count = count.new; value = slot.new.now })) result }
     ensures handed { IsTold (lent_where (result == 1) slot.new) (result == 1) slot.old slot.new }
@@ -45,7 +46,7 @@ pub extern "C" fn sellumaq_judysl_next_slot<'a>(
     ensures* writes_back { sem 𝓛 (LendsSlotOf handle.entry (take count.new buffer.new)
         (lent_where (result == 1) slot.new)) }
     ensures told { IsSaid
-        (scan_says (array_in handle.old).map (neighbours.next (array_in handle.old).map)
+        (slot_says (array_in handle.old).map (neighbours.next (array_in handle.old).map)
         (record { buffer = buffer.old; count = count.old; value = slot.old.now })
         (record { buffer = buffer.new; count = count.new; value = slot.new.now })) result }
     ensures handed { IsTold (lent_where (result == 1) slot.new) (result == 1) slot.old slot.new }
@@ -64,7 +65,7 @@ pub extern "C" fn sellumaq_judysl_last_slot<'a>(
     ensures* writes_back { sem 𝓛 (LendsSlotOf handle.entry (take count.new buffer.new)
         (lent_where (result == 1) slot.new)) }
     ensures told { IsSaid
-        (scan_says (array_in handle.old).map (neighbours.last (array_in handle.old).map)
+        (slot_says (array_in handle.old).map (neighbours.last (array_in handle.old).map)
         (record { buffer = buffer.old; count = count.old; value = slot.old.now })
         (record { buffer = buffer.new; count = count.new; value = slot.new.now })) result }
     ensures handed { IsTold (lent_where (result == 1) slot.new) (result == 1) slot.old slot.new }
@@ -83,7 +84,7 @@ pub extern "C" fn sellumaq_judysl_prev_slot<'a>(
     ensures* writes_back { sem 𝓛 (LendsSlotOf handle.entry (take count.new buffer.new)
         (lent_where (result == 1) slot.new)) }
     ensures told { IsSaid
-        (scan_says (array_in handle.old).map (neighbours.prev (array_in handle.old).map)
+        (slot_says (array_in handle.old).map (neighbours.prev (array_in handle.old).map)
         (record { buffer = buffer.old; count = count.old; value = slot.old.now })
         (record { buffer = buffer.new; count = count.new; value = slot.new.now })) result }
     ensures handed { IsTold (lent_where (result == 1) slot.new) (result == 1) slot.old slot.new }

@@ -11,7 +11,7 @@ mod slots;
 
 use std::marker::Model;
 
-/// The handle by which C holds a map from strings: null, or the address of a box of a `JudySl`, which it owns.
+/// The handle by which C holds a map from strings: null, or the address of a box of a `LongStrings`, which it owns.
 #[repr(C)]
 pub struct Strings {
     at: *mut u8,

@@ -6,7 +6,7 @@ ghost use Rattle.judy_c.specs.Combined.{CombinedKind, combined_words, combined_s
 use crate::arrays::{HeldArray, MOST_KEYS};
 use crate::sorted::MOST_KEYS as MOST_WORDS;
 use judy_leaf::Words;
-use judy_sl::JudySl;
+use judy_sl::LongStrings;
 use judy_word::{InsertError, Judy1, JudyL, WordArray};
 use std::alloc::{AllocError, Global};
 
@@ -88,15 +88,15 @@ impl CombinedArray for JudyL {
     }
 }
 
-impl CombinedArray for JudySl {
+impl CombinedArray for LongStrings {
     ghost kind = { combined_strings };
 
     fn combine(
         alloc: Global,
         joint: Joint,
-        one: &JudySl,
-        other: &JudySl,
-    ) -> Result<JudySl, InsertError> {
+        one: &LongStrings,
+        other: &LongStrings,
+    ) -> Result<LongStrings, InsertError> {
         match joint {
             Joint::Union => judy_string_sets::union(alloc, MOST_KEYS, one, other),
             Joint::Intersection => judy_string_sets::intersection(alloc, MOST_KEYS, one, other),
@@ -107,7 +107,7 @@ impl CombinedArray for JudySl {
         }
     }
 
-    fn copy(&self, alloc: Global) -> Result<JudySl, AllocError> {
+    fn copy(&self, alloc: Global) -> Result<LongStrings, AllocError> {
         judy_string_sets::copy(alloc, self)
     }
 }

@@ -1,27 +1,53 @@
 // How a walk fills the caller's two buffers.
-ghost use Rattle.std.specs.Prelude.{◌≡◌, ◌≤◌, ◌+◌, ◌-◌, ◌++◌, IsTrue, IsFalse, nat_le, length, take, drop, unwrap_or};
+ghost use Rattle.std.specs.Prelude.{◌≡◌, ◌<◌, ◌≤◌, ◌+◌, ◌-◌, ◌^◌, ◌++◌, IsTrue, IsFalse, nat_le, length, take, drop, unwrap_or};
+ghost use Rattle.std.specs.FinMap as map;
 ghost use Rattle.judy_model.specs.Keys.{IsStringKey};
+ghost use Rattle.judy_model.specs.declared.keys.TheConstants.{LONGEST_KEY};
+ghost use Rattle.judy_sl.specs.Arenas.{AreWithin};
+ghost use Rattle.judy_sl.specs.Strings.{IsString};
 ghost use Rattle.judy_hs.specs.Listed.{entries_in};
 ghost use Rattle.judy_sl.specs.Scans.{value_found};
-ghost use Rattle.judy_c.specs.KeyWalks.{IsFilled, page_of, pairs_from, beside};
+ghost use Rattle.judy_c.specs.KeyWalks.{IsFilled, IsPut, page_of, place_from, pairs_from, beside};
 
 use super::KeyEntry;
 use judy_hs::HsEntry;
-use judy_sl::{JudySl, KeyCursor};
+use judy_model::keys::LONGEST_KEY;
+use judy_sl::{KeyCursor, LongStrings};
 
 // Writes the pairs of an array from a string on, or from above it, as many as fit, and answers how many these are.
+// Where the string or a key may have more than 1,024 bytes, the keys are taken by their places.
 pub(crate) fn fill_strings(
-    array: &JudySl,
+    array: &LongStrings,
     from: &[u8],
     itself: bool,
     bytes: &mut [u8],
     entries: &mut [KeyEntry],
 ) -> usize
-    requires { IsStringKey from.now }
+    requires { IsString from.now }
     ensures { IsFilled (pairs_from array.now.map from.now itself)
         (page_of bytes.old entries.old) result (page_of bytes.new entries.new) }
 {
-    let mut cursor = array.cursor(from);
+    if array.longest() <= LONGEST_KEY && from.len() <= LONGEST_KEY {
+        fill_by_cursor(array, from, itself, bytes, entries)
+    } else {
+        fill_by_place(array, place_from(array, from, itself), bytes, entries)
+    }
+}
+
+// The same by a cursor, where neither the string nor a key has more than 1,024 bytes.
+fn fill_by_cursor(
+    array: &LongStrings,
+    from: &[u8],
+    itself: bool,
+    bytes: &mut [u8],
+    entries: &mut [KeyEntry],
+) -> usize
+    requires short { AreWithin LONGEST_KEY array.now.map }
+    requires from { IsStringKey from.now }
+    ensures { IsFilled (pairs_from array.now.map from.now itself)
+        (page_of bytes.old entries.old) result (page_of bytes.new entries.new) }
+{
+    let mut cursor = array.short_cursor(from);
     let mut used = 0;
     let mut count = 0;
     while count < entries.len() {
@@ -40,6 +66,60 @@ pub(crate) fn fill_strings(
         count += 1;
     }
     count
+}
+
+// The place, counted from 0, of the first key of an array from a string on, or from above it.
+fn place_from(array: &LongStrings, from: &[u8], itself: bool) -> u64
+    requires { IsString from.now }
+    ensures at { result ≡ place_from array.now.map from.now itself }
+    ensures most { result ≤ 4294967295 }
+{
+    let _most = array.len();
+    let up_to = array.count(&[], from);
+    if !itself {
+        return up_to;
+    }
+    up_to - array.count(from, from)
+}
+
+// Writes the pairs of an array from a place on, as many as fit, and answers how many these are. Each key is written
+// straight to where it stands, so that none needs a buffer.
+fn fill_by_place(
+    array: &LongStrings,
+    place: u64,
+    bytes: &mut [u8],
+    entries: &mut [KeyEntry],
+) -> usize
+    requires { place ≤ 4294967295 }
+    ensures { IsFilled (drop place (map.entries array.now.map)) (page_of bytes.old entries.old)
+        result (page_of bytes.new entries.new) }
+{
+    let mut used = 0;
+    let mut count = 0;
+    while count < entries.len() {
+        let Some(entry) = put_nth(array, place + count as u64, bytes, used) else {
+            break;
+        };
+        entries[count] = entry;
+        used += entry.length;
+        count += 1;
+    }
+    count
+}
+
+// Writes the key at a place of an array, counted from 0, behind so many bytes of a buffer, and tells of it. None where
+// there is no such key, or it doesn't fit there, and the buffer stays.
+fn put_nth(array: &LongStrings, place: u64, bytes: &mut [u8], used: usize) -> Option<KeyEntry>
+    requires inside { used ≤ length bytes.old }
+    requires fits { place + 1 < 2 ^ 64 }
+    ensures { IsPut (drop place (map.entries array.now.map)) used bytes.old result bytes.new }
+{
+    let mut length = array.by_count_len(place + 1)?;
+    if bytes.len() - used < length {
+        return None;
+    }
+    let value = array.by_count_in(place + 1, &mut bytes[used..used + length], &mut length)?;
+    Some(KeyEntry { length, value })
 }
 
 // Writes the pairs of a list behind the first ones, as many as fit, and answers how many these are.

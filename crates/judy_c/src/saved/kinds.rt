@@ -14,7 +14,7 @@ use judy_saved::{
     load_set, load_strings,
 };
 use judy_shelf::{Name, OneFault, Version};
-use judy_sl::JudySl;
+use judy_sl::LongStrings;
 use judy_word::{Judy1, JudyL};
 use std::alloc::Global;
 
@@ -57,15 +57,15 @@ impl SavedArray for JudyL {
     }
 }
 
-impl SavedArray for JudySl {
+impl SavedArray for LongStrings {
     ghost kind = { saved_strings };
 
     fn dump(&self, version: Version, name: &Name, room: &mut [u8]) -> Result<usize, SaveError> {
         dump_strings(version, name, self, room)
     }
 
-    fn load(alloc: Global, bytes: &[u8]) -> Result<JudySl, OneFault> {
-        load_strings(alloc, bytes, MOST_KEYS)
+    fn load(alloc: Global, bytes: &[u8]) -> Result<LongStrings, OneFault> {
+        Ok(load_strings(alloc, bytes, MOST_KEYS)?.with_any_length())
     }
 }
 

@@ -1,10 +1,9 @@
 // The slots that the scans of a strings handle find.
-ghost use Rattle.std.specs.Prelude.{◌≤◌, length, take};
+ghost use Rattle.std.specs.Prelude.{◌≤◌, IfSome, length, take};
 ghost use Rattle.std.specs.Borrow.{sem};
 ghost use Rattle.std.specs.Result.{result_ok};
-ghost use Rattle.judy_model.specs.Keys.{IsStringKey};
 ghost use Rattle.judy_model.specs.Neighbours as neighbours;
-ghost use Rattle.judy_model.specs.declared.keys.TheConstants.{LONGEST_KEY};
+ghost use Rattle.judy_sl.specs.Strings.{IsString};
 ghost use Rattle.judy_c.specs.KeyScans.{neighbour};
 ghost use Rattle.judy_c.specs.ScanSlots.{IsFoundSlot};
 ghost use Rattle.judy_c.specs.StringMaps.{array_in};
@@ -13,9 +12,8 @@ ghost use Rattle.judy_c.specs.StringSlots.{LendsSlotIn, LendsSlotOf};
 use super::Strings;
 use crate::answers::{FoundSlot, Missed};
 use crate::handles::Handle;
-use crate::scans::{Scan, is_start, room_for, write_key};
-use judy_model::keys::LONGEST_KEY;
-use judy_sl::JudySl;
+use crate::scans::{Scan, is_start};
+use judy_sl::LongStrings;
 
 impl Strings {
     // The slot of the least key from the string in a buffer on, which that key replaces.
@@ -74,10 +72,10 @@ impl Strings {
         }
         match self.array() {
             Some(array) => {
-                if buffer.len() < LONGEST_KEY {
-                    slot_beside(array, scan, buffer, count)
-                } else {
+                if array.longest() <= buffer.len() {
                     slot_in(array, scan, buffer, count)
+                } else {
+                    slot_measured(array, scan, buffer, count)
                 }
             }
             None => Err(Missed::NoKey),
@@ -85,53 +83,47 @@ impl Strings {
     }
 }
 
-// The slot of the key that a scan finds from the string with which a buffer begins, where any key fits it: the key is
+// The slot of the key that a scan finds from the string with which a buffer begins, where that key fits it: it is
 // written where it is to stand.
 fn slot_in<'a>(
-    array: &'a mut JudySl,
+    array: &'a mut LongStrings,
     scan: Scan,
     buffer: &mut [u8],
     count: &mut usize,
 ) -> FoundSlot<'a>
-    requires room { LONGEST_KEY ≤ length buffer.old }
-    requires start { (count.old ≤ length buffer.old) × IsStringKey (take count.old buffer.old) }
+    requires room { IfSome (neighbour scan array.old.map (take count.old buffer.old))
+        (λ key. length key ≤ length buffer.old) }
+    requires start { (count.old ≤ length buffer.old) × IsString (take count.old buffer.old) }
     ensures* writes_back { sem 𝓛
         (LendsSlotIn array.entry (take count.new buffer.new) (result_ok result)) }
     ensures found { IsFoundSlot array.old.map (neighbour scan array.old.map)
         (buffer.old, count.old) (buffer.new, count.new) result }
 {
-    let _longest = array.longest();
     match array.neighbour_slot_in(scan.look(), buffer, count) {
         Some(slot) => Ok(slot),
         None => Err(Missed::NoKey),
     }
 }
 
-// The same where not every key fits: the key is found in a buffer of its own.
+// The same where not every key fits: how long the key is, is asked first.
 #[inline(never)]
-fn slot_beside<'a>(
-    array: &'a mut JudySl,
+fn slot_measured<'a>(
+    array: &'a mut LongStrings,
     scan: Scan,
     buffer: &mut [u8],
     count: &mut usize,
 ) -> FoundSlot<'a>
-    requires start { (count.old ≤ length buffer.old) × IsStringKey (take count.old buffer.old) }
+    requires start { (count.old ≤ length buffer.old) × IsString (take count.old buffer.old) }
     ensures* writes_back { sem 𝓛
         (LendsSlotIn array.entry (take count.new buffer.new) (result_ok result)) }
     ensures found { IsFoundSlot array.old.map (neighbour scan array.old.map)
         (buffer.old, count.old) (buffer.new, count.new) result }
 {
-    let mut room = room_for(&buffer[..*count]);
-    let mut len = *count;
-    let _longest = array.longest();
-    match array.neighbour_slot_in(scan.look(), &mut room, &mut len) {
-        Some(slot) => {
-            if write_key(&room[..len], buffer, count) {
-                Ok(slot)
-            } else {
-                Err(Missed::TooSmall)
-            }
-        }
-        None => Err(Missed::NoKey),
+    let Some(len) = array.neighbour_len(scan.look(), &buffer[..*count]) else {
+        return Err(Missed::NoKey);
+    };
+    if len > buffer.len() {
+        return Err(Missed::TooSmall);
     }
+    slot_in(array, scan, buffer, count)
 }

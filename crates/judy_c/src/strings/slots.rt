@@ -3,7 +3,7 @@ ghost use Rattle.std.specs.Prelude.{◌≡◌};
 ghost use Rattle.std.specs.Borrow.{sem};
 ghost use Rattle.std.specs.FinMap as map;
 ghost use Rattle.std.specs.Option.{option_copied_mut};
-ghost use Rattle.judy_model.specs.Keys.{IsStringKey};
+ghost use Rattle.judy_sl.specs.Strings.{IsString};
 ghost use Rattle.judy_c.specs.KeyInserts.{IsMade};
 ghost use Rattle.judy_c.specs.StringMaps.{array_in};
 ghost use Rattle.judy_c.specs.StringSlots.{LendsSlotOf, LendsInsOf};
@@ -26,7 +26,7 @@ impl Strings {
     // was.
     pub(crate) fn ins(&mut self, alloc: Global, key: &[u8]) -> Result<&mut u64, InsertRefusal>
         ensures* writes_back { sem 𝓛 (LendsInsOf self.entry key.now result) }
-        ensures made { IsMade IsStringKey (array_in self.old) key.now result }
+        ensures made { IsMade IsString (array_in self.old) key.now result }
     {
         self.held().put_in(alloc, key)
     }

@@ -1,6 +1,6 @@
 -- `first_fault`: the strings before the one that is read are keys that ascend.
 use Rattle.std.proofs.Common.{None, sym, ◌∙◌, arith}
-use Rattle.judy_model.specs.Keys.{IsStringKey}
+use Rattle.judy_sl.specs.Strings.{IsString}
 use Rattle.judy_sl.specs.Sorted.{GoesOn, StaysBelow, IsNoKey}
 use Rattle.judy_sl.proofs.lemmas.made.SortedRuns.{run-more, run-to, run-all}
 use Rattle.judy_c.specs.SortedStrings.{strings_on}
@@ -9,7 +9,7 @@ use Rattle.judy_c.proofs.sorted_strings.first_fault.Goals as goal
 
 pub returns-then-not-is_key : goal.returns-then-not-is_key
 returns-then-not-is_key c = (
-  run-to IsStringKey (IsNoKey IsStringKey) None (strings_on c.args.bytes.now c.args.entries.now) c.entries.at _ _ c.entries.invariant.run
+  run-to IsString (IsNoKey IsString) None (strings_on c.args.bytes.now c.args.entries.now) c.entries.at _ _ c.entries.invariant.run
       (string_here c.args.bytes.now c.args.entries.now c.entries.rest.now c.entries.at _ c.entries-test.true c.entries.invariant.left _ c.split_at.ensures.front)
       (λ is. let key = c.is_key.ensures.1 is in let none = c.if-not-is_key.true in cc),
   c.entries.invariant.within,
@@ -17,7 +17,7 @@ returns-then-not-is_key c = (
 
 pub returns-then-not-comes_after : goal.returns-then-not-comes_after
 returns-then-not-comes_after c = (
-  run-to IsStringKey (StaysBelow IsStringKey) None (strings_on c.args.bytes.now c.args.entries.now) c.entries.at _ _ c.entries.invariant.run
+  run-to IsString (StaysBelow IsString) None (strings_on c.args.bytes.now c.args.entries.now) c.entries.at _ _ c.entries.invariant.run
       (string_here c.args.bytes.now c.args.entries.now c.entries.rest.now c.entries.at _ c.entries-test.true c.entries.invariant.left _ c.split_at.ensures.front)
       (c.is_key.ensures.0 c.if-not-is_key.false, sym c.comes_after.ensures ∙ c.if-not-comes_after.true),
   c.entries.invariant.within,
@@ -25,7 +25,7 @@ returns-then-not-comes_after c = (
 
 pub returns-then-at-eq-MOST_KEYS : goal.returns-then-at-eq-MOST_KEYS
 returns-then-at-eq-MOST_KEYS c = (
-  run-to IsStringKey (GoesOn IsStringKey) None (strings_on c.args.bytes.now c.args.entries.now) c.entries.at _ _ c.entries.invariant.run
+  run-to IsString (GoesOn IsString) None (strings_on c.args.bytes.now c.args.entries.now) c.entries.at _ _ c.entries.invariant.run
       (string_here c.args.bytes.now c.args.entries.now c.entries.rest.now c.entries.at _ c.entries-test.true c.entries.invariant.left _ c.split_at.ensures.front)
       (c.is_key.ensures.0 c.if-not-is_key.false, sym c.comes_after.ensures ∙ c.if-not-comes_after.false),
   (let over = c.if-at-eq-MOST_KEYS.true in omega arith),
@@ -36,7 +36,7 @@ entries-preserved c =
     let there = string_here c.args.bytes.now c.args.entries.now c.entries.rest.now c.entries.at _ c.entries-test.true c.entries.invariant.left _ c.split_at.ensures.front in record {
       within = (let within = c.entries.invariant.within in let other = c.if-at-eq-MOST_KEYS.false in omega arith);
       run =
-          run-more IsStringKey None (strings_on c.args.bytes.now c.args.entries.now) c.entries.at _ _ c.entries.invariant.run there
+          run-more IsString None (strings_on c.args.bytes.now c.args.entries.now) c.entries.at _ _ c.entries.invariant.run there
           (c.is_key.ensures.0 c.if-not-is_key.false, sym c.comes_after.ensures ∙ c.if-not-comes_after.false);
       left = strings_left c.args.bytes.now c.args.entries.now c.entries.rest.now c.entries.at _ c.entries-test.true c.entries.invariant.left _ c.split_at.ensures.back;
       whole = whole_left c.args.bytes.now c.args.entries.now c.entries.rest.now c.entries.at _ c.entries-test.true _ c.split_at.ensures.back c.entries.invariant.whole;
@@ -46,6 +46,6 @@ pub returns : goal.returns
 returns c =
     let count = length-strings_on c.args.bytes.now c.args.entries.now in let all = c.entries-test.false in let within = c.entries.invariant.within in let end = c.entries.auto.at-end in
     record {
-      ascending = run-all IsStringKey None (strings_on c.args.bytes.now c.args.entries.now) c.entries.at _ c.entries.invariant.run (omega (arith, all, count));
+      ascending = run-all IsString None (strings_on c.args.bytes.now c.args.entries.now) c.entries.at _ c.entries.invariant.run (omega (arith, all, count));
       within = omega (arith, all, count, within, end);
     }

@@ -1,4 +1,4 @@
-use Rattle.std.proofs.Common.{ℕ, false, true, sym, ap, arith}
+use Rattle.std.proofs.Common.{ℕ, false, sym, ap, arith}
 use Rattle.std.specs.FinMap.{FinMap}
 use Rattle.judy_model.specs.Arrays.{with_map}
 use Rattle.judy_model.specs.Keys.{word_order}

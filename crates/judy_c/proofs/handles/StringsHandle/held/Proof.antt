@@ -1,7 +1,7 @@
 -- `held` lends a Strings as what it holds: the same pointer, with the same behind it. Assumes `Logic`.
 use base.Logic.{id⊢}
 use denote.Memory.{part_of}
-use Rattle.judy_sl.specs.Rows.{judysl_row as Array}
+use Rattle.judy_sl.specs.Rows.{long_strings_row as Array}
 use Rattle.judy_c.proofs.HandleCasts.{casts}
 use Rattle.judy_c.specs.AsHeld.{held_by_strings, as_strings}
 use Rattle.judy_c.specs.contracts.strings.Strings.{the_row as Handle}

@@ -1,23 +1,25 @@
--- `Scan::tell_in`: where no value was found, no key was, and the buffer stays.
-use Rattle.std.proofs.Common.{◌∙◌, refl, length, take, arith}
-use Rattle.judy_sl.proofs.lemmas.scans.Rooms.{neighbour-within}
-use Rattle.judy_c.specs.KeyScans.{CallerBuffer}
-use Rattle.judy_c.proofs.ScanFacts.{told, key_found, key_is, value_is, none_stays}
+-- `Scan::tell_in`: the key that was found is told with its value; where no value was found no key was, and the buffer stays.
+use Rattle.std.proofs.Common.{length}
+use Rattle.judy_c.proofs.ScanFacts.{fits_asked, neighbour_told, no_neighbour_told}
 use Rattle.judy_c.proofs.scans.Scan.tell_in.Goals as goal
+
+pub returns-in-Some : goal.returns-in-Some
+returns-in-Some c =
+    let map = c.args.array.now.map in (
+      c.requires.start,
+      neighbour_told c.args.self c.look.result map (c.look.ensures map) c.args.buffer.now c.args.count.now c.requires.start.0 c.neighbour_in.new.buffer c.neighbour_in.new.len
+          c.in-Some.ensures.key c.args.value.now c.in-Some.word c.requires.room c.in-Some.ensures.value,
+    )
 
 pub returns-in-None : goal.returns-in-None
 returns-in-None c =
-    let scan = c.args.self in let map = c.args.array.now.map in let buffer = c.args.buffer.now in let count = c.args.count.now in
-    let before : CallerBuffer = record { buffer = buffer; count = count; value = c.args.value.now } in
-    let after : CallerBuffer = record { buffer = c.neighbour_in.new.buffer; count = c.neighbour_in.new.len; value = c.args.value.now } in
-    let inside = c.requires.start.0 in
-    let value = c.in-None.ensures.value ∙ value_is scan c.look.result map (c.look.ensures map) buffer count inside in
-    let stays = none_stays scan c.look.result map (c.look.ensures map) buffer count inside after.buffer after.count c.in-None.ensures.key value in
-    told map before after scan c.requires.start _ (key_found scan c.look.result map (c.look.ensures map) buffer count inside) 0 (key_is scan c.look.result map (c.look.ensures map) buffer count inside)
-    value (refl, λ t. record { buffer = stays.0 t; count = stays.1 t; value = c.args.value.now })
+    let map = c.args.array.now.map in (
+      c.requires.start,
+      no_neighbour_told c.args.self c.look.result map (c.look.ensures map) c.args.buffer.now c.args.count.now c.requires.start.0 c.neighbour_in.new.buffer c.neighbour_in.new.len
+          c.in-None.ensures.key c.args.value.now c.in-None.ensures.value,
+    )
 
 pub neighbour_in-requires-clause-room : goal.neighbour_in-requires-clause-room
 neighbour_in-requires-clause-room c =
-    let most = c.longest-longest.ensures.most in let room = c.requires.room in
-    neighbour-within c.args.array.now.map c.longest-longest.result c.longest-longest.ensures.within (length c.args.buffer.now) (omega (arith, most, room)) c.look.result
-    (take c.args.count.now c.args.buffer.now)
+    let map = c.args.array.now.map in
+    fits_asked c.args.self c.look.result map (c.look.ensures map) c.args.buffer.now c.args.count.now c.requires.start.0 (length c.args.buffer.now) c.requires.room

@@ -1,26 +1,14 @@
 -- `Strings::scan_slot`: what is said of the handle's array is said of the handle.
-use Rattle.std.proofs.Common.{refl, sym, ap, subst, take, true≢false}
+use Rattle.std.proofs.Common.{refl, sym, ap, subst, take, length, true≢false}
 use Rattle.judy_sl.specs.Lends.{with_value}
 use Rattle.judy_c.specs.KeyScans.{neighbour}
 use Rattle.judy_c.specs.ScanSlots.{IsFoundSlot}
 use Rattle.judy_c.specs.StringMaps.{array_in, array_of}
-use Rattle.judy_c.proofs.ScanFacts.{no_neighbour}
+use Rattle.judy_c.proofs.ScanFacts.{no_neighbour, neighbour_fits}
 use Rattle.judy_c.proofs.strings.Strings.scan_slot.Goals as goal
 
-pub returns-then-buffer-lt-LONGEST_KEY : goal.returns-then-buffer-lt-LONGEST_KEY
-returns-then-buffer-lt-LONGEST_KEY c =
-    let held = ap array_of c.in-Some.ensures.value in (
-      (refl, (λ w is. ap (λ array. with_value array (take c.slot_beside.new.count c.slot_beside.new.buffer) w) held), c.in-Some.ensures.again),
-      record {
-        writes_back = tt;
-        found =
-            subst (λ array. IsFoundSlot array.map (neighbour c.args.scan array.map) (c.args.buffer.now, c.args.count.now)
-            (c.slot_beside.new.buffer, c.slot_beside.new.count) c.slot_beside.result) held c.slot_beside.ensures.found;
-      },
-    )
-
-pub returns-else-buffer-lt-LONGEST_KEY : goal.returns-else-buffer-lt-LONGEST_KEY
-returns-else-buffer-lt-LONGEST_KEY c =
+pub returns-then-longest-buffer : goal.returns-then-longest-buffer
+returns-then-longest-buffer c =
     let held = ap array_of c.in-Some.ensures.value in (
       (refl, (λ w is. ap (λ array. with_value array (take c.slot_in.new.count c.slot_in.new.buffer) w) held), c.in-Some.ensures.again),
       record {
@@ -30,6 +18,23 @@ returns-else-buffer-lt-LONGEST_KEY c =
             held c.slot_in.ensures.found;
       },
     )
+
+pub returns-else-longest-buffer : goal.returns-else-longest-buffer
+returns-else-longest-buffer c =
+    let held = ap array_of c.in-Some.ensures.value in (
+      (refl, (λ w is. ap (λ array. with_value array (take c.slot_measured.new.count c.slot_measured.new.buffer) w) held), c.in-Some.ensures.again),
+      record {
+        writes_back = tt;
+        found =
+            subst (λ array. IsFoundSlot array.map (neighbour c.args.scan array.map) (c.args.buffer.now, c.args.count.now)
+            (c.slot_measured.new.buffer, c.slot_measured.new.count) c.slot_measured.result) held c.slot_measured.ensures.found;
+      },
+    )
+
+pub slot_in-requires-clause-room : goal.slot_in-requires-clause-room
+slot_in-requires-clause-room c =
+    neighbour_fits c.args.scan c.in-Some.array.now.map (take c.args.count.now c.args.buffer.now) c.longest.result c.longest.ensures.within (length c.args.buffer.now)
+    c.if-longest-buffer.true
 
 pub returns-in-None : goal.returns-in-None
 returns-in-None c =

@@ -1,7 +1,7 @@
 use Rattle.std.proofs.Common.{◌≡◌, ◌-◌, length, ◌&&◌, ◌==◌}
 use Rattle.judy_c.specs.KeyWalks.{page_of, pairs_from}
 use Rattle.judy_c.proofs.PageLemmas.{IsSoFar}
-use Rattle.judy_c.proofs.key_walks.fill.fill_strings.Given as goal
+use Rattle.judy_c.proofs.key_walks.fill.fill_by_cursor.Given as goal
 
 -- so many pairs are written, and those that come are those from where the cursor stands on
 abbrev pub invariant-loop-count : goal.invariant-loop-count

@@ -1,4 +1,4 @@
--- `fill_strings`: each turn writes the pair of the next key; where there is none, or no room for it, those that fit are written.
+-- `fill_by_cursor`: each turn writes the pair of the next key; where there is none, or no room for it, those that fit are written.
 use Rattle.std.proofs.Common.{◌≡◌, ◌+◌, ◌-◌, ◌&&◌, ◌==◌, Bool, true, false, nat_le, ℕ, ◌∷◌, length, refl, sym, ap, subst, ◌∙◌, arith}
 use Rattle.std.proofs.lemmas.Bool.{ne_eqb}
 use Rattle.std.specs.Prelude.{List, Option, unwrap_or}
@@ -8,7 +8,7 @@ use Rattle.judy_sl.specs.Scans.{value_found}
 use Rattle.judy_c.specs.KeyWalks.{Pairs, page_of, pairs_from, beside, fitting}
 use Rattle.judy_c.proofs.PageLemmas.{IsSoFar, so_far_all, so_far_more, fitting_none, fitting_long}
 use Rattle.judy_c.proofs.PairLemmas.{steps, ends}
-use Rattle.judy_c.proofs.key_walks.fill.fill_strings.Goals as goal
+use Rattle.judy_c.proofs.key_walks.fill.fill_by_cursor.Goals as goal
 
 -- what a step tells of the cursor's map is told of the array's
 key_told : (map : FinMap byte_order ℕ) (at : List ℕ) (itself : Bool) (held : FinMap byte_order ℕ) (new : List ℕ) → held ≡ map → new ≡ unwrap_or (beside held at itself) at →
