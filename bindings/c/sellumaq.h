@@ -37,8 +37,8 @@
  * Machine: a processor of x86-64-v2, which has SSE4.2 and popcnt, and Linux with glibc.
  *
  * Calls that answer through a pointer write there only where they answer true, or SELLUMAQ_FOUND; `insert` where it
- * answers SELLUMAQ_PRESENT, and `from_sorted` where it answers SELLUMAQ_BAD_KEY. `dump`, `load` and `open` say it at
- * their place.
+ * answers SELLUMAQ_PRESENT, and `from_sorted` where it answers SELLUMAQ_BAD_KEY. Searches of strings, `dump`, `load`
+ * and `open` say it at their place.
  *
  * Not even a delete of the last key makes a handle zeros: the handle keeps the few bytes that it points to, up to
  * `free`. HP's names do so, in the other library. */
@@ -77,9 +77,12 @@ enum {
     /* of strings and byte strings (words have no limit but memory): the key is absent, and the map holds
      * 4,294,967,295 keys; of `from_sorted`: the keys are more than that */
     SELLUMAQ_FULL = 3,
-    /* of strings and byte strings: the bytes are no key; of `from_sorted` also: a key isn't above the one before it */
+    /* of strings: a byte of the key is zero; of byte strings: it has more bytes than any object; of `from_sorted` also:
+     * a key isn't above the one before it; of `dump`: a key has more than SELLUMAQ_SAVED_KEY_BYTES */
     SELLUMAQ_BAD_KEY = 4,
-    SELLUMAQ_TOO_SMALL = 5, /* of strings: the key found doesn't fit the caller's buffer; of `dump`: the text doesn't */
+    /* of strings: the key found doesn't fit the caller's buffer, and `*value` tells how many bytes it has, but where a
+     * slot is asked for; of `dump`: the text doesn't, and `*size` tells how many it has */
+    SELLUMAQ_TOO_SMALL = 5,
     /* of `dump`: the name has no bytes, more than 32, or one that is no ASCII letter, digit, `_` or `-` */
     SELLUMAQ_BAD_NAME = 6,
     SELLUMAQ_TOO_MANY = 7,  /* of `dump`: there are more than 4,294,967,295 keys, which no dump can say */
@@ -380,17 +383,18 @@ uint64_t sellumaq_judyl_free(sellumaq_judyl *map);
 
 /* ---- maps from strings and from byte strings: what both have ---- */
 
-/* The most bytes of a key of a map from strings, and of one from byte strings: as many as an object of C may have. */
-#define SELLUMAQ_KEY_BYTES 1024
-#define SELLUMAQ_JUDYHS_KEY_BYTES ((size_t)PTRDIFF_MAX)
+/* The most bytes of a key that a dump can say. A map takes longer ones, as long as an object of C may be: PTRDIFF_MAX
+ * bytes. */
+#define SELLUMAQ_SAVED_KEY_BYTES 1024
 
 /* What a walk tells of a key: how many bytes it has, and its value. */
 typedef struct { size_t length; uint64_t value; } sellumaq_entry;
 
 /* ---- maps from strings to words ----
  *
- * A key is a string of 0 to 1,024 bytes of which none is zero, without the zero byte that ends it in C. The order is
- * that of its bytes as unsigned numbers, a string before those that go on behind it. */
+ * A key is a string of any number of bytes of which none is zero, without the zero byte that ends it in C. The order
+ * is that of its bytes as unsigned numbers, a string before those that go on behind it. No call goes deeper for a
+ * longer key, and none that searches, counts or deletes one key asks for memory. */
 
 typedef struct { void *array; } sellumaq_judysl;
 
@@ -423,9 +427,10 @@ bool sellumaq_judysl_remove(sellumaq_judysl *map, const uint8_t *key, size_t len
 /* The nearest keys: the least from a string on, the least above it, the greatest up to it, the greatest below it.
  * The string is the first `*length` bytes of the caller's buffer of `capacity` bytes, and needn't be a key of the
  * map. SELLUMAQ_FOUND: the key found has taken its place, `*length` is the key's length and `*value` its value. Else
- * nothing is written: SELLUMAQ_NONE where there is none; SELLUMAQ_TOO_SMALL where it doesn't fit the buffer
- * (SELLUMAQ_KEY_BYTES are enough for each); SELLUMAQ_BAD_KEY where a map can't hold the string, or `*length` is
- * above `capacity`. */
+ * the buffer and `*length` stay. SELLUMAQ_NONE: there is none. SELLUMAQ_TOO_SMALL: it doesn't fit the buffer, and
+ * `*value` tells how many bytes it has, which is the capacity to come again with; with as many as
+ * `sellumaq_judysl_longest` tells this never comes, and the key is found by one way down and not two.
+ * SELLUMAQ_BAD_KEY: a byte of the string is zero, or `*length` is above `capacity`. */
 uint32_t sellumaq_judysl_first(const sellumaq_judysl *map, uint8_t *buffer, size_t capacity, size_t *length,
     uint64_t *value);
 uint32_t sellumaq_judysl_next(const sellumaq_judysl *map, uint8_t *buffer, size_t capacity, size_t *length,
@@ -435,8 +440,8 @@ uint32_t sellumaq_judysl_last(const sellumaq_judysl *map, uint8_t *buffer, size_
 uint32_t sellumaq_judysl_prev(const sellumaq_judysl *map, uint8_t *buffer, size_t capacity, size_t *length,
     uint64_t *value);
 
-/* The same four keys with the slots of their values, each in one way down the map: where the four above write the
- * value to `*value`, the slot of the key found is handed out through `slot`. */
+/* The same four keys with the slots of their values: where the four above answer SELLUMAQ_FOUND and write the value to
+ * `*value`, the slot of the key found is handed out through `slot`. SELLUMAQ_TOO_SMALL tells nothing here. */
 uint32_t sellumaq_judysl_first_slot(const sellumaq_judysl *map, uint8_t *buffer, size_t capacity, size_t *length,
     uint64_t **slot);
 uint32_t sellumaq_judysl_next_slot(const sellumaq_judysl *map, uint8_t *buffer, size_t capacity, size_t *length,
@@ -449,8 +454,9 @@ uint32_t sellumaq_judysl_prev_slot(const sellumaq_judysl *map, uint8_t *buffer, 
 /* The keys from a string on, or those above it where `itself` is false, with their values, by ascending key. The
  * bytes of the keys are written to `bytes`, one key behind the other, and the length and the value of each to its
  * place in `entries`; what stands behind them in both stays. Answers how many keys it told. It ends where no key is
- * left, or where the `room` bytes or the `capacity` entries have no place for the next one. With SELLUMAQ_KEY_BYTES
- * of room, and one entry, 0 says that no key is left. 0 too where a map can't hold the string. */
+ * left, or where the `room` bytes or the `capacity` entries have no place for the next one. With as many bytes of room
+ * as `sellumaq_judysl_longest` tells, and one entry, 0 says that no key is left. 0 too where a byte of the string is
+ * zero. */
 size_t sellumaq_judysl_walk(const sellumaq_judysl *map, const uint8_t *from, size_t length, bool itself,
                             uint8_t *bytes, size_t room, sellumaq_entry *entries, size_t capacity);
 
@@ -462,22 +468,25 @@ size_t sellumaq_judysl_walk(const sellumaq_judysl *map, const uint8_t *from, siz
  * SELLUMAQ_NO_MEMORY: they are keys that ascend, and there is no memory for them. It takes 24 bytes more for each
  * string while it is at work. */
 uint32_t sellumaq_judysl_from_sorted(sellumaq_judysl *map, const uint8_t *bytes, size_t room,
-    const sellumaq_entry *entries, size_t count,
-                                     size_t *place);
+    const sellumaq_entry *entries, size_t count, size_t *place);
 
 /* How many keys there are. */
 uint64_t sellumaq_judysl_len(const sellumaq_judysl *map);
 
+/* How many bytes the longest key had that came in since the map was last empty, also where it has gone: no key has
+ * more. 0 of the empty map. A buffer of so many bytes is never too small. */
+size_t sellumaq_judysl_longest(const sellumaq_judysl *map);
+
 /* How many keys there are from one string to another, both included; 0 where the first is above the second, or where
- * a map can't hold one of the two. It takes at most two ways down the map, however many keys it counts. No entries
+ * one has a zero byte. It takes at most two ways down the map, however many keys it counts. No entries
  * of a wide level are read, unless memory for its list was refused. */
 uint64_t sellumaq_judysl_count(const sellumaq_judysl *map, const uint8_t *from, size_t from_length, const uint8_t *to,
     size_t to_length);
 
 /* The n-th key, counted from 1, told as those of the scans are: SELLUMAQ_FOUND, and the key is in the first
- * `*length` bytes of the buffer, whatever was there before. Else nothing is written: SELLUMAQ_NONE for 0 and above
- * the number of keys, SELLUMAQ_TOO_SMALL where it doesn't fit. It takes one way down the map, and reads no entries
- * of a wide level, unless memory for its list was refused. */
+ * `*length` bytes of the buffer, whatever was there before. Else both stay: SELLUMAQ_NONE for 0 and above the number
+ * of keys; SELLUMAQ_TOO_SMALL where it doesn't fit, and `*value` tells how many bytes it has. It takes one way down
+ * the map, and reads no entries of a wide level, unless memory for its list was refused. */
 uint32_t sellumaq_judysl_by_count(const sellumaq_judysl *map, uint64_t n, uint8_t *buffer, size_t capacity,
     size_t *length, uint64_t *value);
 
@@ -488,12 +497,14 @@ bool sellumaq_judysl_longest_prefix(const sellumaq_judysl *map, const uint8_t *b
     uint64_t *value);
 
 /* Takes the keys from one string to another out, both included, and answers how many they were: 0 where the first is
- * above the second, and where the map can't hold one of the two. It can't fail. */
+ * above the second, and where one has a zero byte. Only where `sellumaq_judysl_longest` tells more than 1,024 bytes,
+ * or the first string has more, it asks for as much memory. Where that is refused it answers UINT64_MAX, and nothing
+ * changed. */
 uint64_t sellumaq_judysl_remove_range(sellumaq_judysl *map, const uint8_t *from, size_t from_length, const uint8_t *to,
     size_t to_length);
 
-/* Takes the keys that begin with a string out, and answers how many they were: 0 where the map can't hold it, and
- * all where it is empty. It can't fail. */
+/* Takes the keys that begin with a string out, and answers how many they were: 0 where it has a zero byte, and all
+ * where it is empty; or UINT64_MAX, as `sellumaq_judysl_remove_range` does. */
 uint64_t sellumaq_judysl_remove_prefix(sellumaq_judysl *map, const uint8_t *prefix, size_t length);
 
 /* Moves keys together, so that memory which deletes left free within the map's pages goes back: one walk over the map,
@@ -610,10 +621,10 @@ enum {
 /* Writes the array's dump under a name to the front of `bytes`, which has `room` bytes, in the format JDY1 (`format`
  * 1) or JDY2 (2): SELLUMAQ_DONE, and `*size` is how many bytes these are. What stands behind them stays. Else no
  * byte is written, and it is the first that applies of SELLUMAQ_BAD_FORMAT; SELLUMAQ_BAD_NAME; SELLUMAQ_TOO_MANY; of
- * byte strings, whose keys are sorted first, SELLUMAQ_NO_MEMORY where there is none for that, and SELLUMAQ_BAD_KEY
- * where a key has more than SELLUMAQ_KEY_BYTES; and SELLUMAQ_TOO_SMALL where the dump has more bytes than `room`,
- * and `*size` tells how many. `*size` is written at SELLUMAQ_DONE and SELLUMAQ_TOO_SMALL alone. So a `room` of 0
- * asks for the size, which takes no walk for words, and one for strings. */
+ * byte strings, whose keys are sorted first, SELLUMAQ_NO_MEMORY where there is none for that; of strings and byte
+ * strings SELLUMAQ_BAD_KEY where a key has more than SELLUMAQ_SAVED_KEY_BYTES; and SELLUMAQ_TOO_SMALL where the dump
+ * has more bytes than `room`, and `*size` tells how many. `*size` is written at SELLUMAQ_DONE and SELLUMAQ_TOO_SMALL
+ * alone. So a `room` of 0 asks for the size, which takes no walk for words, and one for strings. */
 uint32_t sellumaq_judy1_dump(const sellumaq_judy1 *set, uint32_t format, const uint8_t *name, size_t length,
                              uint8_t *bytes, size_t room, size_t *size);
 uint32_t sellumaq_judyl_dump(const sellumaq_judyl *map, uint32_t format, const uint8_t *name, size_t length,
