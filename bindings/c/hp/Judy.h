@@ -3,9 +3,8 @@
  * project's libJudy.
  *
  * What differs from HP's library:
- *   - A string that is a key has at most 1,024 bytes, and arrays of strings and of byte strings hold at most
- *     4,294,967,295 keys. An insert beyond either is refused with JU_ERRNO_FULL. A longer string is found absent,
- *     and never deleted; a search may begin at it.
+ *   - Arrays of strings and of byte strings hold at most 4,294,967,295 keys. An insert of one more is refused with
+ *     JU_ERRNO_FULL.
  *   - `MemUsed` and `FreeArray` answer the bytes of the array's blocks as malloc gave them (malloc_usable_size(3)),
  *     and `MemActive` the same as `MemUsed`. Where a program has a malloc of its own without malloc_usable_size, or
  *     a JudyMalloc, these are the bytes that were asked for, and each block takes two words more.

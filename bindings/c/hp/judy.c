@@ -296,31 +296,60 @@ PPvoid_t JudySLGet(Pcvoid_t array, const uint8_t *string, PJError_t error) {
 }
 
 typedef uint32_t scan(const sellumaq_judysl *map, uint8_t *buffer, size_t capacity, size_t *length, uint64_t **slot);
+typedef uint32_t value_scan(const sellumaq_judysl *map, uint8_t *buffer, size_t capacity, size_t *length, uint64_t *value);
 
-/* A search from a string, which the string found replaces. How much room the caller has for that isn't told, so it
- * is found in a buffer of this call's. A string that is longer than a key may be is cut: no key lies between it and
- * its longest beginning that is short enough, so that is searched from by another call. */
-static PPvoid_t search(scan *call, scan *cut, Pcvoid_t array, uint8_t *string, PJError_t error) {
-    READS(refuse_slot);
-    sellumaq_judysl map = {(void *)array};
-    uint8_t buffer[SELLUMAQ_KEY_BYTES];
+/* A search of strings: by two calls that find the same key, one with its slot, and one that tells how long it is. */
+typedef struct {
+    scan *slot;
+    value_scan *value;
+} searcher;
+
+/* The longest strings for which a search has a buffer of its own. */
+enum { SHORT = 1024 };
+
+/* A search among short strings, from a short one. The calls may write behind the key that they find, up to the
+ * capacity that they are told. How much room the caller has isn't told, so the key is found in a buffer of this
+ * call's. */
+static uint64_t *search_short(scan *call, const sellumaq_judysl *map, uint8_t *string, size_t length) {
+    uint8_t buffer[SHORT];
     uint64_t *slot;
-    size_t length = strnlen((const char *)string, sizeof buffer + 1);
-    if (length > sizeof buffer) length = sizeof buffer, call = cut;
     memcpy(buffer, string, length);
-    if (call(&map, buffer, sizeof buffer, &length, &slot) != SELLUMAQ_FOUND) return NULL;
+    if (call(map, buffer, sizeof buffer, &length, &slot) != SELLUMAQ_FOUND) return NULL;
     memcpy(string, buffer, length);
     string[length] = 0;
-    return (PPvoid_t)slot;
+    return slot;
 }
 
-#define STRING_SEARCH(name, call, cut) \
-    PPvoid_t name(Pcvoid_t array, uint8_t *string, PJError_t error) { return search(call, cut, array, string, error); }
+/* A search among strings of any length. A key that is no longer than the string fits the caller's room; another one
+ * does too, as the manual page asks, and its length is told first, so that nothing behind it is touched. */
+static uint64_t *search_long(searcher by, const sellumaq_judysl *map, uint8_t *string, size_t length) {
+    uint64_t *slot, wanted = 0;
+    uint32_t told = by.slot(map, string, length, &length, &slot);
+    if (told == SELLUMAQ_TOO_SMALL && by.value(map, string, length, &length, &wanted) == SELLUMAQ_TOO_SMALL)
+        told = by.slot(map, string, wanted, &length, &slot);
+    if (told != SELLUMAQ_FOUND) return NULL;
+    string[length] = 0;
+    return slot;
+}
 
-STRING_SEARCH(JudySLFirst, sellumaq_judysl_first_slot, sellumaq_judysl_next_slot)
-STRING_SEARCH(JudySLNext, sellumaq_judysl_next_slot, sellumaq_judysl_next_slot)
-STRING_SEARCH(JudySLLast, sellumaq_judysl_last_slot, sellumaq_judysl_last_slot)
-STRING_SEARCH(JudySLPrev, sellumaq_judysl_prev_slot, sellumaq_judysl_last_slot)
+/* A search from a string, which the string found replaces. */
+static PPvoid_t search(searcher by, Pcvoid_t array, uint8_t *string, PJError_t error) {
+    READS(refuse_slot);
+    sellumaq_judysl map = {(void *)array};
+    size_t length = strlen((const char *)string);
+    bool is_short = length <= SHORT && sellumaq_judysl_longest(&map) <= SHORT;
+    return (PPvoid_t)(is_short ? search_short(by.slot, &map, string, length) : search_long(by, &map, string, length));
+}
+
+#define STRING_SEARCH(name, which) \
+    PPvoid_t name(Pcvoid_t array, uint8_t *string, PJError_t error) { \
+        return search((searcher){sellumaq_judysl_##which##_slot, sellumaq_judysl_##which}, array, string, error); \
+    }
+
+STRING_SEARCH(JudySLFirst, first)
+STRING_SEARCH(JudySLNext, next)
+STRING_SEARCH(JudySLLast, last)
+STRING_SEARCH(JudySLPrev, prev)
 
 /* A pointer to no bytes that isn't null. */
 static const uint8_t *bytes_at(const void *bytes) { return bytes ? bytes : (const uint8_t *)""; }
