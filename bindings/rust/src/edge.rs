@@ -1,15 +1,8 @@
 //! The ends of a walk through strings.
-use crate::keyed::MAX_KEY;
+use crate::search::{nth, Search, SHORT};
 use sellumaq_sys as sys;
-use std::mem::MaybeUninit;
 use std::ops::{Bound, RangeBounds};
 use std::ops::{Range, RangeFrom, RangeFull, RangeInclusive, RangeTo, RangeToInclusive};
-use std::slice::from_raw_parts;
-
-/// A scan of C from the string in a buffer of the capacity given, whose length and what is told of the key found, its
-/// value or its slot, stand behind pointers.
-pub type Scan<T> =
-    unsafe extern "C" fn(*const sys::sellumaq_judysl, *mut u8, usize, *mut usize, *mut T) -> u32;
 
 /// A range of strings, whose ends are anything that has bytes: `..`, `"a"..`, `.."b"`, `"a"..="b"` and so on, or a pair
 /// of [`Bound`]s.
@@ -63,13 +56,13 @@ fn bytes<K: AsRef<[u8]>>(bound: Bound<&K>) -> Bound<&[u8]> {
     }
 }
 
-/// No key lies above this string.
-const GREATEST: &[u8] = &[u8::MAX; MAX_KEY];
+/// No short key lies above this string.
+const GREATEST: &[u8] = &[u8::MAX; SHORT];
 
 /// One end of the strings whose keys are still to come, and whether it is one of them.
 #[derive(Clone)]
 pub struct Edge {
-    // None is the greatest string, and takes no memory.
+    // None lies above all strings, however long they are.
     string: Option<Vec<u8>>,
     included: bool,
 }
@@ -126,8 +119,9 @@ impl Edge {
         self.included = false;
     }
 
-    pub fn key(&self) -> &[u8] {
-        self.string.as_deref().unwrap_or(GREATEST)
+    /// The edge's string; none lies above all strings.
+    pub fn string(&self) -> Option<&[u8]> {
+        self.string.as_deref()
     }
 
     /// Whether the edge's own string is still to come.
@@ -135,8 +129,8 @@ impl Edge {
         self.included
     }
 
-    /// The next key, by a scan that begins with the edge's string and one that begins behind it, which tell of the key
-    /// found.
+    /// The next key, by a search that begins with the edge's string and one that begins behind it, which tell of the
+    /// key found. From above all strings both go down.
     ///
     /// # Safety
     ///
@@ -144,41 +138,42 @@ impl Edge {
     pub unsafe fn find<T>(
         &self,
         handle: sys::sellumaq_judysl,
-        [from, past]: [Scan<T>; 2],
+        [from, past]: &[Search<T>; 2],
         told: &mut T,
     ) -> Option<Vec<u8>> {
-        let scan = if self.included { from } else { past };
-        let (mut buffer, mut length) = ([MaybeUninit::uninit(); MAX_KEY], self.key().len());
-        for (to, byte) in buffer.iter_mut().zip(self.key()) {
-            to.write(*byte);
+        let search = if self.included { from } else { past };
+        if let Some(string) = self.string() {
+            // SAFETY: as the caller says.
+            return unsafe { search.find(handle, string, told) };
         }
-        let bytes = buffer.as_mut_ptr().cast();
-        // SAFETY: the handle is as the caller says; the buffer has the bytes that it is said to have, the string is no
-        // longer, and all that the call writes to is the caller's or this function's.
-        let found = unsafe { scan(&handle, bytes, MAX_KEY, &mut length, told) };
-        // SAFETY: where it is found, the call wrote a key of this length to the buffer.
-        (found == sys::SELLUMAQ_FOUND).then(|| unsafe { from_raw_parts(bytes, length) }.to_vec())
+        // SAFETY: as the caller says.
+        let longest = unsafe { sys::sellumaq_judysl_longest(&handle) };
+        if longest <= SHORT {
+            // SAFETY: as the caller says.
+            return unsafe { from.find(handle, &GREATEST[..longest], told) };
+        }
+        // SAFETY: as the caller says.
+        let (greatest, _) = unsafe { nth(handle, sys::sellumaq_judysl_len(&handle)) }?;
+        // SAFETY: as the caller says.
+        unsafe { from.find(handle, &greatest, told) }
     }
 
     /// Whether a key lies above this edge, or is it.
     pub fn lets_above(&self, key: &[u8]) -> bool {
-        key > self.key() || self.included && key == self.key()
+        self.string()
+            .map_or(false, |end| key > end || self.included && key == end)
     }
 
     /// Whether a key lies below this edge, or is it.
     pub fn lets_below(&self, key: &[u8]) -> bool {
-        let is_below = |end: &Vec<u8>| key < &end[..] || self.included && key == &end[..];
-        self.string.as_ref().map_or(true, is_below)
+        self.string()
+            .map_or(true, |end| key < end || self.included && key == end)
     }
 }
 
-// The longest beginning of a string that can be a key, and whether it is the whole string. Where it isn't, no key lies
-// between the two: the string goes on with a zero byte, or with more bytes than a key has.
+// The longest beginning of a string that can be a key, and whether it is the whole string. Where it isn't, the string
+// goes on with a zero byte, so no key lies between the two.
 fn could_be_key(string: &[u8]) -> (&[u8], bool) {
-    let end = string
-        .iter()
-        .take(MAX_KEY)
-        .take_while(|byte| **byte != 0)
-        .count();
+    let end = string.iter().take_while(|byte| **byte != 0).count();
     (&string[..end], end == string.len())
 }

@@ -1,15 +1,16 @@
 //! Maps from strings to words, their entries and iterators.
 use crate::array::array;
-use crate::edge::{Edge, Scan};
+use crate::edge::Edge;
 use crate::entry::entries;
-use crate::keyed::{keyed_map, InsertError, MAX_KEY};
+use crate::keyed::{keyed_map, InsertError};
 use crate::ordered::ordered_map;
 use crate::saved::{saved, OfTypes};
+use crate::search::{self, Search};
 use crate::slots::slot_walks;
 use crate::two::of_two;
 use crate::types::{Value, ZeroValue};
 use crate::walk::walks;
-use crate::NoMemory;
+use crate::{no_room, NoMemory};
 use sellumaq_sys as sys;
 use std::cmp::Ordering;
 use std::fmt;
@@ -28,8 +29,8 @@ pub use crate::edge::StringRange;
 
 array!(
     /// An ordered map from strings to words, or to other values that fit one, as those of a `JudySl<char>` are. A key
-    /// is a string of at most [`MAX_KEY`] bytes, none of them zero; keys are ordered by their bytes, as text in UTF-8
-    /// is by its characters.
+    /// is a string of any number of bytes, none of them zero; keys are ordered by their bytes, as text in UTF-8 is by
+    /// its characters.
     ///
     /// ```
     /// let ages = sellumaq::JudySl::from([("Ada", 36), ("Alan", 41), ("Grace", 85)]);
@@ -104,10 +105,10 @@ impl<V: Value> JudySl<V> {
     }
 
     // The pair of the key that is nearest to an end.
-    fn nearest(&self, end: &Edge, scans: [Scan<u64>; 2]) -> Option<(Vec<u8>, V)> {
+    fn nearest(&self, end: &Edge, searches: &[Search<u64>; 2]) -> Option<(Vec<u8>, V)> {
         let mut bits = 0;
-        // SAFETY: the map is borrowed, and the scans are this kind's.
-        let key = unsafe { end.find(self.handle, scans, &mut bits) }?;
+        // SAFETY: the map is borrowed, and the searches are this kind's.
+        let key = unsafe { end.find(self.handle, searches, &mut bits) }?;
         Some((key, V::of_bits(bits)))
     }
 
@@ -115,11 +116,11 @@ impl<V: Value> JudySl<V> {
     fn nearest_entry(
         &mut self,
         end: &Edge,
-        scans: [Scan<*mut u64>; 2],
+        searches: &[Search<*mut u64>; 2],
     ) -> Option<OccupiedEntry<'_, Vec<u8>, V>> {
         let mut slot = null_mut();
         // SAFETY: as in `nearest`.
-        let key = unsafe { end.find(self.handle, scans, &mut slot) }?;
+        let key = unsafe { end.find(self.handle, searches, &mut slot) }?;
         let slot = NonNull::new(slot.cast())?;
         Some(OccupiedEntry {
             map: self,
@@ -136,7 +137,7 @@ impl<V: Value> JudySl<V> {
     /// ```
     #[must_use]
     pub fn first_key_value(&self) -> Option<(Vec<u8>, V)> {
-        self.nearest(&Edge::lower(Bound::Unbounded), UP)
+        self.nearest(&Edge::lower(Bound::Unbounded), &UP)
     }
 
     /// The pair of the greatest key.
@@ -147,7 +148,7 @@ impl<V: Value> JudySl<V> {
     /// ```
     #[must_use]
     pub fn last_key_value(&self) -> Option<(Vec<u8>, V)> {
-        self.nearest(&Edge::upper(Bound::Unbounded), DOWN)
+        self.nearest(&Edge::upper(Bound::Unbounded), &DOWN)
     }
 
     /// The entry of the least key.
@@ -157,7 +158,7 @@ impl<V: Value> JudySl<V> {
     /// assert_eq!(map.first_entry().unwrap().remove(), 10);
     /// ```
     pub fn first_entry(&mut self) -> Option<OccupiedEntry<'_, Vec<u8>, V>> {
-        self.nearest_entry(&Edge::lower(Bound::Unbounded), UP_TO_SLOTS)
+        self.nearest_entry(&Edge::lower(Bound::Unbounded), &UP_TO_SLOTS)
     }
 
     /// The entry of the greatest key.
@@ -167,7 +168,7 @@ impl<V: Value> JudySl<V> {
     /// assert_eq!(map.last_entry().unwrap().insert(21), 20);
     /// ```
     pub fn last_entry(&mut self) -> Option<OccupiedEntry<'_, Vec<u8>, V>> {
-        self.nearest_entry(&Edge::upper(Bound::Unbounded), DOWN_TO_SLOTS)
+        self.nearest_entry(&Edge::upper(Bound::Unbounded), &DOWN_TO_SLOTS)
     }
 
     /// The pair of the least key from a string on, which may be any.
@@ -178,7 +179,7 @@ impl<V: Value> JudySl<V> {
     /// ```
     #[must_use]
     pub fn at_or_after(&self, from: impl AsRef<[u8]>) -> Option<(Vec<u8>, V)> {
-        self.nearest(&Edge::lower(Bound::Included(from.as_ref())), UP)
+        self.nearest(&Edge::lower(Bound::Included(from.as_ref())), &UP)
     }
 
     /// The pair of the greatest key up to a string, which may be any.
@@ -189,7 +190,7 @@ impl<V: Value> JudySl<V> {
     /// ```
     #[must_use]
     pub fn at_or_before(&self, from: impl AsRef<[u8]>) -> Option<(Vec<u8>, V)> {
-        self.nearest(&Edge::upper(Bound::Included(from.as_ref())), DOWN)
+        self.nearest(&Edge::upper(Bound::Included(from.as_ref())), &DOWN)
     }
 
     /// The pairs by ascending key.
@@ -277,9 +278,27 @@ impl<V: Value> JudySl<V> {
         RangeMut::of(self, way)
     }
 
+    /// How many bytes the longest key had that was put in since the map was last empty, also where it has gone: no key
+    /// has more.
+    ///
+    /// ```
+    /// let map = sellumaq::JudySl::from([("a", 10), ("abc", 20)]);
+    /// assert_eq!(map.longest_key_len(), 3);
+    /// ```
+    #[must_use]
+    pub fn longest_key_len(&self) -> usize {
+        let handle = self.handle;
+        // SAFETY: the handle is this map's, lent for this call alone, which only reads.
+        unsafe { sys::sellumaq_judysl_longest(&handle) }
+    }
+
     /// How many keys an upper end lets through.
     fn count_up_to(&self, end: &Edge) -> usize {
-        let (handle, from, to) = (self.handle, b"", end.key());
+        let (handle, from) = (self.handle, b"");
+        let to = match end.string() {
+            Some(to) => to,
+            None => return self.len(),
+        };
         // SAFETY: the handle is this map's, lent for this call alone, which only reads; both strings are slices'.
         let count =
             unsafe { sys::sellumaq_judysl_count(&handle, from.as_ptr(), 0, to.as_ptr(), to.len()) };
@@ -324,14 +343,8 @@ impl<V: Value> JudySl<V> {
     #[must_use]
     pub fn nth(&self, n: usize) -> Option<(Vec<u8>, V)> {
         let place = (n as u64).checked_add(1)?;
-        let (handle, mut key, mut length, mut value) = (self.handle, [0; MAX_KEY], 0, 0);
-        let buffer = key.as_mut_ptr();
-        // SAFETY: the handle is this map's, lent for this call alone, which only reads; the buffer has the bytes that
-        // it is said to have, and all that the call writes to is this function's.
-        let told = unsafe {
-            sys::sellumaq_judysl_by_count(&handle, place, buffer, MAX_KEY, &mut length, &mut value)
-        };
-        (told == sys::SELLUMAQ_FOUND).then(|| (key[..length].to_vec(), V::of_bits(value)))
+        // SAFETY: the handle is this map's, lent for this call alone, which only reads.
+        unsafe { search::nth(self.handle, place) }.map(Self::item)
     }
 
     /// Takes out each key that isn't to be kept, by ascending key; `keep` may change the values. Where it panics, that
@@ -367,7 +380,8 @@ impl<V: Value> JudySl<V> {
         }
     }
 
-    /// Takes all keys of a range out, and answers how many they were. It can't want memory.
+    /// Takes all keys of a range out, and answers how many they were. Where a key of more than 1,024 bytes was put in
+    /// since the map was last empty it asks for memory, and ends the program where there is none.
     ///
     /// ```
     /// let mut map = sellumaq::JudySl::from([("a", 10), ("b", 20), ("c", 30)]);
@@ -384,12 +398,22 @@ impl<V: Value> JudySl<V> {
             let keys = unsafe {
                 sys::sellumaq_judysl_remove_range(handle, first, from.len(), last, to.len())
             };
-            return keys as usize;
+            return Self::removed(keys);
         }
         0
     }
 
-    /// Takes all keys out that begin with some bytes, and answers how many they were. It can't want memory.
+    // How many keys a call of C took out, which answers the greatest number where it was refused memory.
+    fn removed(keys: u64) -> usize {
+        if keys == u64::MAX {
+            no_room(NoMemory)
+        } else {
+            keys as usize
+        }
+    }
+
+    /// Takes all keys out that begin with some bytes, and answers how many they were. It asks for memory as
+    /// [`remove_range`](Self::remove_range) does.
     ///
     /// ```
     /// let mut map = sellumaq::JudySl::from([("a", 10), ("ab", 20), ("b", 30)]);
@@ -400,7 +424,7 @@ impl<V: Value> JudySl<V> {
         // SAFETY: the handle is this map's, lent for this call alone; the bytes are a slice's.
         let keys =
             unsafe { sys::sellumaq_judysl_remove_prefix(handle, prefix.as_ptr(), prefix.len()) };
-        keys as usize
+        Self::removed(keys)
     }
 
     /// Moves keys together, so that memory which deletes left free within the map's pages goes back: one walk over the
@@ -509,8 +533,8 @@ impl<V: Value, F: FnMut(&[u8], &mut V) -> bool> Iterator for ExtractIf<'_, V, F>
 impl<V: Value, F: FnMut(&[u8], &mut V) -> bool> FusedIterator for ExtractIf<'_, V, F> {}
 
 impl<V: Value> Range<'_, V> {
-    /// The next pair, its key lent until the next call. No memory is asked for, as it is for the keys that `next` gives
-    /// away.
+    /// The next pair, its key lent until the next call. No memory is asked for each key, as it is for those that `next`
+    /// gives away.
     ///
     /// ```
     /// let map = sellumaq::JudySl::from([("a", 10)]);
@@ -534,8 +558,8 @@ impl<V: Value> Range<'_, V> {
 }
 
 impl<V: Value> Iter<'_, V> {
-    /// The next pair, its key lent until the next call. No memory is asked for, as it is for the keys that `next` gives
-    /// away.
+    /// The next pair, its key lent until the next call. No memory is asked for each key, as it is for those that `next`
+    /// gives away.
     ///
     /// ```
     /// let map = sellumaq::JudySl::from([("a", 10)]);

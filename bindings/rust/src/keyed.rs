@@ -3,25 +3,24 @@ use crate::{no_room, NoMemory};
 use sellumaq_sys as sys;
 use std::fmt;
 
-/// How many bytes a key of a [`JudySl`](crate::JudySl) has at most; one of a [`JudyHs`](crate::JudyHs) may have any
-/// number.
+/// How many bytes a key of a [`JudySl`](crate::JudySl) or [`JudyHs`](crate::JudyHs) has at most that is turned to bytes
+/// or saved to a file. In memory a key may have any number.
 ///
 /// ```
-/// assert_eq!(sellumaq::MAX_KEY, 1024);
+/// assert_eq!(sellumaq::MAX_SAVED_KEY, 1024);
 /// ```
-pub const MAX_KEY: usize = 1024;
+pub const MAX_SAVED_KEY: usize = sys::SELLUMAQ_SAVED_KEY_BYTES;
 
 /// Why a key wasn't put into a map; the map is as it was then.
 ///
 /// ```
 /// use sellumaq::{InsertError, JudySl};
 ///
-/// assert_eq!(JudySl::new().try_insert([0; 2000], 1), Err(InsertError::BadKey));
+/// assert_eq!(JudySl::new().try_insert("a\0", 1), Err(InsertError::BadKey));
 /// ```
 #[derive(Clone, Copy, PartialEq, Eq, Debug)]
 pub enum InsertError {
-    /// The map is a [`JudySl`](crate::JudySl) and the bytes are no key of it: they are more than [`MAX_KEY`], or one of
-    /// them is zero.
+    /// The map is a [`JudySl`](crate::JudySl) and the bytes are no key of it: one of them is zero.
     BadKey,
     /// The key is absent, and the map holds 4,294,967,295 keys.
     Full,

@@ -66,6 +66,7 @@ mod keyed;
 mod list;
 mod ordered;
 mod saved;
+mod search;
 #[cfg(feature = "serde")]
 mod serial;
 mod sieve;
@@ -84,7 +85,7 @@ pub use judy1::Judy1;
 pub use judyhs::JudyHs;
 pub use judyl::JudyL;
 pub use judysl::JudySl;
-pub use keyed::{InsertError, MAX_KEY};
+pub use keyed::{InsertError, MAX_SAVED_KEY};
 pub use saved::{DumpFault, LoadError, LoadFault, SaveError};
 pub use sorted::{FromSortedError, NotAscending};
 pub use types::{Key, Value, ZeroValue};

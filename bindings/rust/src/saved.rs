@@ -115,7 +115,8 @@ impl error::Error for LoadFault {}
 pub enum DumpFault {
     /// There are more than 4,294,967,295 keys, which no dump can say.
     TooMany,
-    /// A key of a [`JudyHs`](crate::JudyHs) has more than [`MAX_KEY`](crate::MAX_KEY) bytes, which no dump can say.
+    /// A key of strings or byte strings has more than [`MAX_SAVED_KEY`](crate::MAX_SAVED_KEY) bytes, which no dump can
+    /// say.
     BadKey,
     /// There is no memory for the bytes.
     NoMemory,

@@ -32,7 +32,7 @@ impl std::error::Error for NotAscending {}
 /// ```
 #[derive(Clone, Copy, PartialEq, Eq, Debug)]
 pub enum FromSortedError {
-    /// The bytes at this place are no key: they are more than [`MAX_KEY`](crate::MAX_KEY), or one of them is zero.
+    /// The bytes at this place are no key: one of them is zero.
     BadKey(usize),
     /// The key at this place isn't above the one before it.
     NotAscending(usize),

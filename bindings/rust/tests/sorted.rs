@@ -1,5 +1,5 @@
 //! Arrays made at once beside std's sets and maps.
-use sellumaq::{FromSortedError, Judy1, JudyL, JudySl, NotAscending, MAX_KEY};
+use sellumaq::{FromSortedError, Judy1, JudyL, JudySl, NotAscending};
 use std::collections::BTreeMap;
 
 /// Words that look random.
@@ -58,7 +58,7 @@ fn strings_that_ascend_make_the_same_map() {
     for count in [0, 1, 2, 33, 300, 5000] {
         let mut plain = strings(count);
         if count > 2 {
-            plain.extend([(vec![], 7), (vec![1], 8), (vec![0xff; MAX_KEY], 9)]);
+            plain.extend([(vec![], 7), (vec![1], 8), (vec![0xff; 70_000], 9)]);
         }
         let made = JudySl::from_sorted(plain.iter().map(|(key, value)| (key, *value))).unwrap();
         let mut one_by_one = JudySl::new();
@@ -84,12 +84,13 @@ fn strings_that_ascend_make_the_same_map() {
 fn strings_that_make_no_map_are_told_by_their_place() {
     use FromSortedError::{BadKey, NotAscending};
     let told = |keys: &[&[u8]]| JudySl::from_sorted(keys.iter().zip(0..)).err();
-    let longer = [1; MAX_KEY + 1];
+    let mut long = [1; 5000];
+    assert_eq!(told(&[b"", &long[1..], &long, &[2]]), None);
+    long[4999] = 0;
     assert_eq!(told(&[b"", b"a", b"a"]), Some(NotAscending(2)));
     assert_eq!(told(&[b"ab", b"a", b"\0"]), Some(NotAscending(1)));
     assert_eq!(told(&[b"a", b"b", b"b\0"]), Some(BadKey(2)));
-    assert_eq!(told(&[&longer, b"", b""]), Some(BadKey(0)));
+    assert_eq!(told(&[&long, b"", b""]), Some(BadKey(0)));
     // bytes that are no key are told as that also where they aren't above the key before them
     assert_eq!(told(&[b"b", b"a\0"]), Some(BadKey(1)));
-    assert_eq!(told(&[b"", &longer[1..], &[2]]), None);
 }

@@ -1,5 +1,5 @@
 //! Maps from strings and byte strings beside std's, over random changes of keys that share their beginnings.
-use sellumaq::{InsertError, JudyHs, JudySl, MAX_KEY};
+use sellumaq::{InsertError, JudyHs, JudySl};
 use std::collections::{BTreeMap, HashMap};
 use std::mem::replace;
 use std::ops::Bound::{Excluded, Included, Unbounded};
@@ -164,16 +164,17 @@ fn a_map_of_byte_strings_is_a_map() {
 
 #[test]
 fn bytes_that_are_no_key() {
-    let (longest, longer) = ([0xff; MAX_KEY], [0xff; MAX_KEY + 1]);
+    let (long, longer) = ([0xff; 1024], [0xff; 1025]);
+    let zero = [&longer[..], b"\0"].concat();
     let mut strings = JudySl::new();
     assert_eq!(
-        (strings.insert(longest, 1), strings.insert("", 2)),
+        (strings.insert(long, 1), strings.insert("", 2)),
         (None, None)
     );
-    assert_eq!(strings.try_insert(longer, 3), Err(InsertError::BadKey));
+    assert_eq!(strings.try_insert(&zero, 3), Err(InsertError::BadKey));
     assert_eq!(strings.try_insert("a\0b", 3), Err(InsertError::BadKey));
-    assert_eq!(strings.slot(longer), Err(InsertError::BadKey));
-    assert_eq!((strings.get(longer), strings.get("\0")), (None, None));
+    assert_eq!(strings.slot(&zero), Err(InsertError::BadKey));
+    assert_eq!((strings.get(&zero), strings.get("\0")), (None, None));
     assert_eq!(strings.get_mut("\0"), None);
     assert_eq!(strings.remove("\0"), None);
     assert_eq!(strings.len(), 2);
@@ -181,7 +182,8 @@ fn bytes_that_are_no_key() {
         strings.range((Included(&longer[..]), Unbounded)).next(),
         None
     );
-    assert_eq!(strings.at_or_before(longer), Some((longest.to_vec(), 1)));
+    assert_eq!(strings.at_or_before(longer), Some((long.to_vec(), 1)));
+    assert_eq!(strings.at_or_before(&zero), Some((long.to_vec(), 1)));
     assert_eq!(strings.range(.."\0").collect::<Vec<_>>(), [(vec![], 2)]);
 }
 
@@ -189,7 +191,7 @@ fn bytes_that_are_no_key() {
 #[test]
 fn long_byte_strings() {
     let key = |length| vec![b'k'; length];
-    let lengths = [0, MAX_KEY, MAX_KEY + 1, 3542, 100_000];
+    let lengths = [0, 1024, 1025, 3542, 100_000];
     let mut map: JudyHs = lengths.iter().map(|&it| (key(it), it as u64)).collect();
     assert!(map.keys().map(|it| it.len()).eq(lengths));
     assert_eq!((map.get(key(3542)), map.get(key(3541))), (Some(3542), None));
@@ -200,7 +202,7 @@ fn long_byte_strings() {
 #[test]
 #[should_panic = "not the bytes of a key"]
 fn an_insert_panics_at_bytes_that_are_no_key() {
-    JudySl::new().insert([1; MAX_KEY + 1], 1);
+    JudySl::new().insert("a\0", 1);
 }
 
 #[test]

@@ -115,10 +115,8 @@ pub const SELLUMAQ_DUMP_BAD_PREFIX: u32 = 12;
 pub const SELLUMAQ_DUMP_NOT_ONE: u32 = 13;
 pub const SELLUMAQ_DUMP_OTHER_KIND: u32 = 14;
 
-/// The most bytes of a key of a map from strings.
-pub const SELLUMAQ_KEY_BYTES: usize = 1024;
-/// The most bytes of a key of a map from byte strings.
-pub const SELLUMAQ_JUDYHS_KEY_BYTES: usize = isize::MAX as usize;
+/// The most bytes of a key that a dump can say.
+pub const SELLUMAQ_SAVED_KEY_BYTES: usize = 1024;
 
 // A set of words.
 extern "C" {
@@ -561,6 +559,7 @@ extern "C" {
         place: *mut usize,
     ) -> u32;
     pub fn sellumaq_judysl_len(map: *const sellumaq_judysl) -> u64;
+    pub fn sellumaq_judysl_longest(map: *const sellumaq_judysl) -> usize;
     pub fn sellumaq_judysl_union(
         made: *mut sellumaq_judysl,
         one: *const sellumaq_judysl,

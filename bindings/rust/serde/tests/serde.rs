@@ -1,5 +1,5 @@
 //! The arrays by Serde, in the words of its data model and as JSON.
-use sellumaq::{Judy1, JudyHs, JudyL, JudySl, MAX_KEY};
+use sellumaq::{Judy1, JudyHs, JudyL, JudySl};
 use serde::de::value::{MapDeserializer, SeqDeserializer};
 use serde::de::{Deserialize, Error};
 use serde_test::{assert_de_tokens, assert_de_tokens_error, assert_tokens, Token};
@@ -134,9 +134,10 @@ fn lengths_that_are_only_said_take_no_room() {
 
 #[test]
 fn what_is_no_array_is_an_error() {
-    let longer = "k".repeat(MAX_KEY + 1);
-    let longer: &'static str = Box::leak(longer.into_boxed_str());
-    for key in ["a\0b", longer] {
+    let long: &'static str = Box::leak("k".repeat(70_000).into_boxed_str());
+    let zero: &'static str = Box::leak(format!("{long}\0").into_boxed_str());
+    assert_de_tokens(&JudySl::from([(long, 1)]), &one_key(&[Token::Str(long)], 1));
+    for key in ["a\0b", zero] {
         assert_de_tokens_error::<JudySl>(
             &[Token::Map { len: None }, Token::Str(key), Token::U64(1)],
             "not the bytes of a key",

@@ -1,13 +1,8 @@
 //! Maps from strings that are made at once, of strings that ascend.
 use super::{JudySl, Range};
-use crate::keyed::MAX_KEY;
 use crate::types::Value;
 use crate::{no_room, FromSortedError, NoMemory};
 use sellumaq_sys as sys;
-
-fn is_key(string: &[u8]) -> bool {
-    string.len() <= MAX_KEY && !string.contains(&0)
-}
 
 /// Strings one behind the other, with the length and the value of each.
 #[derive(Default)]
@@ -27,10 +22,10 @@ impl List {
     fn fault(&self, place: usize) -> FromSortedError {
         let lengths = self.entries.iter().map(|entry| entry.length);
         let begin: usize = lengths.take(place).sum();
-        if is_key(&self.bytes[begin..begin + self.entries[place].length]) {
-            FromSortedError::NotAscending(place)
-        } else {
+        if self.bytes[begin..begin + self.entries[place].length].contains(&0) {
             FromSortedError::BadKey(place)
+        } else {
+            FromSortedError::NotAscending(place)
         }
     }
 

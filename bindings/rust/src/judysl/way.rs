@@ -1,27 +1,36 @@
 //! The ways of iterators through a map from strings, from both ends of a range.
 use super::{JudySl, StringRange};
-use crate::edge::{Edge, Scan};
-use crate::keyed::MAX_KEY;
+use crate::edge::Edge;
+use crate::search::{Search, SHORT};
 use crate::types::Value;
 use sellumaq_sys as sys;
 use std::iter::from_fn;
 use std::ops::Range;
 use std::ptr::{null_mut, NonNull};
 
-pub const UP: [Scan<u64>; 2] = [sys::sellumaq_judysl_first, sys::sellumaq_judysl_next];
-pub const DOWN: [Scan<u64>; 2] = [sys::sellumaq_judysl_last, sys::sellumaq_judysl_prev];
-pub const UP_TO_SLOTS: [Scan<*mut u64>; 2] = [
-    sys::sellumaq_judysl_first_slot,
-    sys::sellumaq_judysl_next_slot,
+pub const UP: [Search<u64>; 2] = [
+    Search::of(sys::sellumaq_judysl_first, sys::sellumaq_judysl_first),
+    Search::of(sys::sellumaq_judysl_next, sys::sellumaq_judysl_next),
 ];
-pub const DOWN_TO_SLOTS: [Scan<*mut u64>; 2] = [
-    sys::sellumaq_judysl_last_slot,
-    sys::sellumaq_judysl_prev_slot,
+pub const DOWN: [Search<u64>; 2] = [
+    Search::of(sys::sellumaq_judysl_last, sys::sellumaq_judysl_last),
+    Search::of(sys::sellumaq_judysl_prev, sys::sellumaq_judysl_prev),
+];
+pub const UP_TO_SLOTS: [Search<*mut u64>; 2] = [
+    Search::of(sys::sellumaq_judysl_first_slot, sys::sellumaq_judysl_first),
+    Search::of(sys::sellumaq_judysl_next_slot, sys::sellumaq_judysl_next),
+];
+pub const DOWN_TO_SLOTS: [Search<*mut u64>; 2] = [
+    Search::of(sys::sellumaq_judysl_last_slot, sys::sellumaq_judysl_last),
+    Search::of(sys::sellumaq_judysl_prev_slot, sys::sellumaq_judysl_prev),
 ];
 
-/// How many keys a call of C brings at most, and how many bytes these have.
+/// How many keys a call of C brings at most, and for how many bytes there is room, but where one key has more.
 const MOST: usize = 64;
-const ROOM: usize = 4 * MAX_KEY;
+const ROOM: usize = 4 * SHORT;
+
+/// How many bytes a page that is brought from above has at most, but where one key has more.
+const MOST_BYTES: usize = MOST * SHORT;
 
 /// A way of which each step is one way down the map.
 #[derive(Clone)]
@@ -39,15 +48,15 @@ impl Steps {
         }
     }
 
-    // Goes a step up, and answers the key where one is left, of which the scans tell.
+    // Goes a step up, and answers the key where one is left, of which the searches tell.
     fn up<V: Value, T>(
         &mut self,
         map: &JudySl<V>,
-        scans: [Scan<T>; 2],
+        searches: &[Search<T>; 2],
         told: &mut T,
     ) -> Option<Vec<u8>> {
-        // SAFETY: the map is borrowed, and the scans are this kind's.
-        let key = unsafe { self.front.find(map.handle, scans, told) }?;
+        // SAFETY: the map is borrowed, and the searches are this kind's.
+        let key = unsafe { self.front.find(map.handle, searches, told) }?;
         self.front.go_behind(&key);
         self.back.lets_below(&key).then_some(key)
     }
@@ -56,35 +65,35 @@ impl Steps {
     fn down<V: Value, T>(
         &mut self,
         map: &JudySl<V>,
-        scans: [Scan<T>; 2],
+        searches: &[Search<T>; 2],
         told: &mut T,
     ) -> Option<Vec<u8>> {
         // SAFETY: as in `up`.
-        let key = unsafe { self.back.find(map.handle, scans, told) }?;
+        let key = unsafe { self.back.find(map.handle, searches, told) }?;
         self.back.go_behind(&key);
         self.front.lets_above(&key).then_some(key)
     }
 
     pub fn next<V: Value>(&mut self, map: &JudySl<V>) -> Option<(Vec<u8>, u64)> {
         let mut value = 0;
-        self.up(map, UP, &mut value).map(|key| (key, value))
+        self.up(map, &UP, &mut value).map(|key| (key, value))
     }
 
     pub fn next_back<V: Value>(&mut self, map: &JudySl<V>) -> Option<(Vec<u8>, u64)> {
         let mut value = 0;
-        self.down(map, DOWN, &mut value).map(|key| (key, value))
+        self.down(map, &DOWN, &mut value).map(|key| (key, value))
     }
 
-    /// The next key with its slot, where the scan ends.
+    /// The next key with its slot, where the search ends.
     pub fn next_slot<V: Value>(&mut self, map: &JudySl<V>) -> Option<(Vec<u8>, NonNull<V>)> {
         let mut slot = null_mut();
-        let key = self.up(map, UP_TO_SLOTS, &mut slot)?;
+        let key = self.up(map, &UP_TO_SLOTS, &mut slot)?;
         Some((key, NonNull::new(slot.cast())?))
     }
 
     pub fn next_back_slot<V: Value>(&mut self, map: &JudySl<V>) -> Option<(Vec<u8>, NonNull<V>)> {
         let mut slot = null_mut();
-        let key = self.down(map, DOWN_TO_SLOTS, &mut slot)?;
+        let key = self.down(map, &DOWN_TO_SLOTS, &mut slot)?;
         Some((key, NonNull::new(slot.cast())?))
     }
 }
@@ -184,8 +193,28 @@ impl Page {
     // Brings pairs of a map from a string on behind those that are there, up to so many, and answers whether there are
     // any more.
     fn fill<V: Value>(&mut self, map: &JudySl<V>, from: &[u8], itself: bool, up_to: usize) -> bool {
+        self.bytes.reserve(if up_to == 1 { SHORT } else { ROOM });
+        if self.walk(map, from, itself, up_to) {
+            return true;
+        }
+        if map.longest_key_len() <= self.bytes.capacity() - self.bytes.len() {
+            return false;
+        }
+        // the next key has more bytes than there is room for, or there is none
+        let search = &UP[usize::from(!itself)];
+        // SAFETY: the map is borrowed, and the search is this kind's.
+        match unsafe { search.found_length(map.handle, from) } {
+            Some(length) => {
+                self.bytes.reserve(length);
+                self.walk(map, from, itself, up_to)
+            }
+            None => false,
+        }
+    }
+
+    // The same of those for which there is room.
+    fn walk<V: Value>(&mut self, map: &JudySl<V>, from: &[u8], itself: bool, up_to: usize) -> bool {
         let (handle, begin, had) = (map.handle, self.bytes.len(), self.entries.len());
-        self.bytes.reserve(if up_to == 1 { MAX_KEY } else { ROOM });
         self.entries.reserve(up_to - had);
         let bytes = self.bytes.spare_capacity_mut();
         let (to, room) = (bytes.as_mut_ptr().cast(), bytes.len());
@@ -253,10 +282,13 @@ impl Way {
             self.ends.front.go_behind(key);
         }
         let (most, front) = (self.page.turn(), &self.ends.front);
-        self.page.fill(map, front.key(), front.is_included(), most)
+        match front.string() {
+            Some(from) => self.page.fill(map, from, front.is_included(), most),
+            None => false,
+        }
     }
 
-    // Brings the greatest pairs that are left: one by a scan, for a way that is soon left, and then those at some
+    // Brings the greatest pairs that are left: one by a search, for a way that is soon left, and then those at some
     // places up to the one before. False where none is left.
     fn bring_back<V: Value>(&mut self, map: &JudySl<V>) -> bool {
         if self.back.most == 1 {
@@ -269,7 +301,8 @@ impl Way {
         let below = self
             .below
             .unwrap_or_else(|| map.count_up_to(&self.ends.back));
-        let count = self.back.most.min(below);
+        let room = MOST_BYTES / map.longest_key_len().max(1);
+        let count = self.back.most.min(below).min(room.max(1));
         if count == 0 {
             return false;
         }
