@@ -37,7 +37,7 @@ static void compare(sellumaq_judyhs *map, unsigned place) {
 static void edges(sellumaq_judyhs *map) {
     const uint8_t *none = (const uint8_t *)"";
     uint64_t value = 7, *slot = NULL;
-    CHECK(sellumaq_judyhs_ins(map, none, SELLUMAQ_JUDYHS_KEY_BYTES + 1, &slot) == SELLUMAQ_BAD_KEY && slot == NULL && map->array == NULL);
+    CHECK(sellumaq_judyhs_ins(map, none, (size_t)PTRDIFF_MAX + 1, &slot) == SELLUMAQ_BAD_KEY && slot == NULL && map->array == NULL);
     CHECK(!sellumaq_judyhs_del(map, none, 0) && !sellumaq_judyhs_slot(map, none, 0, &slot) && map->array == NULL);
     CHECK(sellumaq_judyhs_put(map, none, 0, 5) == SELLUMAQ_ADDED);
     CHECK(sellumaq_judyhs_ins(map, none, SIZE_MAX, &slot) == SELLUMAQ_BAD_KEY && slot == NULL);

@@ -7,6 +7,9 @@
 
 enum { KEYS = 200, LONGEST = 96 };
 
+/* More bytes than an object of C has. */
+#define NO_OBJECT ((size_t)PTRDIFF_MAX + 1)
+
 typedef struct {
     uint8_t bytes[LONGEST];
     size_t length;
@@ -57,15 +60,15 @@ CHANGES(judysl, 300)
 CHANGES(judyhs, 300)
 
 static void edges(void) {
-    uint8_t longer[SELLUMAQ_KEY_BYTES + 1], zero[2] = {'a', 0};
+    uint8_t long_one[2000], zero[2] = {'a', 0};
     uint64_t was = 7;
     sellumaq_judysl strings = {0};
     sellumaq_judyhs hashed = {0};
-    memset(longer, 'x', sizeof longer);
-    CHECK(sellumaq_judysl_put(&strings, longer, sizeof longer, 1) == SELLUMAQ_BAD_KEY && sellumaq_judysl_insert(&strings, zero, 2, 1, &was) == SELLUMAQ_BAD_KEY);
-    CHECK(sellumaq_judyhs_insert(&hashed, longer, SELLUMAQ_JUDYHS_KEY_BYTES + 1, 1, &was) == SELLUMAQ_BAD_KEY && sellumaq_judyhs_put(&hashed, zero, 2, 1) == SELLUMAQ_ADDED);
+    memset(long_one, 'x', sizeof long_one);
+    CHECK(sellumaq_judysl_put(&strings, zero, 2, 1) == SELLUMAQ_BAD_KEY && sellumaq_judysl_insert(&strings, zero, 2, 1, &was) == SELLUMAQ_BAD_KEY);
+    CHECK(sellumaq_judyhs_insert(&hashed, long_one, NO_OBJECT, 1, &was) == SELLUMAQ_BAD_KEY && sellumaq_judyhs_put(&hashed, zero, 2, 1) == SELLUMAQ_ADDED);
     CHECK(!sellumaq_judysl_remove(&strings, zero, 1, &was) && strings.array == NULL && was == 7);
-    CHECK(sellumaq_judysl_put(&strings, zero, 1, 5) == SELLUMAQ_ADDED && sellumaq_judysl_put(&strings, longer, 1024, 6) == SELLUMAQ_ADDED);
+    CHECK(sellumaq_judysl_put(&strings, zero, 1, 5) == SELLUMAQ_ADDED && sellumaq_judysl_put(&strings, long_one, sizeof long_one, 6) == SELLUMAQ_ADDED);
     CHECK(sellumaq_judysl_free(&strings) == 2 && sellumaq_judyhs_free(&hashed) == 1);
 }
 

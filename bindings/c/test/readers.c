@@ -17,7 +17,7 @@ static size_t spell(uint64_t key, uint8_t *string) { return (size_t)sprintf((cha
 static void *read_all(void *none) {
     sellumaq_judyl own = {0};
     uint64_t found, value, *slot;
-    uint8_t string[SELLUMAQ_KEY_BYTES];
+    uint8_t string[32];
     for (uint64_t key = 0; key < KEYS; key++) {
         size_t length = spell(key, string);
         CHECK(sellumaq_judy1_test(&set, key * 3) && sellumaq_judy1_next_empty(&set, key * 3, &found) && found == key * 3 + 1);

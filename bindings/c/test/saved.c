@@ -82,21 +82,36 @@ static void refusals(const kind *kind) {
     kind->free(&array);
 }
 
-/* A key that a dump can't say: longer than that of a map from strings. */
-static void long_keys(const char *path) {
-    static uint8_t key[SELLUMAQ_KEY_BYTES + 1];
-    sellumaq_judyhs map = { 0 };
-    size_t size = UNWRITTEN;
-    sellumaq_judyhs_put(&map, key, SELLUMAQ_KEY_BYTES, 5);
-    CHECK(sellumaq_judyhs_dump_size(&map, 1, NAME, 1, &size) == SELLUMAQ_DONE && size == 27 + 2 + SELLUMAQ_KEY_BYTES + 8);
-    CHECK(sellumaq_judyhs_save(&map, path) == SELLUMAQ_DONE);
-    sellumaq_judyhs_put(&map, key, sizeof key, 6);
-    size = UNWRITTEN;
-    CHECK(sellumaq_judyhs_dump_size(&map, 1, NAME, 1, &size) == SELLUMAQ_BAD_KEY && sellumaq_judyhs_save(&map, path) == SELLUMAQ_BAD_KEY);
-    CHECK(size == UNWRITTEN && sellumaq_judyhs_free(&map) == 2);
-    uint32_t fault = UNWRITTEN;
-    CHECK(sellumaq_judyhs_open(&map, path, &fault) == SELLUMAQ_DONE && fault == UNWRITTEN && sellumaq_judyhs_free(&map) == 1);
-}
+/* A key that a dump can't say: nothing is written, and a file stays, until it has gone. */
+#define LONG_KEYS(kind)                                                                                              \
+    static void long_##kind##_keys(const char *path) {                                                               \
+        static uint8_t key[SELLUMAQ_SAVED_KEY_BYTES + 1], bytes[2 * sizeof key];                                     \
+        sellumaq_##kind map = { 0 };                                                                                 \
+        size_t size = UNWRITTEN;                                                                                     \
+        memset(key, 'k', sizeof key);                                                                                \
+        sellumaq_##kind##_put(&map, key, SELLUMAQ_SAVED_KEY_BYTES, 5);                                               \
+        CHECK(sellumaq_##kind##_dump_size(&map, 1, NAME, 1, &size) == SELLUMAQ_DONE);                                \
+        CHECK(size == 27 + 2 + SELLUMAQ_SAVED_KEY_BYTES + 8 && sellumaq_##kind##_save(&map, path) == SELLUMAQ_DONE); \
+        sellumaq_##kind##_put(&map, key, sizeof key, 6);                                                             \
+        memset(bytes, UNWRITTEN, sizeof bytes);                                                                      \
+        size = UNWRITTEN;                                                                                            \
+        for (uint32_t format = 1; format < 3; format++) {                                                            \
+            CHECK(sellumaq_##kind##_dump(&map, format, NAME, 1, bytes, sizeof bytes, &size) == SELLUMAQ_BAD_KEY);    \
+            CHECK(sellumaq_##kind##_dump_size(&map, format, NAME, 1, &size) == SELLUMAQ_BAD_KEY);                    \
+            CHECK(sellumaq_##kind##_dump(&map, format, NAME, 0, bytes, sizeof bytes, &size) == SELLUMAQ_BAD_NAME);   \
+        }                                                                                                            \
+        CHECK(sellumaq_##kind##_save(&map, path) == SELLUMAQ_BAD_KEY && size == UNWRITTEN);                          \
+        for (size_t at = 0; at < sizeof bytes; at++) CHECK(bytes[at] == UNWRITTEN);                                  \
+        CHECK(sellumaq_##kind##_del(&map, key, sizeof key));                                                         \
+        CHECK(sellumaq_##kind##_dump_size(&map, 2, NAME, 1, &size) == SELLUMAQ_DONE);                                \
+        CHECK(sellumaq_##kind##_free(&map) == 1);                                                                    \
+        uint32_t fault = UNWRITTEN;                                                                                  \
+        CHECK(sellumaq_##kind##_open(&map, path, &fault) == SELLUMAQ_DONE && fault == UNWRITTEN);                    \
+        CHECK(sellumaq_##kind##_free(&map) == 1 && unlink(path) == 0);                                               \
+    }
+
+LONG_KEYS(judysl)
+LONG_KEYS(judyhs)
 
 /* ---- what is read ---- */
 
@@ -366,8 +381,8 @@ int main(int count, char **words) {
     CHECK(mkdtemp(folder) && chdir(folder) == 0);
     texts_shown();
     fault_texts();
-    long_keys("long");
-    CHECK(unlink("long") == 0);
+    long_judysl_keys("long");
+    long_judyhs_keys("long");
     for (size_t at = 0; at < KINDS; at++) {
         refusals(&kinds[at]);
         for (unsigned keys = 0; keys < 3000; keys = 4 * keys + 1) round_trips(&kinds[at], keys);

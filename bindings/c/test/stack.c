@@ -9,7 +9,7 @@
 /* What the manual page says that a call takes at most. */
 enum { MOST = 9 << 10 };
 
-enum { KEYS = 100000, PAGE = 1000, LONGEST = 1024, STRINGS = 2000, STACK = 1 << 20 };
+enum { KEYS = 100000, PAGE = 1000, LONGEST = 3000, STRINGS = 2000, FAR = 1 << 20, STACK = 1 << 20 };
 
 static _Alignas(4096) unsigned char stack[STACK];
 static uint64_t keys[KEYS];
@@ -63,7 +63,7 @@ static void *maps(void *dense) {
  * long it is. */
 static size_t string(const void *longest) {
     size_t length = longest ? LONGEST : 1 + any() % 40;
-    for (size_t at = 0; at < length; at++) text[at] = longest && at < 1000 ? 'a' : 1 + any() % 255;
+    for (size_t at = 0; at < length; at++) text[at] = longest && at < LONGEST - 24 ? 'a' : 1 + any() % 255;
     return length;
 }
 
@@ -79,6 +79,22 @@ static void look_around(const sellumaq_judysl *map, size_t length) {
     CHECK(sellumaq_judysl_prev_slot(map, text, LONGEST, &length, &slot) <= SELLUMAQ_FOUND);
     CHECK(sellumaq_judysl_prev(map, text, LONGEST, &length, &value) <= SELLUMAQ_FOUND);
     CHECK(sellumaq_judysl_next_slot(map, text, LONGEST, &length, &slot) <= SELLUMAQ_FOUND);
+}
+
+/* Two keys of a megabyte that share all but the last byte, in a map of others. */
+static void go_far(sellumaq_judysl *map) {
+    static uint8_t far[FAR];
+    uint64_t value;
+    size_t length = FAR;
+    memset(far, 'f', FAR);
+    for (int end = 'a'; end < 'c'; end++) {
+        far[FAR - 1] = (uint8_t)end;
+        CHECK(sellumaq_judysl_put(map, far, FAR, 1) == SELLUMAQ_ADDED && sellumaq_judysl_get(map, far, FAR, &value));
+        CHECK(sellumaq_judysl_last(map, far, FAR, &length, &value) == SELLUMAQ_FOUND && length == FAR);
+    }
+    CHECK(sellumaq_judysl_prev(map, far, FAR, &length, &value) == SELLUMAQ_FOUND && length == FAR && far[FAR - 1] == 'a');
+    CHECK(sellumaq_judysl_count(map, far, FAR, far, FAR) == 1 && sellumaq_judysl_del(map, far, FAR));
+    CHECK(sellumaq_judysl_remove_prefix(map, far, FAR - 1) == 1);
 }
 
 static void *strings(void *longest) {
@@ -99,7 +115,9 @@ static void *strings(void *longest) {
         length = 0;
         CHECK(sellumaq_judysl_first(&map, text, LONGEST, &length, &value) == SELLUMAQ_FOUND && sellumaq_judysl_del(&map, text, length));
     }
-    CHECK(sellumaq_judysl_walk(&map, NULL, 0, true, bytes, sizeof bytes, entries, PAGE) == PAGE && sellumaq_judysl_free(&map) == PAGE);
+    CHECK(sellumaq_judysl_walk(&map, NULL, 0, true, bytes, sizeof bytes, entries, PAGE) == PAGE);
+    go_far(&map);
+    CHECK(sellumaq_judysl_free(&map) == PAGE);
     return NULL;
 }
 

@@ -6,7 +6,7 @@
 #include "check.h"
 #include "refusing.h"
 
-enum { MOST_KEYS = 400 };
+enum { MOST_KEYS = 400, LONGEST = 1024 };
 
 /* A string of a number: of some a few beginnings are shared, and some are long. */
 static size_t write_key(uint64_t number, uint8_t *key) {
@@ -18,7 +18,7 @@ static size_t write_key(uint64_t number, uint8_t *key) {
 }
 
 static void fill(sellumaq_judysl *map, size_t count, unsigned bits) {
-    uint8_t key[SELLUMAQ_KEY_BYTES];
+    uint8_t key[LONGEST];
     for (size_t at = 0; at < count; at++) {
         size_t length = write_key(any() >> (64 - bits), key);
         CHECK(sellumaq_judysl_put(map, key, length, any()) <= SELLUMAQ_ADDED);
@@ -32,7 +32,7 @@ static void fill(sellumaq_judysl *map, size_t count, unsigned bits) {
 /* A way through a map; the key given last is `bytes`. */
 typedef struct {
     const sellumaq_judysl *map;
-    uint8_t bytes[SELLUMAQ_KEY_BYTES];
+    uint8_t bytes[LONGEST];
     size_t length;
     uint64_t value;
     bool begun;
@@ -172,8 +172,8 @@ static void take_out(const sellumaq_judysl *old, const gone *gone, long calls) {
 }
 
 static void try_ranges(const sellumaq_judysl *map) {
-    static uint8_t ends[4][SELLUMAQ_KEY_BYTES];
-    size_t lengths[4] = { 0, write_key(any() >> 50, ends[1]), 0, SELLUMAQ_KEY_BYTES };
+    static uint8_t ends[4][LONGEST];
+    size_t lengths[4] = { 0, write_key(any() >> 50, ends[1]), 0, LONGEST };
     uint64_t value;
     memset(ends[3], 255, sizeof ends[3]);
     sellumaq_judysl_by_count(map, sellumaq_judysl_len(map) / 2 + 1, ends[2], sizeof ends[2], &lengths[2], &value);

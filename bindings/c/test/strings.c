@@ -4,7 +4,7 @@
 #include "../sellumaq.h"
 #include "check.h"
 
-enum { STRINGS = 256, LONGEST = 128 };
+enum { STRINGS = 256, LONGEST = 128, ROOM = 1024 };
 
 /* The table's strings, in the order of their bytes. */
 static uint8_t strings[STRINGS][LONGEST];
@@ -49,25 +49,26 @@ static bool told(scan *call, sellumaq_judysl *map, int from, int place) {
     if (buffer[LONGEST] != '~' || value != (place < 0 ? 77 : values[place])) return false;
     if (place < 0 || length_of(place) <= length_of(from)) return true;
     memcpy(buffer, strings[from], length = length_of(from));
-    return call(map, buffer, found - 1, &length, &value) == SELLUMAQ_TOO_SMALL && length == length_of(from) && !memcmp(buffer, strings[from], length);
+    if (call(map, buffer, found - 1, &length, &value) != SELLUMAQ_TOO_SMALL || value != found) return false;
+    return length == length_of(from) && !memcmp(buffer, strings[from], length);
 }
 
 /* What stands in a buffer that any key fits: a string of the table, and behind it other bytes. A scan leaves the key
  * that it finds, and behind that what was there. */
 static void begin_with(uint8_t *buffer, int place) {
-    memset(buffer, '~', SELLUMAQ_KEY_BYTES);
+    memset(buffer, '~', ROOM);
     memcpy(buffer, strings[place], length_of(place));
 }
 
 static bool holds(const uint8_t *buffer, size_t length, int from, int place) {
-    uint8_t wanted[SELLUMAQ_KEY_BYTES];
+    uint8_t wanted[ROOM];
     begin_with(wanted, from);
     if (place >= 0) memcpy(wanted, strings[place], length_of(place));
     return length == length_of(place < 0 ? from : place) && !memcmp(buffer, wanted, sizeof wanted);
 }
 
 static bool told_in_place(scan *call, sellumaq_judysl *map, int from, int place) {
-    uint8_t buffer[SELLUMAQ_KEY_BYTES];
+    uint8_t buffer[ROOM];
     size_t length = length_of(from);
     uint64_t value = 77;
     begin_with(buffer, from);
@@ -97,7 +98,7 @@ static bool lent(slot_scan *call, sellumaq_judysl *map, int from, int place) {
 }
 
 static bool lent_in_place(slot_scan *call, sellumaq_judysl *map, int from, int place) {
-    uint8_t buffer[SELLUMAQ_KEY_BYTES];
+    uint8_t buffer[ROOM];
     size_t length = length_of(from);
     uint64_t own = 77, *slot = &own;
     begin_with(buffer, from);
@@ -117,7 +118,7 @@ static bool is_nth(const sellumaq_judysl *map, uint64_t n, int place) {
     if (answer != SELLUMAQ_FOUND || length != length_of(place) || memcmp(buffer, strings[place], length) || value != values[place]) return false;
     if (buffer[LONGEST] != '~') return false;
     length = value = 77;
-    return sellumaq_judysl_by_count(map, n, buffer, length_of(place) - 1, &length, &value) == SELLUMAQ_TOO_SMALL && length == 77 && value == 77;
+    return sellumaq_judysl_by_count(map, n, buffer, length_of(place) - 1, &length, &value) == SELLUMAQ_TOO_SMALL && length == 77 && value == length_of(place);
 }
 
 /* Counts from a string of the table and up to it, and the key that a count gives back. */
@@ -146,20 +147,20 @@ static void compare(sellumaq_judysl *map, int place) {
     CHECK(sellumaq_judysl_len(map) == count_held());
 }
 
-/* Bytes that are no key, the longest keys, and an empty map. */
+/* Bytes that are no key, keys of more than 1,024 bytes, and an empty map. */
 static void edges(sellumaq_judysl *map) {
-    uint8_t longest[SELLUMAQ_KEY_BYTES + 1], zero[3] = {'a', 0, 'b'};
+    enum { LONG = 1500 };
+    uint8_t key[LONG + 1], zero[3] = {'a', 0, 'b'};
     uint64_t value = 7, *slot = NULL;
     size_t length = 0;
-    memset(longest, 0xff, sizeof longest);
-    CHECK(sellumaq_judysl_ins(map, longest, sizeof longest, &slot) == SELLUMAQ_BAD_KEY && sellumaq_judysl_ins(map, zero, 3, &slot) == SELLUMAQ_BAD_KEY);
-    CHECK(slot == NULL && map->array == NULL);
-    CHECK(sellumaq_judysl_next(map, longest, sizeof longest, &length, &value) == SELLUMAQ_NONE);
-    CHECK(sellumaq_judysl_next_slot(map, longest, sizeof longest, &length, &slot) == SELLUMAQ_NONE && slot == NULL && map->array == NULL);
-    CHECK(sellumaq_judysl_ins(map, longest, SELLUMAQ_KEY_BYTES, &slot) == SELLUMAQ_FOUND && *slot == 0);
+    memset(key, 0xff, sizeof key);
+    CHECK(sellumaq_judysl_ins(map, zero, 3, &slot) == SELLUMAQ_BAD_KEY && slot == NULL && map->array == NULL);
+    CHECK(sellumaq_judysl_next(map, key, sizeof key, &length, &value) == SELLUMAQ_NONE);
+    CHECK(sellumaq_judysl_next_slot(map, key, sizeof key, &length, &slot) == SELLUMAQ_NONE && slot == NULL && map->array == NULL);
+    CHECK(sellumaq_judysl_ins(map, key, LONG, &slot) == SELLUMAQ_FOUND && *slot == 0);
     *slot = 5;
     CHECK(sellumaq_judysl_ins(map, zero, 0, &slot) == SELLUMAQ_FOUND && sellumaq_judysl_ins(map, zero, 3, &slot) == SELLUMAQ_BAD_KEY);
-    CHECK(!sellumaq_judysl_get(map, zero, 3, &value) && !sellumaq_judysl_slot(map, longest, sizeof longest, &slot) && !sellumaq_judysl_del(map, zero, 3));
+    CHECK(!sellumaq_judysl_get(map, zero, 3, &value) && !sellumaq_judysl_slot(map, key, sizeof key, &slot) && !sellumaq_judysl_del(map, zero, 3));
     length = 3;
     slot = NULL;
     CHECK(sellumaq_judysl_first(map, zero, 3, &length, &value) == SELLUMAQ_BAD_KEY);
@@ -167,15 +168,16 @@ static void edges(sellumaq_judysl *map) {
     length = 4;
     CHECK(sellumaq_judysl_last_slot(map, zero, 3, &length, &slot) == SELLUMAQ_BAD_KEY && slot == NULL && length == 4);
     CHECK(sellumaq_judysl_first(map, zero, 3, &length, &value) == SELLUMAQ_BAD_KEY && length == 4);
-    length = sizeof longest;
-    CHECK(sellumaq_judysl_last(map, longest, sizeof longest, &length, &value) == SELLUMAQ_BAD_KEY && length == sizeof longest && value == 7);
-    length = SELLUMAQ_KEY_BYTES;
-    CHECK(sellumaq_judysl_last(map, longest, sizeof longest, &length, &value) == SELLUMAQ_FOUND && length == SELLUMAQ_KEY_BYTES && value == 5);
-    CHECK(sellumaq_judysl_last_slot(map, longest, SELLUMAQ_KEY_BYTES, &length, &slot) == SELLUMAQ_FOUND && length == SELLUMAQ_KEY_BYTES && *slot == 5);
-    CHECK(sellumaq_judysl_prev(map, longest, sizeof longest, &length, &value) == SELLUMAQ_FOUND && length == 0 && value == 0);
-    CHECK(sellumaq_judysl_count(map, zero, 0, longest, SELLUMAQ_KEY_BYTES) == 2 && sellumaq_judysl_count(map, longest, SELLUMAQ_KEY_BYTES, zero, 0) == 0);
-    CHECK(sellumaq_judysl_count(map, zero, 3, longest, SELLUMAQ_KEY_BYTES) == 0 && sellumaq_judysl_count(map, zero, 0, longest, sizeof longest) == 0);
-    CHECK(sellumaq_judysl_by_count(map, 2, longest, sizeof longest, &length, &value) == SELLUMAQ_FOUND && length == SELLUMAQ_KEY_BYTES && value == 5);
+    CHECK(sellumaq_judysl_last(map, key, 3, &length, &value) == SELLUMAQ_BAD_KEY && length == 4 && value == 7);
+    length = sizeof key;
+    CHECK(sellumaq_judysl_first(map, key, sizeof key, &length, &value) == SELLUMAQ_NONE && length == sizeof key && value == 7);
+    CHECK(sellumaq_judysl_last(map, key, sizeof key, &length, &value) == SELLUMAQ_FOUND && length == LONG && value == 5);
+    CHECK(sellumaq_judysl_last_slot(map, key, LONG, &length, &slot) == SELLUMAQ_FOUND && length == LONG && *slot == 5);
+    CHECK(sellumaq_judysl_prev(map, key, sizeof key, &length, &value) == SELLUMAQ_FOUND && length == 0 && value == 0);
+    CHECK(sellumaq_judysl_count(map, zero, 0, key, LONG) == 2 && sellumaq_judysl_count(map, key, LONG, zero, 0) == 0);
+    CHECK(sellumaq_judysl_count(map, zero, 3, key, LONG) == 0 && sellumaq_judysl_count(map, zero, 0, zero, 3) == 0);
+    CHECK(sellumaq_judysl_count(map, zero, 0, key, sizeof key) == 2 && sellumaq_judysl_count(map, key, sizeof key, key, sizeof key) == 0);
+    CHECK(sellumaq_judysl_by_count(map, 2, key, sizeof key, &length, &value) == SELLUMAQ_FOUND && length == LONG && value == 5);
     CHECK(sellumaq_judysl_by_count(map, 1, zero, 0, &length, &value) == SELLUMAQ_FOUND && length == 0 && value == 0);
     CHECK(sellumaq_judysl_free(map) == 2);
 }

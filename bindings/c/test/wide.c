@@ -37,7 +37,7 @@ static void compare(const sellumaq_judysl *map) {
         uint64_t told = sellumaq_judysl_count(map, bytes(at), length(at), bytes(end), length(end));
         CHECK(told == (at <= end ? before[end + 1] - before[at] : 0));
         if (!held[at]) continue;
-        uint8_t key[SELLUMAQ_KEY_BYTES];
+        uint8_t key[LONGEST];
         size_t found;
         uint64_t value;
         CHECK(sellumaq_judysl_by_count(map, before[at] + 1, key, sizeof key, &found, &value) == SELLUMAQ_FOUND);
