@@ -78,7 +78,7 @@ static void strings(void) {
     Pvoid_t map = NULL;
     Word_t count, *slot;
     int found;
-    uint8_t string[16] = "pear", longer[1026];
+    uint8_t string[16] = "pear";
     JSLG(slot, map, string); CHECK(slot == NULL);
     JSLI(slot, map, string); CHECK(*slot == 0); *slot = 1;
     JSLI(slot, map, string); CHECK(*slot == 1);
@@ -93,22 +93,86 @@ static void strings(void) {
     JSLN(slot, map, string); CHECK(slot == NULL);
     strcpy((char *)string, "pears"); JSLL(slot, map, string); CHECK(*slot == 1 && reads(string, "pear"));
     JSLP(slot, map, string); CHECK(*slot == 3 && reads(string, "fig"));
-    memset(longer, 'a', 1025), longer[1025] = 0;
-    CHECK(JudySLIns(&map, longer, PJE0) == PPJERR);
-    JSLG(slot, map, longer); CHECK(slot == NULL);
-    JSLD(found, map, longer); CHECK(found == 0);
-    longer[1024] = 0; JSLI(slot, map, longer); CHECK(*slot == 0); *slot = 5;
-    longer[1024] = 'a'; JSLL(slot, map, longer); CHECK(*slot == 5 && longer[1023] == 'a' && !longer[1024]);
-    longer[1024] = 'a'; JSLP(slot, map, longer); CHECK(*slot == 5 && !longer[1024]);
-    longer[1024] = 'a'; JSLF(slot, map, longer); CHECK(*slot == 3 && reads(longer, "fig"));
-    memset(longer, 'a', 1025), longer[1025] = 0; JSLN(slot, map, longer); CHECK(*slot == 3 && reads(longer, "fig"));
-    memset(longer, 0xff, 1025); JSLL(slot, map, longer); CHECK(*slot == 2 && reads(longer, "pears of autumn"));
-    memset(longer, 'a', 1024), longer[1024] = 0; JSLD(found, map, longer); CHECK(found == 1);
     JSLD(found, map, string); CHECK(found == 1);
     JSLD(found, map, string); CHECK(found == 0);
     JSLFA(count, map); CHECK(count > 0 && map == NULL);
     JSLI(slot, map, string);
     JSLD(found, map, string); CHECK(found == 1 && map == NULL);
+}
+
+/* Strings of any length: of each but the first two keys, which share all but the last byte. */
+enum { LENGTHS = 7 };
+static const size_t string_lengths[LENGTHS] = {0, 5, 1023, 1024, 1025, 3001, 20000};
+
+static uint8_t *string_of(size_t length, char last) {
+    uint8_t *string = malloc(length + 1);
+    memset(string, 'k', length + 1);
+    if (length) string[length - 1] = (uint8_t)last;
+    string[length] = 0;
+    return string;
+}
+
+/* Walks over the keys of the first so many lengths, up and down, in a buffer that the longest of them just fits. The
+ * order is that of the first byte behind the shared ones: `a` of short keys comes before that of long ones. */
+static void walk_long(Pvoid_t map, int count) {
+    uint8_t *string = string_of(string_lengths[count - 1], 'k');
+    Word_t *slot;
+    string[0] = 0;
+    JSLF(slot, map, string); CHECK(*slot == 0 && !string[0]);
+    for (int n = 1; n < 2 * count - 1; n++) {
+        int is_first = n < count, at = is_first ? n : 2 * count - 1 - n;
+        size_t length = string_lengths[at];
+        JSLN(slot, map, string);
+        CHECK(*slot == (Word_t)(2 * at + !is_first) && strlen((char *)string) == length && string[length - 1] == (is_first ? 'a' : 'z'));
+    }
+    JSLN(slot, map, string); CHECK(slot == NULL);
+    for (int n = 2 * count - 2; n > 0; n--) {
+        int at = n < count ? n : 2 * count - 1 - n;
+        if (n == 2 * count - 2) JSLL(slot, map, string)
+        else JSLP(slot, map, string)
+        CHECK(*slot == (Word_t)(2 * at + (n >= count)) && strlen((char *)string) == string_lengths[at]);
+    }
+    JSLP(slot, map, string); CHECK(*slot == 0 && !string[0]);
+    JSLP(slot, map, string); CHECK(slot == NULL && !string[0]);
+    free(string);
+}
+
+static void long_strings(void) {
+    Pvoid_t map = NULL;
+    Word_t *slot, freed;
+    int found;
+    for (int n = 0; n < 2 * LENGTHS; n++) {
+        uint8_t *string = string_of(string_lengths[n / 2], n % 2 ? 'z' : 'a');
+        if (n != 1) {
+            JSLG(slot, map, string); CHECK(slot == NULL);
+            JSLI(slot, map, string); CHECK(*slot == 0); *slot = (Word_t)n;
+            JSLI(slot, map, string); CHECK(*slot == (Word_t)n);
+        }
+        free(string);
+    }
+    for (int count = LENGTHS; count > 1; count--) {
+        walk_long(map, count);
+        for (int end = 0; end < 2; end++) {
+            uint8_t *string = string_of(string_lengths[count - 1], end ? 'z' : 'a');
+            JSLG(slot, map, string); CHECK(*slot == (Word_t)(2 * (count - 1) + end));
+            JSLD(found, map, string); CHECK(found == 1);
+            JSLD(found, map, string); CHECK(found == 0);
+            JSLN(slot, map, string); CHECK(end || *slot == (Word_t)(2 * (count - 1) + 1));
+            free(string);
+        }
+    }
+    JSLFA(freed, map); CHECK(freed > 0 && freed < 64 << 10 && map == NULL);
+    /* a string that is longer than any key, in a map of short ones */
+    uint8_t *string = string_of(5000, 'k');
+    JSLL(slot, map, string); CHECK(slot == NULL);
+    JSLI(slot, map, (const uint8_t *)"fig"); *slot = 3;
+    JSLI(slot, map, (const uint8_t *)"pear"); *slot = 4;
+    JSLL(slot, map, string); CHECK(*slot == 3 && reads(string, "fig"));
+    free(string);
+    string = string_of(5000, 'k');
+    JSLN(slot, map, string); CHECK(*slot == 4 && reads(string, "pear"));
+    free(string);
+    JSLFA(freed, map); CHECK(freed > 0 && map == NULL);
 }
 
 static void byte_strings(void) {
@@ -242,9 +306,7 @@ static void refused(void) {
 static void stop(void) {
     Pvoid_t map = NULL;
     Word_t *slot;
-    static uint8_t longer[1026];
-    memset(longer, 'a', 1025);
-    JSLI(slot, map, longer);
+    JSLI(slot, map, (const uint8_t *)NULL);
     (void)slot;
 }
 
@@ -253,6 +315,7 @@ int main(int argc, char **argv) {
     sets();
     maps();
     strings();
+    long_strings();
     byte_strings();
     long_byte_strings();
     memory();

@@ -1,12 +1,12 @@
-/* Steps through the arrays of all kinds by HP's names, each told in a line: linked against HP's libJudy, it tells the
- * same over Sellumaq's. */
+/* Steps through the arrays of all kinds by HP's names, so many as it is told, each told in a line: linked against HP's
+ * libJudy, it tells the same over Sellumaq's. */
 #include <Judy.h>
 
 #include <string.h>
 
 #include "check.h"
 
-enum { STEPS = 20000 };
+enum { STEPS = 20000, LONGEST = 20000 };
 
 static Pvoid_t set, map, strings, bytes;
 
@@ -17,11 +17,15 @@ static Word_t word(void) {
     return kind < 2 ? low : kind < 4 ? -low : kind < 6 ? low << 40 : low * 0x9E3779B97F4A7C15;
 }
 
-static void letters(uint8_t *string) {
-    Word_t length = any() % 12;
-    for (Word_t at = 0; at < length; at++) string[at] = at < 7 ? 'a' : (uint8_t)('a' + any() % 3);
+/* A string of at most 11 letters, of few that come again; or now and then of many, most of them the same, so that two
+ * part late. */
+static Word_t letters(uint8_t *string) {
+    Word_t is_long = any() % 32 == 0, length = is_long ? 1000 + any() % 20 * 1000 - any() % 10 : any() % 12;
+    Word_t shared = is_long ? length - any() % 20 : 7;
+    for (Word_t at = 0; at < length; at++) string[at] = at < shared ? 'a' : (uint8_t)('a' + any() % 3);
     string[length] = 0;
     if (length) string[length - 1] = (uint8_t)('a' + any() % 5);
+    return length;
 }
 
 /* Of a search that finds nothing too its word is told: programs go on from there. */
@@ -53,12 +57,17 @@ static void step_words(Word_t value) {
     }
 }
 
+/* A string that a search has found, or from which it found none: by its length and a sum of its letters. */
+static void tell_string(const uint8_t *string, const Word_t *slot) {
+    Word_t sum = 0, length = strlen((const char *)string);
+    for (Word_t at = 0; at < length; at++) sum = sum * 31 + string[at];
+    printf("%.12s %lu %lu %lu\n", (const char *)string, length, sum, slot ? *slot : 0);
+}
+
 static void step_strings(Word_t value) {
-    uint8_t string[16];
-    Word_t *slot = NULL, length;
+    static uint8_t string[LONGEST + 1];
+    Word_t *slot = NULL, length = letters(string);
     int found;
-    letters(string);
-    length = strlen((char *)string);
     switch (any() % 11) {
     case 0: case 1: JSLI(slot, strings, string); tell_slot("JSLI", slot, 0); *slot = value; return;
     case 2: JSLD(found, strings, string); tell("JSLD", found, 0); return;
@@ -71,14 +80,15 @@ static void step_strings(Word_t value) {
     case 9: JHSD(found, bytes, string, length); tell("JHSD", found, 0); return;
     default: JHSG(slot, bytes, string, length); tell_slot("JHSG", slot, 0); return;
     }
-    tell_slot((char *)string, slot, 0);
+    tell_string(string, slot);
 }
 
 /* Takes out all keys but those of the byte strings, which can't be walked: each array is null then. */
 static void empty(void) {
     Word_t key = 0, *slot, count = 0;
-    uint8_t string[16] = "";
+    static uint8_t string[LONGEST + 1];
     int found;
+    string[0] = 0;
     J1F(found, set, key);
     while (found) { count++; J1U(found, set, key); J1N(found, set, key); }
     key = 0;
@@ -90,9 +100,10 @@ static void empty(void) {
     printf("emptied %lu: %d %d %d %d\n", count, set == NULL, map == NULL, strings == NULL, bytes == NULL);
 }
 
-int main(void) {
+int main(int count, char **words) {
+    Word_t steps = count > 1 ? (Word_t)atol(words[1]) : STEPS;
     for (int turn = 0; turn < 3; turn++) {
-        for (Word_t at = 0; at < STEPS; at++) {
+        for (Word_t at = 0; at < steps; at++) {
             step_words(at);
             step_strings(at);
         }
