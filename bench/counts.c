@@ -167,7 +167,7 @@ static word judysl_value(sellumaq_judysl *map, const text *key) {
 
 static word judysl_nth(sellumaq_judysl *map, word n) {
     word value;
-    return sellumaq_judysl_by_count(map, n, at.bytes, SELLUMAQ_KEY_BYTES, &at.length, &value) == SELLUMAQ_FOUND ? at.bytes[0] : 0;
+    return sellumaq_judysl_by_count(map, n, at.bytes, sizeof at.bytes, &at.length, &value) == SELLUMAQ_FOUND ? at.bytes[0] : 0;
 }
 
 MEASURE(counts_sellumaq, sellumaq_judysl, {0}, sellumaq_judysl_free(&a), judysl_put(&a, k), judysl_value(&a, k),

@@ -10,12 +10,12 @@
 #include "sellumaq.h"
 #include "texts.h"
 
-/* How many keys are walked over by one call. */
-enum { PAGE = 64 };
+/* How many keys are walked over by one call, and more bytes than each has. */
+enum { PAGE = 64, ROOM = 1024 };
 
 /* What a walk has seen: the first byte of each key, and each value. */
 static word walk_by_page(const sellumaq_judysl *map) {
-    static uint8_t bytes[PAGE * SELLUMAQ_KEY_BYTES], from[SELLUMAQ_KEY_BYTES];
+    static uint8_t bytes[PAGE * ROOM], from[ROOM];
     sellumaq_entry entries[PAGE];
     word sum = 0;
     size_t length = 0, told = sellumaq_judysl_walk(map, from, 0, true, bytes, sizeof bytes, entries, PAGE);
@@ -33,7 +33,7 @@ static word walk_by_page(const sellumaq_judysl *map) {
 }
 
 static word walk_by_key(const sellumaq_judysl *map) {
-    uint8_t key[SELLUMAQ_KEY_BYTES];
+    uint8_t key[ROOM];
     size_t length = 0;
     word value, sum = 0;
     uint32_t told = sellumaq_judysl_first(map, key, sizeof key, &length, &value);
@@ -45,7 +45,7 @@ static word walk_by_key(const sellumaq_judysl *map) {
 }
 
 static word walk_libjudy(Pcvoid_t map) {
-    uint8_t key[SELLUMAQ_KEY_BYTES + 1] = {0};
+    uint8_t key[ROOM + 1] = {0};
     word sum = 0;
     for (word *slot = (word *)JudySLFirst(map, key, PJE0); slot; slot = (word *)JudySLNext(map, key, PJE0)) sum += key[0] + *slot;
     return sum;

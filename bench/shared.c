@@ -88,7 +88,7 @@ static word count_between(const sellumaq_judysl *map, const text *one, const tex
 }
 
 static word nth(const sellumaq_judysl *map, word n) {
-    uint8_t key[SELLUMAQ_KEY_BYTES];
+    uint8_t key[sizeof(text)];
     size_t length = 0;
     word value;
     return sellumaq_judysl_by_count(map, n, key, sizeof key, &length, &value) == SELLUMAQ_FOUND ? key[0] : 0;

@@ -104,7 +104,7 @@ static word judysl_value(sellumaq_judysl *map, const text *key) {
 
 static bool judysl_go_on(sellumaq_judysl *map) {
     word value;
-    return sellumaq_judysl_next(map, at.bytes, SELLUMAQ_KEY_BYTES, &at.length, &value) == SELLUMAQ_FOUND;
+    return sellumaq_judysl_next(map, at.bytes, sizeof at.bytes, &at.length, &value) == SELLUMAQ_FOUND;
 }
 
 static void judyhs_put(sellumaq_judyhs *map, const text *key) {

@@ -3,7 +3,7 @@
 
 int main(int count, char **words) {
     Pvoid_t times = NULL;
-    uint8_t key[1025] = "b";
+    uint8_t key[1 << 17] = "b"; /* no word of a command line is longer */
     PWord_t value;
     Word_t bytes;
     for (int n = 1; n < count; n++) {
