@@ -144,7 +144,7 @@ fn byte_strings_that_are_chosen() {
 fn strings() -> [BTreeMap<Vec<u8>, u64>; 3] {
     let long = |n: u64| {
         [
-            vec![b'x'; mixed(n) as usize % 1000 + 1],
+            vec![b'x'; mixed(n) as usize % 6000 + 1],
             n.to_string().into_bytes(),
         ]
         .concat()
@@ -154,7 +154,7 @@ fn strings() -> [BTreeMap<Vec<u8>, u64>; 3] {
             .map(|n| (mixed(n).to_string().into_bytes(), n))
             .collect(),
         (0..700).map(|n| (long(n), n)).collect(),
-        [(vec![255; 1024], 1), (Vec::new(), 2)].into(),
+        [(vec![255; 1025], 1), (Vec::new(), 2)].into(),
     ]
 }
 
