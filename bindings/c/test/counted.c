@@ -1,6 +1,9 @@
 /* A program that defines the functions by which libJudy takes memory, as programs do to count it. */
 #include <Judy.h>
 
+#include <stdbool.h>
+#include <string.h>
+
 #include "check.h"
 
 static Word_t held, calls;
@@ -18,22 +21,45 @@ void JudyFree(Pvoid_t block, Word_t words) {
     free(block);
 }
 
+/* A string of a number, one of 16 a long one. */
+enum { LONG = 3000 };
+
+static void spell(Word_t key, char string[LONG + 1]) {
+    int length = sprintf(string, "%lu and more letters", key * key);
+    if (key % 16 != 15) return;
+    memset(string + length, 'l', (size_t)(LONG - length));
+    string[LONG] = 0;
+}
+
+/* Whether an array has the strings of so many numbers, but for those that were refused. */
+static void compare(Pcvoid_t strings, Word_t keys, const bool *held) {
+    char string[LONG + 1];
+    for (Word_t key = 0; key < keys; key++) {
+        spell(key, string);
+        PPvoid_t slot = JudySLGet(strings, (uint8_t *)string, PJE0);
+        CHECK((slot != NULL) == held[key] && (!slot || *(PWord_t)slot == key));
+    }
+}
+
 /* An insert that is refused memory leaves an array as it was, and null where it was null. */
 static void refused(void) {
     for (Word_t n = 0; n < 400; n += 7) {
         Pvoid_t set = NULL, map = NULL, strings = NULL, bytes = NULL;
         JError_t error;
         Word_t count = 0, key;
-        char string[32];
+        char string[LONG + 1];
+        bool held_strings[200];
         answered = n;
         for (key = 0; key < 200; key++) {
             Pvoid_t before = map;
             PPvoid_t slot = JudyLIns(&map, key << (key % 60), &error);
             if (slot == PPJERR) CHECK(JU_ERRNO(&error) == JU_ERRNO_NOMEM && map == before);
-            sprintf(string, "%lu and more letters", key * key);
+            spell(key, string);
             before = strings;
             slot = JudySLIns(&strings, (uint8_t *)string, &error);
+            held_strings[key] = slot != PPJERR;
             if (slot == PPJERR) CHECK(JU_ERRNO(&error) == JU_ERRNO_NOMEM && strings == before);
+            else *(PWord_t)slot = key;
             before = bytes;
             slot = JudyHSIns(&bytes, string, 18, &error);
             if (slot == PPJERR) CHECK(JU_ERRNO(&error) == JU_ERRNO_NOMEM && bytes == before);
@@ -44,6 +70,7 @@ static void refused(void) {
             CHECK(Judy1Count(set, 0, -1, PJE0) == count);
         }
         answered = -1;
+        compare(strings, key, held_strings);
         CHECK(Judy1FreeArray(&set, PJE0) && JudyLFreeArray(&map, PJE0) && JudySLFreeArray(&strings, PJE0) && JudyHSFreeArray(&bytes, PJE0));
         CHECK(held == 0);
     }
