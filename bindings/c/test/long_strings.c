@@ -217,9 +217,13 @@ static void change(sellumaq_judysl *map) {
     for (int at = 0; at < KEYS; at += 3) compare_searches(map, at);
 }
 
-/* What is made of a list of all keys, or of a copy and another map; and what goes of it. */
-static void make(void) {
-    sellumaq_judysl all = {0}, some = {0}, made = {0};
+/* Says which keys a map has from now on: those from one place to another. */
+static void hold(int from, int end) {
+    for (int at = 0; at < KEYS; at++) rows[at].held = from <= at && at < end;
+}
+
+/* The map of a list of all keys. */
+static void make_all(sellumaq_judysl *all) {
     size_t room = 0, used = 0, place = 77;
     sellumaq_entry entries[KEYS];
     for (int at = 0; at < KEYS; at++) room += rows[at].length;
@@ -227,35 +231,51 @@ static void make(void) {
     for (int at = 0; at < KEYS; used += rows[at++].length) {
         memcpy(bytes + used, rows[at].bytes, rows[at].length);
         entries[at] = (sellumaq_entry){rows[at].length, rows[at].value};
-        rows[at].held = true;
     }
-    CHECK(sellumaq_judysl_from_sorted(&all, bytes, room, entries, KEYS, &place) == SELLUMAQ_ADDED && place == 77);
-    compare(&all);
-    CHECK(sellumaq_judysl_longest(&all) == LONGEST && sellumaq_judysl_copy(&some, &all) == SELLUMAQ_ADDED);
+    CHECK(sellumaq_judysl_from_sorted(all, bytes, room, entries, KEYS, &place) == SELLUMAQ_ADDED && place == 77);
     bytes[room - 1] = 0;
-    CHECK(sellumaq_judysl_from_sorted(&all, bytes, room, entries, KEYS, &place) == SELLUMAQ_BAD_KEY && place == KEYS - 1);
+    CHECK(sellumaq_judysl_from_sorted(all, bytes, room, entries, KEYS, &place) == SELLUMAQ_BAD_KEY && place == KEYS - 1);
     free(bytes);
+    hold(0, KEYS);
+    compare(all);
+    CHECK(sellumaq_judysl_longest(all) == LONGEST);
+}
+
+/* What is told of two maps, of which one has the keys that are held and the other all, and what is made of them. */
+static void combine(const sellumaq_judysl *all, const sellumaq_judysl *some) {
+    sellumaq_judysl made = {0};
+    uint64_t count = held_count(0, KEYS);
+    CHECK(sellumaq_judysl_intersection_count(all, some) == count && sellumaq_judysl_union_count(all, some) == KEYS);
+    CHECK(sellumaq_judysl_difference_count(all, some) == KEYS - count && sellumaq_judysl_symmetric_difference_count(all, some) == KEYS - count);
+    CHECK(sellumaq_judysl_is_subset(some, all) && !sellumaq_judysl_is_subset(all, some) && !sellumaq_judysl_has_same_keys(all, some));
+    CHECK(sellumaq_judysl_intersection(&made, all, some) == SELLUMAQ_ADDED && sellumaq_judysl_has_same_keys(&made, some));
+    compare(&made);
+    for (int at = 0; at < KEYS; at++) rows[at].held = !rows[at].held;
+    CHECK(sellumaq_judysl_difference(&made, all, some) == SELLUMAQ_ADDED && sellumaq_judysl_is_disjoint(&made, some));
+    compare(&made);
+    CHECK(sellumaq_judysl_symmetric_difference(&made, all, some) == SELLUMAQ_ADDED);
+    compare(&made);
+    hold(0, KEYS);
+    CHECK(sellumaq_judysl_union(&made, some, all) == SELLUMAQ_ADDED);
+    compare(&made);
+    sellumaq_judysl_shrink(&made);
+    compare(&made);
+    CHECK(sellumaq_judysl_free(&made) == KEYS);
+}
+
+/* A copy, from which the keys from the fourth to the ninth go, and what begins with 1,024 bytes of 0xFF. */
+static void make(void) {
+    sellumaq_judysl all = {0}, some = {0};
+    make_all(&all);
+    CHECK(sellumaq_judysl_copy(&some, &all) == SELLUMAQ_ADDED);
     compare(&some);
-    /* the keys from the fourth to the ninth, and what begins with 1,024 bytes of 0xFF */
+    CHECK(sellumaq_judysl_remove_range(&some, rows[8].bytes, rows[8].length, rows[3].bytes, rows[3].length) == 0);
     CHECK(sellumaq_judysl_remove_range(&some, rows[3].bytes, rows[3].length, rows[8].bytes, rows[8].length) == 6);
     CHECK(sellumaq_judysl_remove_prefix(&some, rows[KEYS - 1].bytes, 1024) == 4);
     for (int at = 0; at < KEYS; at++) rows[at].held = (at < 3 || at > 8) && at < KEYS - 4;
     compare(&some);
-    CHECK(sellumaq_judysl_intersection_count(&all, &some) == KEYS - 10 && sellumaq_judysl_union_count(&all, &some) == KEYS);
-    CHECK(sellumaq_judysl_is_subset(&some, &all) && !sellumaq_judysl_is_subset(&all, &some) && !sellumaq_judysl_has_same_keys(&all, &some));
-    CHECK(sellumaq_judysl_intersection(&made, &all, &some) == SELLUMAQ_ADDED);
-    compare(&made);
-    for (int at = 0; at < KEYS; at++) rows[at].held = !rows[at].held;
-    CHECK(sellumaq_judysl_difference(&made, &all, &some) == SELLUMAQ_ADDED && sellumaq_judysl_is_disjoint(&made, &some));
-    compare(&made);
-    CHECK(sellumaq_judysl_symmetric_difference(&made, &all, &some) == SELLUMAQ_ADDED);
-    compare(&made);
-    for (int at = 0; at < KEYS; at++) rows[at].held = true;
-    CHECK(sellumaq_judysl_union(&made, &some, &all) == SELLUMAQ_ADDED);
-    compare(&made);
-    sellumaq_judysl_shrink(&made);
-    compare(&made);
-    CHECK(sellumaq_judysl_free(&all) == KEYS && sellumaq_judysl_free(&some) == KEYS - 10 && sellumaq_judysl_free(&made) == KEYS);
+    combine(&all, &some);
+    CHECK(sellumaq_judysl_free(&all) == KEYS && sellumaq_judysl_free(&some) == KEYS - 10);
 }
 
 /* Lengths that no object has, and what the empty map says. */
