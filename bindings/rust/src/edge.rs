@@ -142,20 +142,12 @@ impl Edge {
         told: &mut T,
     ) -> Option<Vec<u8>> {
         let search = if self.included { from } else { past };
-        if let Some(string) = self.string() {
+        match self.string() {
             // SAFETY: as the caller says.
-            return unsafe { search.find(handle, string, told) };
-        }
-        // SAFETY: as the caller says.
-        let longest = unsafe { sys::sellumaq_judysl_longest(&handle) };
-        if longest <= SHORT {
+            Some(string) => unsafe { search.find(handle, string, told) },
             // SAFETY: as the caller says.
-            return unsafe { from.find(handle, &GREATEST[..longest], told) };
+            None => unsafe { find_greatest(handle, from, told) },
         }
-        // SAFETY: as the caller says.
-        let (greatest, _) = unsafe { nth(handle, sys::sellumaq_judysl_len(&handle)) }?;
-        // SAFETY: as the caller says.
-        unsafe { from.find(handle, &greatest, told) }
     }
 
     /// Whether a key lies above this edge, or is it.
@@ -169,6 +161,27 @@ impl Edge {
         self.string()
             .map_or(true, |end| key < end || self.included && key == end)
     }
+}
+
+// The greatest key, by a search down. It begins at a string above all keys, which has as many bytes as the longest key;
+// where these are many it begins at the key itself, that at the last place.
+//
+// SAFETY: as of `Edge::find`.
+unsafe fn find_greatest<T>(
+    handle: sys::sellumaq_judysl,
+    down: &Search<T>,
+    told: &mut T,
+) -> Option<Vec<u8>> {
+    // SAFETY: as the caller says.
+    let longest = unsafe { sys::sellumaq_judysl_longest(&handle) };
+    if longest <= SHORT {
+        // SAFETY: as the caller says.
+        return unsafe { down.find(handle, &GREATEST[..longest], told) };
+    }
+    // SAFETY: as the caller says.
+    let (greatest, _) = unsafe { nth(handle, sys::sellumaq_judysl_len(&handle)) }?;
+    // SAFETY: as the caller says.
+    unsafe { down.find(handle, &greatest, told) }
 }
 
 // The longest beginning of a string that can be a key, and whether it is the whole string. Where it isn't, the string
