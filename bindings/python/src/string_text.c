@@ -3,8 +3,8 @@
 
 #include "strings.h"
 
-/* How many keys of a map in order are told at a time, and how many bytes these have. */
-enum { PAGE = 256, ROOM = 16 * SELLUMAQ_KEY_BYTES };
+/* How many keys of a map in order are told at a time, and how many bytes these have; a dump says no longer ones. */
+enum { PAGE = 256, ROOM = 16 * SELLUMAQ_SAVED_KEY_BYTES };
 
 /* Whether bytes are a str in UTF-8, in which surrogates stand as other characters do. */
 static bool is_text(const uint8_t *bytes, size_t length)
@@ -41,7 +41,7 @@ static bool are_text(const uint8_t *bytes, const sellumaq_entry *entries, size_t
 
 bool map_has_text(const sellumaq_judysl *map)
 {
-    uint8_t bytes[ROOM], last[SELLUMAQ_KEY_BYTES] = {0};
+    uint8_t bytes[ROOM], last[SELLUMAQ_SAVED_KEY_BYTES] = {0};
     sellumaq_entry entries[PAGE];
     size_t length = 0, count = sellumaq_judysl_walk(map, last, 0, true, bytes, ROOM, entries, PAGE);
     while (count > 0) {

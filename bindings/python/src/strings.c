@@ -114,7 +114,7 @@ static int find_value(Strings *self, PyObject *object, uint64_t *value, bool tak
 
 void raise_bad_key(PyObject *object)
 {
-    PyErr_Format(PyExc_ValueError, "more than %d bytes, or with a zero byte: %R", SELLUMAQ_KEY_BYTES, object);
+    PyErr_Format(PyExc_ValueError, "a zero byte in a key: %R", object);
 }
 
 bool is_put(uint32_t told)
@@ -294,6 +294,13 @@ static PyObject *strings_pop(PyObject *self, PyObject *const *arguments, Py_ssiz
     return NULL;
 }
 
+static bool are_bytes(PyObject *object)
+{
+    if (!PyBytes_Check(object))
+        PyErr_Format(PyExc_TypeError, "not bytes: %R", object);
+    return PyBytes_Check(object);
+}
+
 /* _cursor(part, low, high, reverse): a bound is bytes or None, and included. */
 static PyObject *cursor(PyObject *self, PyTypeObject *defining, PyObject *const *arguments, Py_ssize_t count, PyObject *keywords)
 {
@@ -307,10 +314,8 @@ static PyObject *cursor(PyObject *self, PyTypeObject *defining, PyObject *const 
     PyObject *bounds[2];
     for (int n = 0; n < 2; n++) {
         bounds[n] = arguments[n + 1] == Py_None ? NULL : arguments[n + 1];
-        if (bounds[n] && !PyBytes_Check(bounds[n])) {
-            PyErr_Format(PyExc_TypeError, "not bytes: %R", bounds[n]);
+        if (bounds[n] && !are_bytes(bounds[n]))
             return NULL;
-        }
     }
     int reverse = PyObject_IsTrue(arguments[3]);
     if (reverse < 0)
@@ -321,6 +326,14 @@ static PyObject *cursor(PyObject *self, PyTypeObject *defining, PyObject *const 
     }
     Module *state = state_of(defining);
     return !state ? NULL : new_string_cursor(state->string_cursor, (Strings *)self, (enum part)part, bounds[0], bounds[1], reverse);
+}
+
+static PyObject *with_prefix(PyObject *self, PyTypeObject *defining, PyObject *const *arguments, Py_ssize_t count, PyObject *keywords)
+{
+    if (count != 1 || keywords)
+        return PyErr_Format(PyExc_TypeError, "_with_prefix takes a prefix");
+    Module *state = are_bytes(arguments[0]) ? state_of(defining) : NULL;
+    return !state ? NULL : new_prefix_cursor(state->string_cursor, (Strings *)self, arguments[0]);
 }
 
 /* How many keys there are below a string, or up to it. */
@@ -354,9 +367,11 @@ static bool read_own_bytes(PyObject *object, const uint8_t **bytes, size_t *leng
     return true;
 }
 
-/* Notes how many keys went. */
+/* Notes how many keys went; MemoryError where memory was wanted for that, and none did. */
 static PyObject *tell_gone(Strings *self, uint64_t gone)
 {
+    if (gone == UINT64_MAX)
+        return PyErr_NoMemory();
     if (gone > 0)
         note_change(self, true);
     return make_word(gone);
@@ -394,21 +409,33 @@ static PyObject *remove_prefix(PyObject *object, PyObject *prefix)
     return read_own_bytes(prefix, &bytes, &length) ? tell_gone(self, sellumaq_judysl_remove_prefix(&self->handle.strings, bytes, length)) : NULL;
 }
 
+/* Finds the n-th key, counted from 1, and its value, as the library does; SELLUMAQ_TOO_SMALL with an error set where
+ * there is no memory for it. */
+static uint32_t find_nth(const Strings *self, uint64_t n, Found *key, uint64_t *value)
+{
+    uint32_t told;
+    do
+        told = sellumaq_judysl_by_count(&self->handle.strings, n, key->bytes, key->room, &key->length, value);
+    while (told == SELLUMAQ_TOO_SMALL && widen_found(key, *value));
+    return told;
+}
+
 /* The key at a place, which counts from the end where it is negative, or the pair; IndexError where there is none. */
 static PyObject *part_at(PyObject *object, PyObject *place, enum part part)
 {
     Strings *self = (Strings *)object;
     Py_ssize_t at = PyNumber_AsSsize_t(place, PyExc_IndexError);
-    uint8_t key[SELLUMAQ_KEY_BYTES];
-    size_t length = 0;
-    uint64_t value;
     if (at == -1 && PyErr_Occurred())
         return NULL;
     if (at < 0)
         at += strings_len(object);
-    if (at >= 0 && sellumaq_judysl_by_count(&self->handle.strings, (uint64_t)at + 1, key, sizeof key, &length, &value) == SELLUMAQ_FOUND)
-        return make_part(part, make_key(self, key, length), value);
-    return raise_no_place(place);
+    Found key;
+    uint64_t value;
+    begin_found(&key);
+    uint32_t told = at >= 0 ? find_nth(self, (uint64_t)at + 1, &key, &value) : SELLUMAQ_NONE;
+    PyObject *found = told == SELLUMAQ_FOUND ? make_part(part, make_key(self, key.bytes, key.length), value) : NULL;
+    forget_found(&key);
+    return told == SELLUMAQ_NONE ? raise_no_place(place) : found;
 }
 
 static PyObject *key_at(PyObject *self, PyObject *place) { return part_at(self, place, KEYS); }
@@ -477,6 +504,8 @@ static PyMethodDef map_methods[] = {
     {"_key_at", key_at, METH_O, "The key at a place."},
     {"_item_at", item_at, METH_O, "The pair at a place."},
     {"_cursor", (PyCFunction)(void (*)(void))cursor, METH_METHOD | METH_FASTCALL | METH_KEYWORDS, "A walk between two strings."},
+    {"_with_prefix", (PyCFunction)(void (*)(void))with_prefix, METH_METHOD | METH_FASTCALL | METH_KEYWORDS,
+     "A walk through the keys that begin with a string."},
     {NULL, NULL, 0, NULL},
 };
 static PyMethodDef hash_methods[] = {

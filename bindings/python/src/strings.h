@@ -34,14 +34,35 @@ typedef struct {
     size_t begin; /* whose keys have so many bytes */
 } Strings;
 
+/* So many bytes of a key have room in place; for more memory is asked for. */
+enum { SHORT_KEY = 1024 };
+
 /* A key's bytes. Those of a bytes-like object are a copy, since what it lends may change below the call: in place where
  * they are few. */
 typedef struct {
     PyObject *owner; /* what keeps `bytes`, or NULL */
     const uint8_t *bytes;
     size_t length;
-    uint8_t copy[SELLUMAQ_KEY_BYTES];
+    uint8_t copy[SHORT_KEY];
 } Key;
+
+/* Room that a search writes a key to, which grows for a key that doesn't fit. */
+typedef struct {
+    uint8_t *bytes; /* `few`, or memory of its own */
+    size_t room;    /* for so many bytes, */
+    size_t length;  /* of which the key has so many */
+    uint8_t few[SHORT_KEY];
+} Found;
+
+/* Begins with the room in place. */
+void begin_found(Found *found);
+
+/* Room for so many bytes; those that are there stay. False with an error set where there is no memory, and nothing
+ * changed. */
+bool widen_found(Found *found, size_t bytes);
+
+/* Gives the memory back. */
+void forget_found(Found *found);
 
 /* The bytes of a key that is to be stored: false with an error set where the object is of no such kind. */
 bool read_string(const Strings *self, PyObject *object, Key *key);
@@ -62,7 +83,7 @@ bool is_put(uint32_t told);
 bool puts_itself(const Strings *map);
 
 /* How many bytes the longest beginning of a string has that can be a key in order. Where that isn't all of it no key
- * lies between the two: the string goes on with a zero, or has more bytes than a key. */
+ * lies between the two: the string goes on with a zero. */
 size_t could_be_key(const uint8_t *bytes, size_t length);
 
 /* A key as Python has it. */
@@ -99,7 +120,11 @@ PyObject *strings_copy(PyObject *object, PyTypeObject *maps, PyObject *const *ar
 PyObject *strings_join(PyObject *object, PyTypeObject *maps, PyObject *const *arguments, Py_ssize_t count,
                        PyObject *keywords);
 
-/* A cursor over the keys of a map in order. A bound is bytes, or NULL where there is none. */
+/* A cursor over the keys of a map in order, from one bound to another, both included. A bound is bytes, or NULL where
+ * there is none. */
 PyObject *new_string_cursor(PyTypeObject *type, Strings *map, enum part part, PyObject *low, PyObject *high, bool reverse);
+
+/* The same over those that begin with a prefix, which is bytes. */
+PyObject *new_prefix_cursor(PyTypeObject *type, Strings *map, PyObject *prefix);
 
 #endif
