@@ -21,10 +21,10 @@ from typing_extensions import Self
 
 BINDING: Final[str]
 MAX: Final[int]
-MAX_KEY: Final[int]
+MAX_SAVED_KEY: Final[int]
 __version__: Final[str]
 
-__all__ = ["BINDING", "MAX", "MAX_KEY", "Judy1", "JudyHS", "JudyHSBytes", "JudyL", "JudySL", "JudySLBytes"]
+__all__ = ["BINDING", "MAX", "MAX_SAVED_KEY", "Judy1", "JudyHS", "JudyHSBytes", "JudyL", "JudySL", "JudySLBytes"]
 
 _T = TypeVar("_T")
 # A key as it comes, and what is taken for one.

@@ -27,7 +27,8 @@ else:
 __all__ = ["BINDING", "BytesHash", "BytesMap", "TextHash", "TextMap", "WordMap", "WordSet"]
 
 MAX = 2**64 - 1
-MAX_KEY = 1024
+# The most bytes of a key that a dump can say.
+MAX_SAVED_KEY = 1024
 
 # Whose keys an operation on two sets keeps: the first set's alone, those of both, the second's alone.
 FIRST, BOTH, SECOND = 1, 2, 4

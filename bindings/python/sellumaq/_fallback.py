@@ -16,7 +16,6 @@ if not getattr(sys, "_is_gil_enabled", lambda: True)():
     raise ImportError("sellumaq's ctypes binding needs the GIL")
 
 MAX = 2**64 - 1
-MAX_KEY = 1024
 KEYS, VALUES, ITEMS = range(3)
 FIRST, BOTH, SECOND = 1, 2, 4
 
@@ -181,7 +180,7 @@ def _checked(number):
 
 
 def _bad_key(key):
-    return ValueError(f"more than {MAX_KEY} bytes, or with a zero byte: {key!r}")
+    return ValueError(f"a zero byte in a key: {key!r}")
 
 
 def _ascending(pairs):
@@ -701,13 +700,14 @@ class _Bytes:
 
 def _could_be_key(string):
     """The longest beginning of bytes that can be a key of a JudySL, and whether it is all of them. Where it isn't, no
-    key lies between the two: the bytes go on with a zero, or are more than a key has."""
-    key = string[:MAX_KEY].partition(b"\0")[0]
+    key lies between the two: the bytes go on with a zero."""
+    key = string.partition(b"\0")[0]
     return key, len(key) == len(string)
 
 
-# How many pairs a walk through strings takes at most, and how many bytes their keys have then.
-_PAIRS, _ROOM = 256, 16 * MAX_KEY
+# How many bytes a key has room for at first, how many pairs a walk through strings takes at most, and how many bytes
+# their keys have then, but for longer ones.
+_SHORT, _PAIRS, _ROOM = 1024, 256, 16 * 1024
 
 
 def _entries_of(words, count):
@@ -719,6 +719,7 @@ def _entries_of(words, count):
 class _OrderedStrings(_Strings):
     _kind = _string_calls("judysl", "first", "next", "last", "prev") | {
         "count": _call("judysl_count", _word, *_key, *_key),
+        "longest": _call("judysl_longest", ctypes.c_size_t),
         "by_count": _call("judysl_by_count", ctypes.c_uint32, _word, *_buffer),
         "from_strings": _call("judysl_from_sorted", ctypes.c_uint32, *_key, *_sorted),
         "walk": _call("judysl_walk", ctypes.c_size_t, *_key, ctypes.c_bool, *_key, _slot, ctypes.c_size_t),
@@ -751,9 +752,16 @@ class _OrderedStrings(_Strings):
         if other is not self:
             self._become_of("union", other, self)
 
+    def _gone(self, call, *words):
+        """How many keys a call takes out."""
+        count = self._change(call, *words)
+        if count == MAX:
+            raise MemoryError
+        return count
+
     def _remove_range(self, low, high):
         """Takes the keys from one string to another out, and answers how many they were."""
-        return self._change("remove_range", low, len(low), high, len(high))
+        return self._gone("remove_range", low, len(low), high, len(high))
 
     def _longest_prefix(self, string):
         """How many bytes the longest key has that begins a string, or None."""
@@ -762,7 +770,7 @@ class _OrderedStrings(_Strings):
 
     def _remove_prefix(self, prefix):
         """Takes the keys out that begin with a string, and answers how many they were."""
-        return self._change("remove_prefix", prefix, len(prefix))
+        return self._gone("remove_prefix", prefix, len(prefix))
 
     def bisect_left(self, string):
         """How many keys there are below a string."""
@@ -779,23 +787,41 @@ class _OrderedStrings(_Strings):
     def _item_at(self, place):
         at = whole(place)
         at += len(self) if at < 0 else 0
-        key, length, value = ctypes.create_string_buffer(MAX_KEY), ctypes.c_size_t(), _word()
-        if 0 <= at < MAX and self._calls["by_count"](self._handle, at + 1, key, MAX_KEY, length, value) == _FOUND:
-            return self._object(ctypes.string_at(key, length.value)), value.value
-        raise IndexError(f"no key at place {place!r}")
+        found = self._search("by_count", b"", at + 1) if 0 <= at < MAX else None
+        if found is None:
+            raise IndexError(f"no key at place {place!r}")
+        return self._object(found[0]), found[1]
+
+    def _search(self, call, key, *words):
+        """The bytes and the value of the key that a call finds beside another one, or None. Where it has no room the
+        value tells how many bytes it has."""
+        room = max(len(key), _SHORT)
+        while True:
+            text, length, value = ctypes.create_string_buffer(key, room), ctypes.c_size_t(len(key)), _word()
+            told = self._calls[call](self._handle, *words, text, room, length, value)
+            if told != _TOO_SMALL:
+                return (ctypes.string_at(text, length.value), value.value) if told == _FOUND else None
+            room = value.value
 
     def _cursor(self, part, low, high, reverse):
         return self._down(part, low, high) if reverse else self._up(part, low, high)
 
+    def _with_prefix(self, prefix):
+        """A walk through the keys that begin with a string."""
+        for key in self._up(KEYS, prefix, None):
+            if not self._bytes(key).startswith(prefix):
+                return
+            yield key
+
     def _down(self, part, low, high):
         """A walk from a bound down. Each step is a search beside the key given last."""
-        start, scan = b"\xff" * MAX_KEY if high is None else _could_be_key(high)[0], "last"
-        key, length, value = ctypes.create_string_buffer(start, MAX_KEY), ctypes.c_size_t(len(start)), _word()
-        while self._calls[scan](self._handle, key, MAX_KEY, length, value) == _FOUND:
-            found, scan = ctypes.string_at(key, length.value), "prev"
-            if low is not None and found < low:
-                return
-            yield value.value if part == VALUES else self._object(found) if part == KEYS else (self._object(found), value.value)
+        # No key is above as many bytes of 0xff as the longest one has.
+        key = b"\xff" * self._calls["longest"](self._handle) if high is None else _could_be_key(high)[0]
+        told = self._search("last", key)
+        while told and (low is None or told[0] >= low):
+            key, value = told
+            yield value if part == VALUES else self._object(key) if part == KEYS else (self._object(key), value)
+            told = self._search("prev", key)
 
     def _up(self, part, low, high):
         """A walk from a bound up. A call tells many pairs, and the next ones anew where the map has changed."""
@@ -826,12 +852,16 @@ class _OrderedStrings(_Strings):
         return keys if part == KEYS else zip(keys, values)
 
     def _page(self, key, itself, most):
-        """The first pairs from a key on, or behind it: the keys' bytes, where each ends, and the values."""
-        room = min(most * MAX_KEY, _ROOM)
+        """The first pairs from a key on, or behind it: the keys' bytes, where each ends, and the values. A key that is
+        too long for a page is alone."""
+        room = min(most * _SHORT, _ROOM)
         text, entries = ctypes.create_string_buffer(room), (_word * (2 * most))()
         count = self._calls["walk"](self._handle, key, len(key), itself, text, room, entries, most)
-        ends, values = _entries_of(entries, count)
-        return ctypes.string_at(text, ends[-1] if ends else 0), ends, values
+        if count:
+            ends, values = _entries_of(entries, count)
+            return ctypes.string_at(text, ends[-1]), ends, values
+        found = self._search("first" if itself else "next", key)
+        return (found[0], [len(found[0])], [found[1]]) if found else (b"", [], [])
 
 
 class BytesMap(_Bytes, _OrderedStrings):

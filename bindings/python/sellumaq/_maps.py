@@ -21,8 +21,8 @@ def from_dump(kind: type, dump: bytes) -> Any:
 
 
 def reduced(array: Any, items: Callable[[Any], Any]) -> Any:
-    """What a pickle has of an array: its dump; or, where none can say it, as of byte strings of more than 1,024 bytes,
-    its items."""
+    """What a pickle has of an array: its dump; or, where none can say it, as of keys of more than 1,024 bytes, its
+    items."""
     attributes = getattr(array, "__dict__", None) or None
     try:
         return from_dump, (type(array), array.tobytes()), attributes

@@ -7,7 +7,7 @@ from operator import index as whole
 from typing import Any
 
 from . import _core, _views
-from ._core import ITEMS, KEYS, MAX_KEY, VALUES
+from ._core import ITEMS, KEYS, VALUES
 from ._maps import Copied, Dict, Joined
 from ._places import PlacedDict
 
@@ -96,7 +96,7 @@ class _Ordered(PlacedDict, Joined, _Strings):
 
     def discard_range(self, start: Any = None, stop: Any = None) -> int:
         """Takes the keys from start on and below stop out, and answers how many they were. It can't want memory, but
-        for the two strings.
+        for the two strings, and where a key has more than 1,024 bytes; a MemoryError leaves all.
 
         >>> from sellumaq import JudySL
         >>> ages = JudySL(a=1, b=2, c=3)
@@ -107,7 +107,8 @@ class _Ordered(PlacedDict, Joined, _Strings):
         return 0 if None in ends else self._remove_range(*map(self._encoded, ends))
 
     def discard_prefix(self, prefix: Any) -> int:
-        """Takes the keys out that begin with a string, and answers how many they were.
+        """Takes the keys out that begin with a string, and answers how many they were. It wants memory as
+        `discard_range` does.
 
         >>> from sellumaq import JudySL
         >>> ages = JudySL(a=1, ab=2, b=3)
@@ -123,9 +124,7 @@ class _Ordered(PlacedDict, Joined, _Strings):
         >>> list(JudySL(a=1, ab=2, b=3).with_prefix("a"))
         ['a', 'ab']
         """
-        low = self._encoded(prefix)
-        # No key is longer, so none that begins so is above this.
-        return self._cursor(KEYS, low, low + b"\xff" * MAX_KEY, False)
+        return self._with_prefix(self._encoded(prefix))
 
     def longest_prefix(self, string: Any) -> Any:
         """The longest key that a string begins with, or None.
@@ -162,7 +161,7 @@ class _Ordered(PlacedDict, Joined, _Strings):
 
 
 class JudySL(_core.TextMap, _Text, _Ordered):
-    """A dict from str without "\\0", of at most 1,024 bytes in UTF-8, to words, in order.
+    """A dict from str without "\\0" to words, in order.
 
     >>> ages = JudySL(Grace=85, Alan=41, Ada=36)
     >>> ages["Ada"], ages.get("Bob"), ages.pop("Alan"), list(reversed(ages))
@@ -173,7 +172,7 @@ class JudySL(_core.TextMap, _Text, _Ordered):
 
 
 class JudySLBytes(_core.BytesMap, _Bytes, _Ordered):
-    """A dict from bytes without a zero, at most 1,024 of them, to words, in order.
+    """A dict from bytes without a zero to words, in order.
 
     >>> JudySLBytes([(b"b", 1), (bytearray(b"a"), 2)])
     JudySLBytes({b'a': 2, b'b': 1})
