@@ -9,7 +9,7 @@ import time
 import unittest
 
 import sellumaq
-from sellumaq import MAX, MAX_KEY, Judy1, JudyHS, JudyHSBytes, JudyL, JudySL, JudySLBytes
+from sellumaq import MAX, MAX_SAVED_KEY, Judy1, JudyHS, JudyHSBytes, JudyL, JudySL, JudySLBytes
 
 
 def key(words):
@@ -192,7 +192,7 @@ class Strings(unittest.TestCase):
     def test_long_keys_without_order(self):
         """Keys of more bytes than the first call of a walk has room for, and such as a buffer of bytes has."""
         few = JudyHSBytes()
-        for length in (0, MAX_KEY, MAX_KEY + 1, 3542, 100000):
+        for length in (0, MAX_SAVED_KEY, MAX_SAVED_KEY + 1, 3542, 100000):
             few[bytearray(length)] = length
             self.assertEqual(few[memoryview(bytes(length))], length)
         self.unordered(few, {bytes(length): length for length in few.values()})
@@ -245,15 +245,16 @@ class Strings(unittest.TestCase):
                 self.assertRaises(KeyError, array.__getitem__, wrong)
                 self.assertRaises(TypeError, array.__setitem__, wrong, 1)
             self.assertEqual(len(array), 0)
-            array["\u00e4" * (MAX_KEY // 2)] = 1
-        for wrong in ("a" * (MAX_KEY + 1), "a\0"):
+            array["\u00e4" * (MAX_SAVED_KEY // 2)] = 1
+        for wrong in ("a\0", "\0", "a" * 3000 + "\0"):
             self.assertNotIn(wrong, JudySL(a=1))
             self.assertRaises(ValueError, JudySL().__setitem__, wrong, 1)
-        self.assertRaises(ValueError, JudySLBytes().__setitem__, bytearray(b"a" * (MAX_KEY + 1)), 1)
+        self.assertRaises(ValueError, JudySLBytes().__setitem__, bytearray(b"a" * 3000 + b"\0"), 1)
         self.assertRaises(TypeError, JudySLBytes().__setitem__, "text", 1)
-        longest = JudySLBytes({b"\xff" * MAX_KEY: 1})
-        self.assertEqual(longest.at_or_before(b"\xff" * (MAX_KEY + 1)), b"\xff" * MAX_KEY)
-        self.assertIsNone(longest.at_or_after(b"\xff" * (MAX_KEY + 1)))
+        for length in (MAX_SAVED_KEY, MAX_SAVED_KEY + 1, 70_000):
+            longest = JudySLBytes({b"\xff" * length: 1})
+            self.assertEqual(longest.at_or_before(b"\xff" * (length + 1)), b"\xff" * length)
+            self.assertIsNone(longest.at_or_after(b"\xff" * (length + 1)))
 
 
 # Refuses this thread's calls for memory, from the n-th on, or none for 0, and answers how many it refused; there where

@@ -5,7 +5,7 @@ import random
 import threading
 import unittest
 
-from sellumaq import BINDING, MAX, MAX_KEY, Judy1, JudyL, JudySL, JudySLBytes
+from sellumaq import BINDING, MAX, Judy1, JudyL, JudySL, JudySLBytes
 
 TEXTS, BYTES = ("az\x01\u00e4\ud800\uffff\U0001f600", b"az\x01\xff")
 
@@ -106,8 +106,8 @@ class FromSorted(unittest.TestCase):
         wrong = {
             Judy1: [-1, 2**64, 1.5, "a", None],
             JudyL: [(-1, 1), (2**64, 1), ("a", 1), (9, -1), (9, 2**64), (9, None)],
-            JudySL: [("a\0", 1), ("b" * (MAX_KEY + 1), 1), (b"b", 1), (5, 1), ("b", -1), ("b", None)],
-            JudySLBytes: [(b"a\0", 1), (b"b" * (MAX_KEY + 1), 1), (bytearray(MAX_KEY + 1), 1), ("b", 1), (b"b", 2**64)],
+            JudySL: [("a\0", 1), ("b" * 3000 + "\0", 1), (b"b", 1), (5, 1), ("b", -1), ("b", None)],
+            JudySLBytes: [(b"a\0", 1), (b"b" * 3000 + b"\0", 1), (bytearray(3000), 1), ("b", 1), (b"b", 2**64)],
         }
         first = {Judy1: 1, JudyL: (1, 1), JudySL: ("a", 1), JudySLBytes: (b"a", 1)}
         for kind, items in wrong.items():
@@ -146,8 +146,8 @@ class Filled(unittest.TestCase):
         strange = {
             Judy1: [-1, 2**64, "a", True, Index(7), None],
             JudyL: [(-1, 1), (5, -1), (True, True), (Index(7), 8), ("a", 1), (1, None), [3, 4]],
-            JudySL: [("a\0", 1), ("b" * 2000, 1), (5, 1), ("a", -1), ("a", True), ["b", 2]],
-            JudySLBytes: [(b"a\0", 1), (bytearray(b"b"), 1), (b"b" * 2000, 1), ("a", 1), (memoryview(b"c"), 3)],
+            JudySL: [("a\0", 1), ("b" * 2000, 1), ("b" * 2000 + "\0", 1), (5, 1), ("a", -1), ("a", True), ["b", 2]],
+            JudySLBytes: [(b"a\0", 1), (bytearray(b"b"), 1), (b"b" * 2000, 1), (b"b" * 2000 + b"\0", 1), ("a", 1), (memoryview(b"c"), 3)],
         }
         for kind, key in KEYS.items():
             chance = random.Random(6)
@@ -249,8 +249,9 @@ class Filled(unittest.TestCase):
                 for array in (kind(items), Own.from_sorted(items)):
                     made = array.copy()
                     self.assertEqual((held(made), type(made)), (items, type(array)))
-        long = [(b"%04d" % n * 256, n) for n in range(9)]
-        self.assertEqual(held(JudySLBytes(long).copy()), long)
+        for times in (256, 5000, 20_000):
+            long = [(b"%04d" % n * times, n) for n in range(9)]
+            self.assertEqual(held(JudySLBytes(long).copy()), long)
         for kind, others in ((JudyL, (Judy1(), JudySL(), {}, None)), (JudySL, (JudySLBytes(), JudyL(), {}, None)), (JudySLBytes, (JudySL(), None))):
             for other in others if BINDING == "extension" else ():
                 self.assertRaises(TypeError, kind()._copy, other)

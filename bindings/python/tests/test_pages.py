@@ -5,16 +5,18 @@ import operator
 import random
 import unittest
 
-from sellumaq import MAX_KEY, JudySL, JudySLBytes
+from sellumaq import MAX_SAVED_KEY, JudySL, JudySLBytes
 
 LETTERS = "ab\x01\u00e4\ud800\uffff\U0001f600"
 
 
 def text(chance):
-    """A string: of few letters or of many, of one front or of another; one in sixteen as long as a key may be."""
+    """A string: of few letters or of many, of one front or of another; one in sixteen so long that few fit a page, or
+    none does."""
     front = chance.choice(["", "", "https://", "\u00e4" * 8, "a" * 40])
     if chance.randrange(16) == 0:
-        return front + "a" * (MAX_KEY - len(front.encode()) - 4) + "%04d" % chance.randrange(50)
+        length = chance.choice([MAX_SAVED_KEY, MAX_SAVED_KEY + 1, 6000, 16 * 1024, 16 * 1024 + 1])
+        return front + "a" * (length - len(front.encode()) - 4) + "%04d" % chance.randrange(50)
     return front + "".join(chance.choices(LETTERS if chance.randrange(4) == 0 else "0123456789", k=chance.randrange(6)))
 
 

@@ -17,7 +17,7 @@ import threading
 import unittest
 from array import array
 
-from sellumaq import MAX, Judy1, JudyHS, JudyHSBytes, JudyL, JudySL, JudySLBytes
+from sellumaq import MAX, MAX_SAVED_KEY, Judy1, JudyHS, JudyHSBytes, JudyL, JudySL, JudySLBytes
 
 PROGRAM = os.path.join(os.path.dirname(os.path.abspath(__file__)), "../../../judystore")
 LIMIT = 2**32 - 1
@@ -108,12 +108,13 @@ class Bytes(InARoom):
             for wrong in ({"format": "1"}, {"name": 5}, {"form": 1}):
                 self.assertRaises(TypeError, made.tobytes, **wrong)
             self.assertRaises(TypeError, made.tobytes, "array")
-        long = JudyHSBytes({bytes(1024): 1})
-        self.assertEqual(long.tobytes(), dump(long))
-        long[bytes(1025)] = 2
-        self.assertRaisesRegex(ValueError, "1,024", long.tobytes)
-        self.assertRaisesRegex(ValueError, "1,024", long.save, self.path)
-        self.assertEqual(os.listdir(self.room), [])
+        for long, letter in ((JudyHSBytes(), b"\0"), (JudyHS(), "a"), (JudySL(), "a"), (JudySLBytes(), b"a")):
+            long[letter * MAX_SAVED_KEY] = 1
+            self.assertEqual(long.tobytes(), dump(long))
+            long[letter * (MAX_SAVED_KEY + 1)] = 2
+            self.assertRaisesRegex(ValueError, "1,024", long.tobytes)
+            self.assertRaisesRegex(ValueError, "1,024", long.save, self.path)
+            self.assertEqual((os.listdir(self.room), len(long)), ([], 2))
 
     def refused(self, made, told, fault):
         """A text that isn't loaded: its fault has this name, and the array is as it was."""
@@ -410,7 +411,7 @@ class Pickles(unittest.TestCase):
 
     def test_keys_that_no_dump_can_say(self):
         for protocol in range(6):
-            for made in (JudyHSBytes({bytes(1025): 1}), JudyHS({"ä" * 600: 2})):
+            for made in (JudyHSBytes({bytes(1025): 1}), JudyHS({"ä" * 600: 2}), JudySLBytes({b"a" * 1025: 1}), JudySL({"": 1, "ä" * 70_000: 2})):
                 made.told = "kept"
                 self.same(pickle.loads(pickle.dumps(made, protocol)), made)
 

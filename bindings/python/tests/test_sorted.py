@@ -3,7 +3,7 @@
 
 import unittest
 
-from sellumaq import MAX, MAX_KEY, Judy1, JudyHS, JudyL, JudySL, JudySLBytes
+from sellumaq import MAX, MAX_SAVED_KEY, Judy1, JudyHS, JudyL, JudySL, JudySLBytes
 
 SET = [
     ("s[0], s[-1], s[1:3], s[::-2], s[9:]", (1, 5, [2, 3], [5, 3, 1], [])),
@@ -153,7 +153,7 @@ class Tables(unittest.TestCase):
 
     def test_walks_longer_than_a_page_of_strings(self):
         for count in (1, 2, 8, 9, 10, 72, 73, 74, 137, 300):
-            for length in (0, 1, 30, 500, MAX_KEY - 4):
+            for length in (0, 1, 30, 500, MAX_SAVED_KEY - 4, 20_000):
                 pairs = [(f"{n:04}" + "z" * (n * 7 % (length + 1)), n) for n in range(count)]
                 keys, values = [key for key, _ in pairs], [value for _, value in pairs]
                 strings = JudySL(pairs)
@@ -177,8 +177,9 @@ class Tables(unittest.TestCase):
         self.assertEqual((times[bytearray(b"a")], memoryview(b"a") in times, "a" in times), (1, True, False))
         times[memoryview(bytearray(b"b"))] = 2
         self.assertEqual(list(times.irange(bytearray(b"a"), b"b", (False, True))), [b"b"])
-        with self.assertRaises(ValueError):
-            times[bytearray(1025)] = 1
+        for zeros in (1, 1025):
+            with self.assertRaises(ValueError):
+                times[bytearray(zeros)] = 1
 
 
 if __name__ == "__main__":
