@@ -243,7 +243,7 @@ class _Array:
             told = self._calls["dump"](self._handle, form, encoded, len(encoded), text, room, size)
         if told != _DONE:
             raise _refused(told)
-        return ctypes.string_at(text, size.value)
+        return text[: size.value]
 
     def frombytes(self, lent, /):
         """Replaces what the array holds by that of a dump, of either format, which may be any buffer. ValueError names
@@ -800,7 +800,7 @@ class _OrderedStrings(_Strings):
             text, length, value = ctypes.create_string_buffer(key, room), ctypes.c_size_t(len(key)), _word()
             told = self._calls[call](self._handle, *words, text, room, length, value)
             if told != _TOO_SMALL:
-                return (ctypes.string_at(text, length.value), value.value) if told == _FOUND else None
+                return (text[: length.value], value.value) if told == _FOUND else None
             room = value.value
 
     def _cursor(self, part, low, high, reverse):
@@ -859,7 +859,7 @@ class _OrderedStrings(_Strings):
         count = self._calls["walk"](self._handle, key, len(key), itself, text, room, entries, most)
         if count:
             ends, values = _entries_of(entries, count)
-            return ctypes.string_at(text, ends[-1]), ends, values
+            return text[: ends[-1]], ends, values
         found = self._search("first" if itself else "next", key)
         return (found[0], [len(found[0])], [found[1]]) if found else (b"", [], [])
 
@@ -919,7 +919,7 @@ class _Hash(_Strings):
         ends, values = _entries_of(entries, count.value)
         if part == VALUES:
             return values
-        keys = self._objects(ctypes.string_at(text, ends[-1] if ends else 0), ends)
+        keys = self._objects(text[: ends[-1] if ends else 0], ends)
         return keys if part == KEYS else list(zip(keys, values))
 
 
