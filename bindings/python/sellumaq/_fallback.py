@@ -816,12 +816,16 @@ class _OrderedStrings(_Strings):
     def _down(self, part, low, high):
         """A walk from a bound down. Each step is a search beside the key given last."""
         # No key is above as many bytes of 0xff as the longest one has.
-        key = b"\xff" * self._calls["longest"](self._handle) if high is None else _could_be_key(high)[0]
-        told = self._search("last", key)
-        while told and (low is None or told[0] >= low):
-            key, value = told
-            yield value if part == VALUES else self._object(key) if part == KEYS else (self._object(key), value)
-            told = self._search("prev", key)
+        start, scan = b"\xff" * self._calls["longest"](self._handle) if high is None else _could_be_key(high)[0], "last"
+        key, length, value = ctypes.create_string_buffer(start, max(len(start), _SHORT)), ctypes.c_size_t(len(start)), _word()
+        while (told := self._calls[scan](self._handle, key, len(key), length, value)) in (_FOUND, _TOO_SMALL):
+            if told == _TOO_SMALL:
+                key = ctypes.create_string_buffer(key[: length.value], value.value)
+                continue
+            found, scan = key[: length.value], "prev"
+            if low is not None and found < low:
+                return
+            yield value.value if part == VALUES else self._object(found) if part == KEYS else (self._object(found), value.value)
 
     def _up(self, part, low, high):
         """A walk from a bound up. A call tells many pairs, and the next ones anew where the map has changed."""
