@@ -354,7 +354,7 @@ static bool is_beyond_end(const Cursor *self, const Pair *pair)
     size_t other = (size_t)length, shared = pair->length < other ? pair->length : other;
     int order = memcmp(pair->bytes, bytes, shared);
     if (self->is_prefix)
-        return order != 0 || shared < other;
+        return order != 0; /* no key that comes is below the prefix, as its own beginnings are */
     if (order == 0)
         order = (pair->length > other) - (pair->length < other);
     return self->reverse ? order < 0 : order > 0;

@@ -322,13 +322,14 @@ class WithoutMemory(unittest.TestCase):
     def test_a_walk_that_is_refused_goes_on(self):
         for kind in TEXTS:
             array, pairs = self.filled(kind)
-            keys, failed = [key for key, _ in pairs], 0
+            keys, failed, zero = [key for key, _ in pairs], 0, "\0" if kind is JudySL else b"\0"
             for walk, wanted in (
                 (iter(array), keys),
                 (reversed(array), keys[::-1]),
                 (iter(array.items()), pairs),
                 (reversed(array.items()), pairs[::-1]),
                 (array.irange(keys[3]), keys[3:]),
+                (array.irange(keys[3] + zero), keys[4:]),
                 (array.irange(None, keys[-3], reverse=True), keys[:-2][::-1]),
                 (array.with_prefix(keys[-1][:2000]), [key for key in keys if key.startswith(keys[-1][:2000])]),
             ):
