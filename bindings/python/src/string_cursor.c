@@ -289,11 +289,16 @@ static enum step search_anew(Cursor *self, Pair *pair)
     return search(self, pair);
 }
 
+/* Whether the key given last is too long for a page, which holds nothing then; the next one may well be so too. */
+static bool is_long(const Cursor *self) { return self->key.length > ROOM; }
+
 /* Finds the next pair on the page, downward. */
 static enum step turn_back(Cursor *self, Pair *pair)
 {
     Page *page = self->page;
     if (page->given == page->count) {
+        if (is_long(self))
+            return search_anew(self, pair);
         if (!fill_back(self))
             return REFUSED;
         if (page->count == 0)
@@ -310,6 +315,8 @@ static enum step turn(Cursor *self, Pair *pair)
 {
     Page *page = self->page;
     if (page->given == page->count || page->seen != *self->changes) {
+        if (is_long(self))
+            return search(self, pair);
         if (!fill(self))
             return REFUSED;
         if (page->count == 0)
@@ -325,10 +332,9 @@ static enum step find_next(Cursor *self, Pair *pair)
 {
     if (!self->begun || !(self->page || make_page(self)))
         return search(self, pair);
-    bool was_long = self->key.length > ROOM;
     if (!self->reverse)
-        return was_long ? search(self, pair) : turn(self, pair);
-    return was_long || self->page->seen != *self->changes ? search_anew(self, pair) : turn_back(self, pair);
+        return turn(self, pair);
+    return self->page->seen != *self->changes ? search_anew(self, pair) : turn_back(self, pair);
 }
 
 /* Takes back a step whose pair isn't given, so that the next one finds it, if it is there then. */
