@@ -337,7 +337,7 @@ static enum step find_next(Cursor *self, Pair *pair)
     return self->page->seen != *self->changes ? search_anew(self, pair) : turn_back(self, pair);
 }
 
-/* Takes back a step whose pair isn't given, so that the next one finds it, if it is there then. */
+/* Takes back a step whose pair isn't given: the walk stands before that then. */
 static void step_back(Cursor *self)
 {
     Page *page = self->page;

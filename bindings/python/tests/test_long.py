@@ -353,12 +353,18 @@ class WithoutMemory(unittest.TestCase):
                     elif chance.randrange(change) == 0:
                         array[key + "+"] = there[key + "+"] = 5
 
+                def is_behind(key, other):
+                    return other is None or (key < other if reverse else key > other)
+
                 while True:
+                    before = set(there)
                     found, _ = self.refused_in_turn(lambda: next(walk, None), alter)
-                    left = [key for key in there if last is None or (key < last if reverse else key > last)]
-                    self.assertEqual(found, (max if reverse else min)(left, default=None))
+                    # A key that came meanwhile may come or not, as one before which the walk stood already.
+                    stood = (max if reverse else min)((key for key in before & there.keys() if is_behind(key, last)), default=None)
                     if found is None:
+                        self.assertIsNone(stood)
                         break
+                    self.assertTrue(found in there and is_behind(found, last) and (stood is None or not is_behind(found, stood)))
                     last = found
 
     def test_keys_that_go(self):
