@@ -30,9 +30,8 @@
  * search each, and `count` two, is read off the code.
  *
  * Memory. A map from strings or byte strings that lost most of its keys keeps each page of their bytes in which one
- * is left. To give these back copy the keys that are left. What a walk through all of them wrote is handed to
- * `sellumaq_judysl_from_sorted` of the same map. Those of a `sellumaq_judyhs` are put into a new one, and the old
- * one is freed.
+ * is left. `sellumaq_judysl_shrink` and `sellumaq_judyhs_shrink` move the keys together and give such pages back. How
+ * many bytes an array takes is told by `sellumaq_judy1_bytes` and its fellows.
  *
  * Machine: a processor of x86-64-v2, which has SSE4.2 and popcnt, and Linux with glibc.
  *
@@ -155,6 +154,11 @@ uint32_t sellumaq_judy1_from_unsorted(sellumaq_judy1 *set, const uint64_t *keys,
 
 /* How many keys there are. */
 uint64_t sellumaq_judy1_len(const sellumaq_judy1 *set);
+
+/* How many bytes of memory the set takes: those of its blocks and of what the handle points to, as they were asked for,
+ * without what malloc takes beside each. 0 where the handle is zeros, and at most 40 for one key. It goes over all
+ * nodes, asks for no memory and changes nothing. The number is tested and not proved. */
+uint64_t sellumaq_judy1_bytes(const sellumaq_judy1 *set);
 
 /* How many keys there are from one word to another, both included; 0 where the first is above the second. */
 uint64_t sellumaq_judy1_count(const sellumaq_judy1 *set, uint64_t from, uint64_t to);
@@ -311,6 +315,9 @@ uint32_t sellumaq_judyl_from_unsorted(sellumaq_judyl *map, const sellumaq_pair *
 
 /* How many keys there are. */
 uint64_t sellumaq_judyl_len(const sellumaq_judyl *map);
+
+/* How many bytes of memory the map takes, as sellumaq_judy1_bytes answers of a set. */
+uint64_t sellumaq_judyl_bytes(const sellumaq_judyl *map);
 
 /* How many keys there are from one word to another, both included; 0 where the first is above the second. */
 uint64_t sellumaq_judyl_count(const sellumaq_judyl *map, uint64_t from, uint64_t to);
@@ -473,6 +480,10 @@ uint32_t sellumaq_judysl_from_sorted(sellumaq_judysl *map, const uint8_t *bytes,
 /* How many keys there are. */
 uint64_t sellumaq_judysl_len(const sellumaq_judysl *map);
 
+/* How many bytes of memory the map takes, as sellumaq_judy1_bytes answers of a set. It goes over all nodes and over the
+ * pages that keys stand in, and reads no key. */
+uint64_t sellumaq_judysl_bytes(const sellumaq_judysl *map);
+
 /* How many bytes the longest key had that came in since the map was last empty, also where it has gone: no key has
  * more. 0 of the empty map. A buffer of so many bytes is never too small. */
 size_t sellumaq_judysl_longest(const sellumaq_judysl *map);
@@ -585,6 +596,11 @@ bool sellumaq_judyhs_walk(const sellumaq_judyhs *map, size_t behind, uint8_t *by
 
 /* How many keys there are. */
 uint64_t sellumaq_judyhs_len(const sellumaq_judyhs *map);
+
+/* How many bytes of memory the map takes, as sellumaq_judysl_bytes answers. Keys of more than 8 bytes that share their
+ * length and their hash with another one are some of hundreds of thousands; the trees that these stand in are counted
+ * as if they were full, so where there were such keys the map may take a little more than the number. */
+uint64_t sellumaq_judyhs_bytes(const sellumaq_judyhs *map);
 
 /* Moves keys together, as sellumaq_judysl_shrink does. A key of at most 8 bytes or of more than 1,024, and one that
  * shares its hash with another, stays where it is. */

@@ -164,6 +164,7 @@ extern "C" {
         place: *mut usize,
     ) -> u32;
     pub fn sellumaq_judy1_len(set: *const sellumaq_judy1) -> u64;
+    pub fn sellumaq_judy1_bytes(set: *const sellumaq_judy1) -> u64;
     pub fn sellumaq_judy1_count(set: *const sellumaq_judy1, from: u64, to: u64) -> u64;
     pub fn sellumaq_judy1_count_empty(set: *const sellumaq_judy1, from: u64, to: u64) -> u64;
     pub fn sellumaq_judy1_remove_range(set: *mut sellumaq_judy1, from: u64, to: u64) -> u64;
@@ -343,6 +344,7 @@ extern "C" {
         place: *mut usize,
     ) -> u32;
     pub fn sellumaq_judyl_len(map: *const sellumaq_judyl) -> u64;
+    pub fn sellumaq_judyl_bytes(map: *const sellumaq_judyl) -> u64;
     pub fn sellumaq_judyl_count(map: *const sellumaq_judyl, from: u64, to: u64) -> u64;
     pub fn sellumaq_judyl_count_empty(map: *const sellumaq_judyl, from: u64, to: u64) -> u64;
     pub fn sellumaq_judyl_remove_range(map: *mut sellumaq_judyl, from: u64, to: u64) -> u64;
@@ -559,6 +561,7 @@ extern "C" {
         place: *mut usize,
     ) -> u32;
     pub fn sellumaq_judysl_len(map: *const sellumaq_judysl) -> u64;
+    pub fn sellumaq_judysl_bytes(map: *const sellumaq_judysl) -> u64;
     pub fn sellumaq_judysl_longest(map: *const sellumaq_judysl) -> usize;
     pub fn sellumaq_judysl_union(
         made: *mut sellumaq_judysl,
@@ -682,6 +685,7 @@ extern "C" {
         count: *mut usize,
     ) -> bool;
     pub fn sellumaq_judyhs_len(map: *const sellumaq_judyhs) -> u64;
+    pub fn sellumaq_judyhs_bytes(map: *const sellumaq_judyhs) -> u64;
     pub fn sellumaq_judyhs_shrink(map: *mut sellumaq_judyhs);
     pub fn sellumaq_judyhs_free(map: *mut sellumaq_judyhs) -> u64;
 }
