@@ -1,11 +1,11 @@
 //! What arrays of all kinds have alike.
 
 /// Writes the type of a kind of array over its handle in C, `$handle`, and the calls by which C tells its length and
-/// gives it back. `$sample` is a line of an example that makes `array` with three keys.
+/// its memory, and gives it back. `$sample` is a line of an example that makes `array` with three keys.
 macro_rules! array {
     (
         $(#[$about:meta])*
-        $array:ident<$($param:ident: $bound:path = $default:ty),+> over $handle:ident, $len:ident, $free:ident; $sample:literal
+        $array:ident<$($param:ident: $bound:path = $default:ty),+> over $handle:ident, $len:ident, $bytes:ident, $free:ident; $sample:literal
     ) => {
         $(#[$about])*
         pub struct $array<$($param: $bound = $default),+> {
@@ -75,6 +75,26 @@ macro_rules! array {
             #[must_use]
             pub fn is_empty(&self) -> bool {
                 self.len() == 0
+            }
+
+            /// How many bytes of heap memory the array takes, as they were asked for, without what `malloc` takes
+            /// beside each block: none before the first insert, nor after [`clear`](Self::clear). It goes over all
+            /// nodes, and over the pages of strings. The number is tested and not proved; a `JudyHs` of hundreds of
+            /// thousands of keys may take a little more.
+            ///
+            /// ```
+            #[doc = concat!("assert_eq!(sellumaq::", stringify!($array), "::new().bytes(), 0);")]
+            #[doc = concat!($sample, "\nlet mut array = array;")]
+            /// assert!(array.bytes() > 0);
+            /// array.clear();
+            /// assert_eq!(array.bytes(), 0);
+            /// ```
+            #[must_use]
+            pub fn bytes(&self) -> usize {
+                let handle = self.handle;
+                // SAFETY: the handle is this array's, lent for this call alone, which only reads.
+                let bytes = unsafe { sellumaq_sys::$bytes(&handle) };
+                bytes as usize
             }
 
             /// Takes every key out and gives the memory back.

@@ -32,7 +32,7 @@ array!(
     /// let degrees: Judy1<i32> = [20, -5, 0].into_iter().collect();
     /// assert!(degrees.range(..0).eq([-5]));
     /// ```
-    Judy1<K: Key = u64> over sellumaq_judy1, sellumaq_judy1_len, sellumaq_judy1_free;
+    Judy1<K: Key = u64> over sellumaq_judy1, sellumaq_judy1_len, sellumaq_judy1_bytes, sellumaq_judy1_free;
     "let array = sellumaq::Judy1::from([1, 2, 10]);"
 );
 

@@ -30,7 +30,7 @@ array!(
     /// assert_eq!(seen.insert("text", 5), None);
     /// assert!(seen.keys().eq([vec![0, 255], b"text".to_vec()]));
     /// ```
-    JudyHs<V: Value = u64> over sellumaq_judyhs, sellumaq_judyhs_len, sellumaq_judyhs_free;
+    JudyHs<V: Value = u64> over sellumaq_judyhs, sellumaq_judyhs_len, sellumaq_judyhs_bytes, sellumaq_judyhs_free;
     "let array = sellumaq::JudyHs::from([(\"a\", 10), (\"b\", 20), (\"c\", 30)]);"
 );
 

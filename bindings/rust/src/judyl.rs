@@ -37,7 +37,7 @@ array!(
     /// assert_eq!(letters.first_key_value(), Some((-1, 'a')));
     /// assert_eq!(letters[1], 'b');
     /// ```
-    JudyL<V: Value = u64, K: Key = u64> over sellumaq_judyl, sellumaq_judyl_len, sellumaq_judyl_free;
+    JudyL<V: Value = u64, K: Key = u64> over sellumaq_judyl, sellumaq_judyl_len, sellumaq_judyl_bytes, sellumaq_judyl_free;
     "let array = sellumaq::JudyL::from([(1, 10), (2, 20), (10, 30)]);"
 );
 

@@ -37,7 +37,7 @@ array!(
     /// assert_eq!(ages["Alan"], 41);
     /// assert_eq!(ages.range("B"..).next(), Some((b"Grace".to_vec(), 85)));
     /// ```
-    JudySl<V: Value = u64> over sellumaq_judysl, sellumaq_judysl_len, sellumaq_judysl_free;
+    JudySl<V: Value = u64> over sellumaq_judysl, sellumaq_judysl_len, sellumaq_judysl_bytes, sellumaq_judysl_free;
     "let array = sellumaq::JudySl::from([(\"a\", 10), (\"b\", 20), (\"c\", 30)]);"
 );
 

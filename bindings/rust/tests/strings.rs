@@ -199,6 +199,35 @@ fn long_byte_strings() {
     assert!(map.values().eq([0, 1024, 1025, 3542]));
 }
 
+/// What a map takes as it begins, with a thousand keys, when most have gone, when the others stand together, when these
+/// have gone too, and when it is cleared.
+macro_rules! bytes_taken {
+    ($map:expr) => {
+        let mut map = $map;
+        let key = |n: u64| format!("{:016x} and more", n.wrapping_mul(0x9e37_79b9_7f4a_7c15));
+        assert_eq!(map.bytes(), 0);
+        (0..1000).for_each(|n| assert_eq!(map.insert(key(n), n), None));
+        let all = map.bytes();
+        assert!((16_000..200_000).contains(&all), "{all}");
+        (0..1000)
+            .filter(|n| n % 10 > 0)
+            .for_each(|n| assert_eq!(map.remove(key(n)), Some(n)));
+        let few = map.bytes();
+        map.shrink_to_fit();
+        assert!(map.bytes() < few && few < all, "{} {few}", map.bytes());
+        (0..100).for_each(|n| assert_eq!(map.remove(key(10 * n)), Some(10 * n)));
+        assert!((1..1000).contains(&map.bytes()), "{}", map.bytes());
+        map.clear();
+        assert_eq!(map.bytes(), 0);
+    };
+}
+
+#[test]
+fn bytes_that_strings_take() {
+    bytes_taken!(JudySl::new());
+    bytes_taken!(JudyHs::new());
+}
+
 #[test]
 #[should_panic = "not the bytes of a key"]
 fn an_insert_panics_at_bytes_that_are_no_key() {

@@ -140,6 +140,29 @@ fn a_map_is_a_map() {
     assert_eq!(map.nth(7), plain.iter().nth(7).map(|it| (*it.0, *it.1)));
 }
 
+/// What an array takes as it begins, with one key, with a thousand more, when these have gone, and when it is cleared.
+#[test]
+fn bytes_that_words_take() {
+    let keys = || (1..=1000u64).map(|n| n.wrapping_mul(0x9e37_79b9_7f4a_7c15));
+    let mut set = Judy1::new();
+    assert_eq!(set.bytes(), 0);
+    assert!(set.insert(0) && (1..=40).contains(&set.bytes()));
+    set.extend(keys());
+    assert!((7000..100_000).contains(&set.bytes()), "{}", set.bytes());
+    assert!(keys().all(|key| set.remove(key)) && (1..=40).contains(&set.bytes()));
+    set.clear();
+    assert_eq!(set.bytes(), 0);
+
+    let mut map = JudyL::new();
+    assert_eq!(map.bytes(), 0);
+    assert!(map.put(0, 1) && (1..=40).contains(&map.bytes()));
+    map.extend(keys().map(|key| (key, key)));
+    assert!((8000..100_000).contains(&map.bytes()), "{}", map.bytes());
+    assert!(keys().all(|key| map.remove(key) == Some(key)) && (1..=40).contains(&map.bytes()));
+    map.clear();
+    assert_eq!(map.bytes(), 0);
+}
+
 /// Walks down from any word to any other, over fewer keys than a call brings and over more, some turned on the way.
 #[test]
 fn walks_that_go_down() {
