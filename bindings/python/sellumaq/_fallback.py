@@ -66,7 +66,7 @@ def _two_calls(kind):
 def _calls(kind, result, **calls):
     """The calls of a kind that answer alike, by what they are given, and those that all kinds have."""
     told = {name: _call(f"{kind}_{name}", result, *words) for name, words in calls.items()}
-    return told | {name: _call(f"{kind}_{name}", _word) for name in ("len", "free")} | _saved_calls(kind)
+    return told | {name: _call(f"{kind}_{name}", _word) for name in ("len", "bytes", "free")} | _saved_calls(kind)
 
 
 def _saved_calls(kind):
@@ -219,6 +219,10 @@ class _Array:
 
     def __len__(self):
         return self._calls["len"](self._handle)
+
+    def __sizeof__(self):
+        """How many bytes the array takes: those of the object, and those that the library asked for."""
+        return super().__sizeof__() + self._calls["bytes"](self._handle)
 
     def _change(self, call, *words):
         """What a call answers that may change the array."""

@@ -87,6 +87,16 @@ PyObject *make_part(enum part part, PyObject *key, uint64_t value)
     return pair;
 }
 
+PyObject *size_with(PyObject *object, uint64_t held)
+{
+    PyObject *own = PyObject_CallMethod((PyObject *)&PyBaseObject_Type, "__sizeof__", "O", object);
+    if (!own)
+        return NULL;
+    size_t bytes = PyLong_AsSize_t(own);
+    Py_DECREF(own);
+    return PyErr_Occurred() ? NULL : make_word(bytes + held);
+}
+
 bool has_default(const char *name, Py_ssize_t count, Py_ssize_t most)
 {
     if (count >= 1 && count <= most)

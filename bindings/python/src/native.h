@@ -33,6 +33,12 @@ typedef struct {
  * run. */
 #define DOC(signature, text, example) signature "\n--\n\n" text "\n\n" example
 
+/* `__sizeof__` of a type. An example's line `sample` makes `array`. */
+#define SIZE_METHOD(type, sample, array) \
+    {"__sizeof__", type##_sizeof, METH_NOARGS, \
+     DOC("__sizeof__($self, /)", "How many bytes the array takes: those of the object, and those that the library asked for.", \
+         sample ">>> had = " array ".__sizeof__(); " array ".clear(); had > " array ".__sizeof__()\nTrue")}
+
 /* What a cursor gives of a key. */
 enum part { KEYS, VALUES, ITEMS };
 
@@ -79,6 +85,9 @@ PyObject *raise_no_place(PyObject *place);
 
 /* A key, a value or both; a new reference to the key is taken over. */
 PyObject *make_part(enum part part, PyObject *key, uint64_t value);
+
+/* `__sizeof__` of an array for which the library holds so many bytes: these and the object's own. */
+PyObject *size_with(PyObject *object, uint64_t held);
 
 /* `get`'s and `pop`'s arguments: a key and perhaps a default. */
 bool has_default(const char *name, Py_ssize_t count, Py_ssize_t most);

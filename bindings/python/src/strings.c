@@ -20,9 +20,10 @@ static int judyhs_has_text(const Handle *handle) { return hash_has_text(&handle-
         return sellumaq_##kind##_remove(&handle->member, key, length, value);                                        \
     }                                                                                                                \
     static uint64_t kind##_len(Handle *handle) { return sellumaq_##kind##_len(&handle->member); }                    \
+    static uint64_t kind##_bytes(Handle *handle) { return sellumaq_##kind##_bytes(&handle->member); }                \
     static void kind##_shrink(Handle *handle) { sellumaq_##kind##_shrink(&handle->member); }                         \
     static uint64_t kind##_free(Handle *handle) { return sellumaq_##kind##_free(&handle->member); }                  \
-    static const StringCalls kind##_calls = {kind##_put,    kind##_get,  kind##_remove, kind##_len,                   \
+    static const StringCalls kind##_calls = {kind##_put,    kind##_get,  kind##_remove, kind##_len,     kind##_bytes, \
                                              kind##_shrink, kind##_free, &kind##_saved, kind##_has_text};
 
 STRING_CALLS(judysl, strings)
@@ -178,6 +179,12 @@ static Py_ssize_t strings_len(PyObject *object)
 {
     Strings *self = (Strings *)object;
     return (Py_ssize_t)self->calls->len(&self->handle);
+}
+
+static PyObject *strings_sizeof(PyObject *object, PyObject *Py_UNUSED(none))
+{
+    Strings *self = (Strings *)object;
+    return size_with(object, self->calls->bytes(&self->handle));
 }
 
 static int strings_contains(PyObject *self, PyObject *key)
@@ -485,6 +492,7 @@ static PyObject *hash_popitem(PyObject *object, PyObject *Py_UNUSED(none))
     {"pop", (PyCFunction)(void (*)(void))strings_pop, METH_FASTCALL, \
      DOC("pop($self, key, default=..., /)", "Takes a key out and answers its value, or the default; KeyError where there is neither.", \
          AGES ">>> ages.pop('Ada'), ages.pop('Ada', 7)\n(36, 7)")}, \
+    SIZE_METHOD(strings, AGES, "ages"), \
     SAVED_METHODS(strings, AGES, "ages", "58")
 
 static PyMethodDef map_methods[] = {

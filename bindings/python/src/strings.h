@@ -10,6 +10,7 @@ typedef struct {
     bool (*get)(Handle *handle, const uint8_t *key, size_t length, uint64_t *value);
     bool (*remove)(Handle *handle, const uint8_t *key, size_t length, uint64_t *value);
     uint64_t (*len)(Handle *handle);
+    uint64_t (*bytes)(Handle *handle);
     void (*shrink)(Handle *handle);
     uint64_t (*free)(Handle *handle);
     const SavedCalls *saved;

@@ -16,6 +16,7 @@
     SEARCH(kind, member, last_empty)                                                                      \
     SEARCH(kind, member, by_count)                                                                        \
     static uint64_t kind##_len(Handle *handle) { return sellumaq_##kind##_len(&handle->member); }         \
+    static uint64_t kind##_bytes(Handle *handle) { return sellumaq_##kind##_bytes(&handle->member); }     \
     static uint64_t kind##_free(Handle *handle) { return sellumaq_##kind##_free(&handle->member); }       \
     static uint64_t kind##_count(Handle *handle, uint64_t from, uint64_t to)                              \
     {                                                                                                     \
@@ -31,9 +32,9 @@
     }                                                                                                     \
     static const WordCalls kind##_calls = {                                                               \
         kind##_first,      kind##_next, kind##_last, kind##_prev,  kind##_first_empty, kind##_last_empty, \
-        kind##_by_count,   kind##_has,  kind##_remove, kind##_len, kind##_count,       kind##_free,       \
-        kind##_put,        kind##_from_sorted, kind##_from_unsorted, kind##_remove_range, kind##_retain_range, \
-        &kind##_saved,                                                                                    \
+        kind##_by_count,   kind##_has,  kind##_remove, kind##_len, kind##_bytes, kind##_count,            \
+        kind##_free,       kind##_put,  kind##_from_sorted, kind##_from_unsorted, kind##_remove_range,    \
+        kind##_retain_range, &kind##_saved,                                                               \
     };
 
 static bool judy1_has(Handle *handle, uint64_t key) { return sellumaq_judy1_test(&handle->set, key); }
@@ -102,6 +103,12 @@ static Py_ssize_t words_len(PyObject *object)
 {
     Words *self = (Words *)object;
     return (Py_ssize_t)self->calls->len(&self->handle);
+}
+
+static PyObject *words_sizeof(PyObject *object, PyObject *Py_UNUSED(none))
+{
+    Words *self = (Words *)object;
+    return size_with(object, self->calls->bytes(&self->handle));
 }
 
 static int words_contains(PyObject *object, PyObject *key)
@@ -365,6 +372,7 @@ static PyObject *keep_range(PyObject *object, PyObject *const *arguments, Py_ssi
      DOC("bisect_left($self, number, /)", "How many keys there are below a number.", SOME ">>> some.bisect_left(20)\n1")}, \
     {"bisect_right", bisect_right, METH_O, \
      DOC("bisect_right($self, number, /)", "How many keys there are up to a number.", SOME ">>> some.bisect_right(20)\n2")}, \
+    SIZE_METHOD(words, SOME, "some"), \
     SAVED_METHODS(words, SOME, "some", "55"), \
     {"_fill", words_fill, METH_O, "Puts the items of an iterable in."}, \
     {"_make", words_make, METH_O, "Makes the array one of the items of an iterable, whose keys must ascend."}, \

@@ -13,6 +13,7 @@ typedef struct {
     bool (*has)(Handle *handle, uint64_t key);
     bool (*remove)(Handle *handle, uint64_t key);
     uint64_t (*len)(Handle *handle);
+    uint64_t (*bytes)(Handle *handle);
     uint64_t (*count)(Handle *handle, uint64_t from, uint64_t to);
     uint64_t (*free)(Handle *handle);
     /* An item of a set is a key, one of a map a key and its value behind it. */

@@ -330,6 +330,29 @@ class WithoutMemory(unittest.TestCase):
         self.assertEqual(len(array), 999)
 
 
+class Sizes(unittest.TestCase):
+    def test_that_a_size_has_what_the_library_took(self):
+        pairs = {n * 0x9E3779B97F4A7C15 % 2**64: n for n in range(1000)}
+        texts = {"%016x and more" % key: value for key, value in pairs.items()}
+        coded = {key.encode(): value for key, value in texts.items()}
+        words, strings, bytestrings = (pairs, 7000), (texts, 16000), (coded, 16000)
+        kinds = {Judy1: words, JudyL: words, JudySL: strings, JudyHS: strings, JudySLBytes: bytestrings, JudyHSBytes: bytestrings}
+        for kind, (items, least) in kinds.items():
+
+            class Named(kind):
+                pass
+
+            for array in (kind(), Named()):
+                own, all_of_it = object.__sizeof__(array), sys.getsizeof(array)
+                self.assertEqual(array.__sizeof__(), own)
+                array.update(items)
+                taken = array.__sizeof__() - own
+                self.assertTrue(least <= taken < 200000, (kind, taken))
+                self.assertEqual(sys.getsizeof(array) - all_of_it, taken)
+                array.clear()
+                self.assertEqual((array.__sizeof__(), sys.getsizeof(array)), (own, all_of_it))
+
+
 class Examples(unittest.TestCase):
     def test_each_call_has_an_example(self):
         for kind in (Judy1, JudyL, JudySL, JudySLBytes, JudyHS, JudyHSBytes):
