@@ -385,15 +385,17 @@ class WithoutMemory(unittest.TestCase):
             self.assertGreater(failed, 0)
             array = kind(pairs)
             self.assertEqual(self.refused_in_turn(lambda: array.discard_range(keys[5], keys[9]), look)[0], 4)
-            # Short keys go without memory.
+            # Short keys go where there is no memory.
             array = kind(pairs[:90])
             refuse_from(1)
             gone = array._remove_range(b"001", b"080")
-            self.assertEqual((gone, refuse_from(0), len(array)), (80, 0, 10))
+            refuse_from(0)
+            self.assertEqual((gone, list(array.items())), (80, [pairs[0], *pairs[81:90]]))
 
     def test_maps_that_are_made(self):
         for kind in TEXTS:
-            array, pairs = self.filled(kind)
+            pairs = self.filled(kind)[1][::4]
+            array = kind(pairs)
             look = lambda: self.assertEqual(list(array.items()), pairs)
             for call in (array.copy, lambda: kind.from_sorted(pairs), lambda: array | kind(pairs[::2]), lambda: pickle.loads(pickle.dumps(array))):
                 self.assertEqual(list(self.refused_in_turn(call, look)[0].items()), pairs)
