@@ -304,41 +304,34 @@ typedef struct {
     value_scan *value;
 } searcher;
 
-/* The longest strings for which a search has a buffer of its own. */
+/* Up to so many bytes a string is found in a buffer of the search's own. */
 enum { SHORT = 1024 };
 
-/* A search among short strings, from a short one. The calls may write behind the key that they find, up to the
- * capacity that they are told. How much room the caller has isn't told, so the key is found in a buffer of this
- * call's. */
-static uint64_t *search_short(scan *call, const sellumaq_judysl *map, uint8_t *string, size_t length) {
+/* A search from a short string for one of any length, which replaces it where it is short too. The calls may write
+ * behind a key that they find, up to the capacity that they are told, and how much room the caller has isn't told: so
+ * the key is found in a buffer of this call's. */
+static uint32_t search_short(scan *call, const sellumaq_judysl *map, uint8_t *string, size_t *length, uint64_t **slot) {
     uint8_t buffer[SHORT];
-    uint64_t *slot;
-    memcpy(buffer, string, length);
-    if (call(map, buffer, sizeof buffer, &length, &slot) != SELLUMAQ_FOUND) return NULL;
-    memcpy(string, buffer, length);
-    string[length] = 0;
-    return slot;
+    memcpy(buffer, string, *length);
+    uint32_t told = call(map, buffer, sizeof buffer, length, slot);
+    if (told == SELLUMAQ_FOUND) memcpy(string, buffer, *length);
+    return told;
 }
 
-/* A search among strings of any length. A key that is no longer than the string fits the caller's room; another one
- * does too, as the manual page asks, and its length is told first, so that nothing behind it is touched. */
-static uint64_t *search_long(searcher by, const sellumaq_judysl *map, uint8_t *string, size_t length) {
-    uint64_t *slot, wanted = 0;
-    uint32_t told = by.slot(map, string, length, &length, &slot);
-    if (told == SELLUMAQ_TOO_SMALL && by.value(map, string, length, &length, &wanted) == SELLUMAQ_TOO_SMALL)
-        told = by.slot(map, string, wanted, &length, &slot);
-    if (told != SELLUMAQ_FOUND) return NULL;
-    string[length] = 0;
-    return slot;
-}
-
-/* A search from a string, which the string found replaces. */
+/* A search from a string, which the string found replaces. One that is no longer fits the caller's room, and a longer
+ * one does too, as the manual page asks; how long it is is told first, so that nothing behind it is touched. */
 static PPvoid_t search(searcher by, Pcvoid_t array, uint8_t *string, PJError_t error) {
     READS(refuse_slot);
     sellumaq_judysl map = {(void *)array};
     size_t length = strlen((const char *)string);
-    bool is_short = length <= SHORT && sellumaq_judysl_longest(&map) <= SHORT;
-    return (PPvoid_t)(is_short ? search_short(by.slot, &map, string, length) : search_long(by, &map, string, length));
+    uint64_t *slot, wanted = 0;
+    uint32_t told = length <= SHORT ? search_short(by.slot, &map, string, &length, &slot)
+                                    : by.slot(&map, string, length, &length, &slot);
+    if (told == SELLUMAQ_TOO_SMALL && by.value(&map, string, length, &length, &wanted) == SELLUMAQ_TOO_SMALL)
+        told = by.slot(&map, string, wanted, &length, &slot);
+    if (told != SELLUMAQ_FOUND) return NULL;
+    string[length] = 0;
+    return (PPvoid_t)slot;
 }
 
 #define STRING_SEARCH(name, which) \

@@ -23,7 +23,11 @@ fn key(length: usize, first: u8, last: u8) -> Vec<u8> {
 
 /// Keys of each length: three that share all but the last byte, and one that begins otherwise.
 fn plain() -> Plain {
-    let keys = LENGTHS.iter().flat_map(|&length| {
+    plain_of(&LENGTHS)
+}
+
+fn plain_of(lengths: &[usize]) -> Plain {
+    let keys = lengths.iter().flat_map(|&length| {
         let others = [key(length, b'a', b'b'), key(length, 0xff, 0xff)];
         [key(length, b'a', b'a'), key(length, b'a', b'c')]
             .into_iter()
@@ -108,9 +112,9 @@ fn ends(key: &[u8]) -> [Vec<u8>; 4] {
 
 #[test]
 fn ranges_end_at_any_string() {
-    let plain = plain();
+    let plain = plain_of(&LENGTHS[..5]);
     let map = map_of(&plain);
-    for key in plain.keys().filter(|key| key.len() < 100_000) {
+    for key in plain.keys() {
         for end in &ends(key) {
             let std = || plain.range::<[u8], _>((Included(&end[..]), Unbounded));
             assert!(map.range(end..).eq(std().map(pair)));
@@ -198,7 +202,8 @@ fn ranges_and_prefixes_go() {
             .eq(plain.range(keys[to].clone()..).map(pair)));
         assert_eq!(map.len(), to);
     }
-    for key in &keys {
+    let plain = plain_of(&LENGTHS[..5]);
+    for key in plain.keys() {
         let mut map = map_of(&plain);
         let (gone, left): (Vec<_>, Vec<_>) =
             plain.iter().partition(|(other, _)| other.starts_with(key));

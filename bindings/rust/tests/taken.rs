@@ -144,7 +144,7 @@ fn byte_strings_that_are_chosen() {
 fn strings() -> [BTreeMap<Vec<u8>, u64>; 3] {
     let long = |n: u64| {
         [
-            vec![b'x'; mixed(n) as usize % 6000 + 1],
+            vec![b'x'; mixed(n) as usize % 1300 + 1],
             n.to_string().into_bytes(),
         ]
         .concat()
