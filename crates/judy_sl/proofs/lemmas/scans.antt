@@ -7,4 +7,3 @@ pub mod ScanMaps
 pub mod LevelEntries
 pub mod RunWays
 pub mod Fronts
-pub mod Rooms
