@@ -4,8 +4,8 @@
 //! own.
 //!
 //! strings.rt has the rows of arrays over strings, cursors.rt those of walks over them, readers.rt those of keys read
-//! where they stand, two_arrays.rt those of what two have together, long_keys.rt the same of keys that have more bytes
-//! than a store's, bytes.rt those of arrays over byte strings, and check.rt what rows compare.
+//! where they stand, two_arrays.rt those of what two have together, bytes.rt those of arrays over byte strings, and
+//! check.rt what rows compare. C's tests have those of keys longer than a store's.
 #![tactic(auto)]
 
 #[cfg(test)]
@@ -14,8 +14,6 @@ mod bytes;
 mod check;
 #[cfg(test)]
 mod cursors;
-#[cfg(test)]
-mod long_keys;
 #[cfg(test)]
 mod readers;
 #[cfg(test)]
