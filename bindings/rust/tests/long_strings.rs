@@ -1,5 +1,5 @@
-//! Maps from strings whose keys are longer than the room that a call brings: what is told of them from both ends, beside
-//! std's map, and what becomes of them where memory is refused.
+//! Maps from strings whose keys are longer than the room that a call brings: what is told of them from both ends,
+//! beside std's map, and what becomes of them where memory is refused.
 use sellumaq::{DumpFault, InsertError, JudySl, MAX_SAVED_KEY};
 use std::collections::BTreeMap;
 use std::ops::Bound::{Excluded, Included, Unbounded};
