@@ -17,6 +17,9 @@ pub struct Search<T> {
 /// A key that has no more bytes is written to a buffer on the stack first.
 pub const SHORT: usize = 1024;
 
+/// Room for the longest key, in which a search takes one way down the map and not two, is taken up to so many bytes.
+pub const SPARE: usize = 64 * SHORT;
+
 impl<T> Search<T> {
     pub const fn of(scan: Scan<T>, measure: Scan<u64>) -> Search<T> {
         Search { scan, measure }
@@ -33,69 +36,98 @@ impl<T> Search<T> {
         string: &[u8],
         told: &mut T,
     ) -> Option<Vec<u8>> {
-        let found = in_room(string, |room| {
-            // SAFETY: as the caller says; the room has as many bytes as the string.
-            match unsafe { scan(self.scan, handle, string, room, told) } {
-                (sys::SELLUMAQ_FOUND, length) => {
-                    // SAFETY: the call wrote a key of this length to the front of the room.
-                    let key = unsafe { from_raw_parts(room.as_ptr().cast::<u8>(), length) };
-                    Ok(key.to_vec())
-                }
-                (answer, _) => Err(answer),
+        if string.len() <= SHORT {
+            // SAFETY: as the caller says; the string is short.
+            match unsafe { self.find_short(handle, string, told) } {
+                Err(sys::SELLUMAQ_TOO_SMALL) => {}
+                found => return found.ok(),
             }
-        });
-        match found {
-            Ok(key) => Some(key),
-            // SAFETY: as the caller says.
-            Err(sys::SELLUMAQ_TOO_SMALL) => unsafe { self.find_long(handle, string, told) },
-            Err(_) => None,
         }
+        // SAFETY: as the caller says.
+        let longest = unsafe { sys::sellumaq_judysl_longest(&handle) };
+        let mut key = Vec::with_capacity(longest.min(SPARE).max(string.len()));
+        key.extend_from_slice(string);
+        // SAFETY: as the caller says.
+        let is_found = unsafe { self.replace(handle, &mut key, 0, told) };
+        key.shrink_to_fit();
+        is_found.then_some(key)
     }
 
-    // The same of a key that has more bytes than that room.
+    // The same from a short string, for a short key; else what is answered.
     //
-    // SAFETY: as of `find`.
-    unsafe fn find_long(
+    // SAFETY: as of `find`, and the string has at most `SHORT` bytes.
+    unsafe fn find_short(
         &self,
         handle: sys::sellumaq_judysl,
         string: &[u8],
         told: &mut T,
-    ) -> Option<Vec<u8>> {
-        // SAFETY: as the caller says.
-        let length = unsafe { self.found_length(handle, string) }?;
-        let mut key = Vec::with_capacity(length.max(string.len()));
-        let room = key.spare_capacity_mut();
-        // SAFETY: as the caller says; the room has as many bytes as the string.
-        match unsafe { scan(self.scan, handle, string, room, told) } {
-            (sys::SELLUMAQ_FOUND, length) => {
-                // SAFETY: the call wrote a key of this length to the front of the room.
-                unsafe { key.set_len(length) };
-                Some(key)
-            }
-            _ => None,
+    ) -> Result<Vec<u8>, u32> {
+        let (mut room, mut length) = ([MaybeUninit::uninit(); SHORT], string.len());
+        for (to, byte) in room.iter_mut().zip(string) {
+            to.write(*byte);
+        }
+        let buffer = room.as_mut_ptr().cast();
+        // SAFETY: the buffer has the bytes that it is said to have, the string is no longer, and all that the call
+        // writes to is the caller's or this function's.
+        match unsafe { (self.scan)(&handle, buffer, SHORT, &mut length, told) } {
+            // SAFETY: the call wrote a key of this length to the front of the buffer.
+            sys::SELLUMAQ_FOUND => Ok(unsafe { from_raw_parts(buffer, length) }.to_vec()),
+            answer => Err(answer),
         }
     }
 
-    /// How many bytes the key has that is found from a string without zero bytes on.
+    /// Puts the key found from the string on that some bytes end with, from a place on, in the place of that; they get
+    /// more room where they have too little. False where there is none, and then the string goes.
     ///
     /// # Safety
     ///
-    /// As of [`find`](Self::find).
-    pub unsafe fn found_length(
+    /// As of [`find`](Self::find); the string begins within the bytes and has no zero byte.
+    pub unsafe fn replace(
         &self,
         handle: sys::sellumaq_judysl,
-        string: &[u8],
-    ) -> Option<usize> {
-        let mut told = 0;
-        // SAFETY: as the caller says; the room has as many bytes as the string.
-        match in_room(string, |room| unsafe {
-            scan(self.measure, handle, string, room, &mut told)
-        }) {
-            (sys::SELLUMAQ_FOUND, length) => Some(length),
-            (sys::SELLUMAQ_TOO_SMALL, _) => Some(told as usize),
-            _ => None,
+        bytes: &mut Vec<u8>,
+        place: usize,
+        told: &mut T,
+    ) -> bool {
+        // SAFETY: as the caller says.
+        let mut answer = unsafe { replace_by(self.scan, handle, bytes, place, told) };
+        if answer == sys::SELLUMAQ_TOO_SMALL {
+            let mut wanted = 0;
+            // SAFETY: as the caller says. The answer is the same, and tells how long the key is.
+            unsafe { replace_by(self.measure, handle, bytes, place, &mut wanted) };
+            bytes.reserve((place + wanted as usize).saturating_sub(bytes.len()));
+            // SAFETY: as the caller says.
+            answer = unsafe { replace_by(self.scan, handle, bytes, place, told) };
         }
+        if answer != sys::SELLUMAQ_FOUND {
+            bytes.truncate(place);
+        }
+        answer == sys::SELLUMAQ_FOUND
     }
+}
+
+// Makes a scan from the string that some bytes end with, within the room that they have. Where it finds a key the bytes
+// end with that.
+//
+// SAFETY: as of `Search::replace`.
+unsafe fn replace_by<T>(
+    scan: Scan<T>,
+    handle: sys::sellumaq_judysl,
+    bytes: &mut Vec<u8>,
+    place: usize,
+    told: &mut T,
+) -> u32 {
+    let (capacity, mut length) = (bytes.capacity() - place, bytes.len() - place);
+    // SAFETY: the place is within the bytes.
+    let buffer = unsafe { bytes.as_mut_ptr().add(place) };
+    // SAFETY: the buffer has the bytes that it is said to have, the string is no longer, and all that the call writes
+    // to is the caller's or this function's.
+    let answer = unsafe { scan(&handle, buffer, capacity, &mut length, told) };
+    if answer == sys::SELLUMAQ_FOUND {
+        // SAFETY: the call wrote a key of this length to the place.
+        unsafe { bytes.set_len(place + length) };
+    }
+    answer
 }
 
 /// The n-th key, counted from 1, and its value.
@@ -135,34 +167,4 @@ unsafe fn long_nth(handle: sys::sellumaq_judysl, n: u64, room: usize) -> Option<
     // SAFETY: the call wrote a key of this length to the front of the buffer.
     unsafe { key.set_len(length) };
     Some((key, value))
-}
-
-// Hands out room for a string, and for each short key.
-fn in_room<R>(string: &[u8], act: impl FnOnce(&mut [MaybeUninit<u8>]) -> R) -> R {
-    if string.len() > SHORT {
-        return act(Vec::with_capacity(string.len()).spare_capacity_mut());
-    }
-    act(&mut [MaybeUninit::uninit(); SHORT])
-}
-
-// Makes a scan from a string in some room. What it answers, and the length of the string or the key that the room
-// begins with then.
-//
-// SAFETY: the handle is an array's that isn't changed meanwhile, the scan is one of `sellumaq_sys`, and the room has as
-// many bytes as the string.
-unsafe fn scan<T>(
-    scan: Scan<T>,
-    handle: sys::sellumaq_judysl,
-    string: &[u8],
-    room: &mut [MaybeUninit<u8>],
-    told: &mut T,
-) -> (u32, usize) {
-    for (to, byte) in room.iter_mut().zip(string) {
-        to.write(*byte);
-    }
-    let (buffer, capacity, mut length) = (room.as_mut_ptr().cast(), room.len(), string.len());
-    // SAFETY: the buffer has the bytes that it is said to have, the string is no longer, and all that the call writes
-    // to is the caller's or this function's.
-    let answer = unsafe { scan(&handle, buffer, capacity, &mut length, told) };
-    (answer, length)
 }

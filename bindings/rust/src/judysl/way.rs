@@ -1,7 +1,7 @@
 //! The ways of iterators through a map from strings, from both ends of a range.
 use super::{JudySl, StringRange};
 use crate::edge::Edge;
-use crate::search::{Search, SHORT};
+use crate::search::{Search, SHORT, SPARE};
 use crate::types::Value;
 use sellumaq_sys as sys;
 use std::iter::from_fn;
@@ -25,12 +25,9 @@ pub const DOWN_TO_SLOTS: [Search<*mut u64>; 2] = [
     Search::of(sys::sellumaq_judysl_prev_slot, sys::sellumaq_judysl_prev),
 ];
 
-/// How many keys a call of C brings at most, and for how many bytes there is room, but where one key has more.
+/// How many keys a page has at most, and for how many bytes there is room, but where one key has more.
 const MOST: usize = 64;
 const ROOM: usize = 4 * SHORT;
-
-/// How many bytes a page that is brought from above has at most, but where one key has more.
-const MOST_BYTES: usize = MOST * SHORT;
 
 /// A way of which each step is one way down the map.
 #[derive(Clone)]
@@ -193,27 +190,10 @@ impl Page {
     // Brings pairs of a map from a string on behind those that are there, up to so many, and answers whether there are
     // any more.
     fn fill<V: Value>(&mut self, map: &JudySl<V>, from: &[u8], itself: bool, up_to: usize) -> bool {
+        if map.longest_key_len() > SHORT {
+            return self.step(map, from, itself, up_to);
+        }
         self.bytes.reserve(if up_to == 1 { SHORT } else { ROOM });
-        if self.walk(map, from, itself, up_to) {
-            return true;
-        }
-        if map.longest_key_len() <= self.bytes.capacity() - self.bytes.len() {
-            return false;
-        }
-        // the next key has more bytes than there is room for, or there is none
-        let search = &UP[usize::from(!itself)];
-        // SAFETY: the map is borrowed, and the search is this kind's.
-        match unsafe { search.found_length(map.handle, from) } {
-            Some(length) => {
-                self.bytes.reserve(length);
-                self.walk(map, from, itself, up_to)
-            }
-            None => false,
-        }
-    }
-
-    // The same of those for which there is room.
-    fn walk<V: Value>(&mut self, map: &JudySl<V>, from: &[u8], itself: bool, up_to: usize) -> bool {
         let (handle, begin, had) = (map.handle, self.bytes.len(), self.entries.len());
         self.entries.reserve(up_to - had);
         let bytes = self.bytes.spare_capacity_mut();
@@ -240,6 +220,30 @@ impl Page {
         // SAFETY: it wrote as many bytes as their keys have.
         unsafe { self.bytes.set_len(begin + written) };
         count > 0
+    }
+
+    // The same by a search for each key, where a long one was put in: there the library's walk takes more ways down the
+    // map for each, and a search one where there is room for any key.
+    fn step<V: Value>(&mut self, map: &JudySl<V>, from: &[u8], itself: bool, up_to: usize) -> bool {
+        let (begin, had) = (self.bytes.len(), self.entries.len());
+        let (mut place, mut search) = (begin, &UP[usize::from(!itself)]);
+        let spare = map.longest_key_len().min(SPARE);
+        let room = if up_to == 1 { SHORT } else { ROOM + spare };
+        self.bytes.reserve(room);
+        self.bytes.extend_from_slice(from);
+        let mut value = 0;
+        // SAFETY: the map is borrowed, and the search is this kind's. It begins at the string given, or at a key that
+        // stands behind itself once more.
+        while unsafe { search.replace(map.handle, &mut self.bytes, place, &mut value) } {
+            let length = self.bytes.len() - place;
+            self.entries.push(sys::sellumaq_entry { length, value });
+            if self.entries.len() == up_to || self.bytes.len() - begin >= ROOM {
+                break;
+            }
+            self.bytes.extend_from_within(place..);
+            (place, search) = (place + length, &UP[1]);
+        }
+        self.entries.len() > had
     }
 
     // Brings so many pairs of a map, from a key of it on.
@@ -289,10 +293,10 @@ impl Way {
     }
 
     // Brings the greatest pairs that are left: one by a search, for a way that is soon left, and then those at some
-    // places up to the one before. False where none is left.
+    // places up to the one before; by searches alone where a long key was put in. False where none is left.
     fn bring_back<V: Value>(&mut self, map: &JudySl<V>) -> bool {
-        if self.back.most == 1 {
-            self.back.most = 8;
+        if self.back.most == 1 || map.longest_key_len() > SHORT {
+            self.back.turn();
             return self.ends.next_back(map).map_or(false, |(key, value)| {
                 self.back.hold(&key, value);
                 true
@@ -301,8 +305,7 @@ impl Way {
         let below = self
             .below
             .unwrap_or_else(|| map.count_up_to(&self.ends.back));
-        let room = MOST_BYTES / map.longest_key_len().max(1);
-        let count = self.back.most.min(below).min(room.max(1));
+        let count = self.back.most.min(below);
         if count == 0 {
             return false;
         }
