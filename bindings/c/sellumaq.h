@@ -463,7 +463,9 @@ uint32_t sellumaq_judysl_prev_slot(const sellumaq_judysl *map, uint8_t *buffer, 
  * place in `entries`; what stands behind them in both stays. Answers how many keys it told. It ends where no key is
  * left, or where the `room` bytes or the `capacity` entries have no place for the next one. With as many bytes of room
  * as `sellumaq_judysl_longest` tells, and one entry, 0 says that no key is left. 0 too where a byte of the string is
- * zero. */
+ * zero. Each key but the first is a step from the one before it. Only where `sellumaq_judysl_longest` tells more than
+ * 1,024 bytes, or the string has more, it is several ways down the map: there `sellumaq_judysl_next` takes less time,
+ * with room for the longest key. */
 size_t sellumaq_judysl_walk(const sellumaq_judysl *map, const uint8_t *from, size_t length, bool itself,
                             uint8_t *bytes, size_t room, sellumaq_entry *entries, size_t capacity);
 
