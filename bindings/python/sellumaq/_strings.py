@@ -96,7 +96,7 @@ class _Ordered(PlacedDict, Joined, _Strings):
 
     def discard_range(self, start: Any = None, stop: Any = None) -> int:
         """Takes the keys from start on and below stop out, and answers how many they were. It can't want memory, but
-        for the two strings, and where a key has more than 1,024 bytes; a MemoryError leaves all.
+        for the two strings, and where a key of more than 1,024 bytes came in; a MemoryError leaves all.
 
         >>> from sellumaq import JudySL
         >>> ages = JudySL(a=1, b=2, c=3)
