@@ -17,7 +17,7 @@ impl Strings {
     /// A string over a few bytes, so that keys come again, begin one another, and are cut anywhere in their pieces of
     /// eight bytes.
     fn of(&mut self, bytes: &[u8]) -> Vec<u8> {
-        let shared = [0, 0, 7, 8, 9, 40, 1023][self.any() as usize % 7];
+        let shared = [0, 0, 7, 8, 9, 40, 1023, 4097][self.any() as usize % 8];
         let own = self.any() % 4;
         let mut string = vec![bytes[0]; shared];
         string.extend((0..own).map(|_| bytes[self.any() as usize % bytes.len()]));
