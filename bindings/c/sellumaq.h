@@ -401,7 +401,7 @@ typedef struct { size_t length; uint64_t value; } sellumaq_entry;
  *
  * A key is a string of any number of bytes of which none is zero, without the zero byte that ends it in C. The order
  * is that of its bytes as unsigned numbers, a string before those that go on behind it. No call goes deeper for a
- * longer key, and none that searches, counts or deletes one key asks for memory. */
+ * longer key, none that searches or counts asks for memory, and no delete of one is refused. */
 
 typedef struct { void *array; } sellumaq_judysl;
 
@@ -511,7 +511,7 @@ bool sellumaq_judysl_longest_prefix(const sellumaq_judysl *map, const uint8_t *b
 
 /* Takes the keys from one string to another out, both included, and answers how many they were: 0 where the first is
  * above the second, and where one has a zero byte. Only where `sellumaq_judysl_longest` tells more than 1,024 bytes,
- * or the first string has more, it asks for as much memory. Where that is refused it answers UINT64_MAX, and nothing
+ * or the first string has more, it needs as much memory. Where that is refused it answers UINT64_MAX, and nothing
  * changed. */
 uint64_t sellumaq_judysl_remove_range(sellumaq_judysl *map, const uint8_t *from, size_t from_length, const uint8_t *to,
     size_t to_length);

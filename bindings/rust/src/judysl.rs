@@ -381,7 +381,7 @@ impl<V: Value> JudySl<V> {
     }
 
     /// Takes all keys of a range out, and answers how many they were. Where a key of more than 1,024 bytes was put in
-    /// since the map was last empty it asks for memory, and ends the program where there is none.
+    /// since the map was last empty it needs memory, and ends the program where there is none.
     ///
     /// ```
     /// let mut map = sellumaq::JudySl::from([("a", 10), ("b", 20), ("c", 30)]);
@@ -412,7 +412,7 @@ impl<V: Value> JudySl<V> {
         }
     }
 
-    /// Takes all keys out that begin with some bytes, and answers how many they were. It asks for memory as
+    /// Takes all keys out that begin with some bytes, and answers how many they were. It needs memory as
     /// [`remove_range`](Self::remove_range) does.
     ///
     /// ```
