@@ -487,7 +487,8 @@ uint64_t sellumaq_judysl_len(const sellumaq_judysl *map);
 uint64_t sellumaq_judysl_bytes(const sellumaq_judysl *map);
 
 /* How many bytes the longest key had that came in since the map was last empty, also where it has gone: no key has
- * more. 0 of the empty map. A buffer of so many bytes is never too small. */
+ * more. 0 where the handle is zeros. A buffer of so many bytes is never too small. That is proved; that the number is
+ * no greater is tested. */
 size_t sellumaq_judysl_longest(const sellumaq_judysl *map);
 
 /* How many keys there are from one string to another, both included; 0 where the first is above the second, or where
@@ -511,8 +512,8 @@ bool sellumaq_judysl_longest_prefix(const sellumaq_judysl *map, const uint8_t *b
 
 /* Takes the keys from one string to another out, both included, and answers how many they were: 0 where the first is
  * above the second, and where one has a zero byte. Only where `sellumaq_judysl_longest` tells more than 1,024 bytes,
- * or the first string has more, it needs as much memory. Where that is refused it answers UINT64_MAX, and nothing
- * changed. */
+ * or the first string has more, it needs as much memory, which is tested and not proved. Where that is refused it
+ * answers UINT64_MAX, and nothing changed. */
 uint64_t sellumaq_judysl_remove_range(sellumaq_judysl *map, const uint8_t *from, size_t from_length, const uint8_t *to,
     size_t to_length);
 
