@@ -328,9 +328,6 @@ module _ (chunks seen : List Pairs) (word at : ℕ) (lent : Pairs) (are : AreChu
   pub lent_found : find word_order word lent ≡ find word_order word (joined chunks)
   lent_found = ap (find word_order word) is_chunk ∙ sym (find_chunk chunks word at are here)
 
-  pub lent_sum : sum_of lent ≤ sum_of (joined chunks)
-  lent_sum = let one = ap sum_of is_chunk in let most = sum_within chunks at here.within in omega arith
-
   pub lent_put : (new : Pairs) (number : ℕ) → new ≡ put word_order word number lent → joined (set chunks at new) ≡ put word_order word number (joined chunks)
   lent_put new number e = ap (λ chunk. joined (set chunks at chunk)) (e ∙ ap (put word_order word number) is_chunk) ∙ put_is chunks word at are here number
 

@@ -8,7 +8,7 @@ use Rattle.judy_model.specs.Keys.{word_order}
 use Rattle.judy_sums.specs.Pairs.{Pairs, sum_of, number_in, without, put_less}
 use Rattle.judy_sums.specs.Chunks.{AllBelow, AllFrom, Ascends, AreChunks, BelongsTo, IsPlace, StandsAt, IsSpot, pair_at, joined}
 use Rattle.judy_sums.proofs.PairLemmas.{head_from, tail_ascends, from_first, before_pair, found_at, put_new, there_within, there_is, there_put, there_without}
-use Rattle.judy_sums.proofs.ChunkLemmas.{joined_split, chunk_ascends, find_chunk, sum_put, length_there, length_new, lent_ascends, lent_found, lent_sum, lent_put, lent_are}
+use Rattle.judy_sums.proofs.ChunkLemmas.{joined_split, chunk_ascends, find_chunk, sum_put, length_there, length_new, lent_ascends, lent_found, lent_put, lent_are}
 use Rattle.judy_sums.proofs.ChunkLemmas.{lent_without, lent_are_left, lent_gone, lent_are_gone}
 
 below_left : (front back : Pairs) (word : ℕ) → AllBelow (front ++ back) word → AllBelow front word
@@ -96,9 +96,6 @@ module _ (chunks : List Pairs) (at place : ℕ) (are : AreChunks chunks) (within
   module _ (lent : Pairs) (is : lent ≡ get_or chunks at lent) where
     lends : lent ≡ get_or chunks at []
     lends = get_or_read chunks at lent within is []
-
-    pub lent_fits : sum_of lent ≤ sum_of (joined chunks)
-    lent_fits = lent_sum chunks chunks (pair_at chunks at place).0 at lent are refl belongs_here is
 
     here_some : IsSome (find word_order (pair_at chunks at place).0 (get_or chunks at []))
     here_some = subst (λ (found : Option ℕ). IsSome found) (find_chunk chunks (pair_at chunks at place).0 at are belongs_here) some_is
@@ -201,9 +198,6 @@ module _ (chunks : List Pairs) (word at place : ℕ) (are : AreChunks chunks) (s
 
   -- A new word is put into the chunk that is lent.
   module _ (lent new : Pairs) (number : ℕ) (is : lent ≡ get_or chunks at lent) (absent : find word_order word (joined chunks) ≡ None) where
-    pub spot_fits : sum_of lent ≤ sum_of (joined chunks)
-    spot_fits = lent_sum chunks chunks word at lent are refl spot.belongs is
-
     put_in : new ≡ insert lent place (word, number) → new ≡ put word_order word number lent
     put_in e =
         e

@@ -1,6 +1,6 @@
 -- Pairs in chunks: one list of pairs after the other.
-use Rattle.std.specs.Prelude.{◌≡◌, ◌<◌, ◌≤◌, ◌^◌, ℕ, suc, List, [], ◌∷◌, length, take, drop, get_or, T}
-use Rattle.std.specs.List.{flat_map}
+use Rattle.std.specs.Prelude.{◌≡◌, ◌<◌, ◌≤◌, ◌^◌, ℕ, suc, List, [], ◌∷◌, length, take, drop, map, get_or, set, T}
+use Rattle.std.specs.List.{flat_map, remove}
 use Rattle.std.specs.FinMap.{is_sorted}
 use Rattle.judy_model.specs.Keys.{word_order}
 use Rattle.judy_sums.specs.Pairs.{Pairs, sum_of}
@@ -19,11 +19,6 @@ BeginsAbove (pair ∷ rest) word = word < pair.0
 abbrev pub IsFirst : Pairs → ℕ → Type 0
 IsFirst [] word = Unit {0}
 IsFirst (pair ∷ rest) word = word ≡ pair.0
-
--- What a chunk tells without a look at its pairs: their sum, and their first word.
-pub record TellsOf (pairs : Pairs) (total first : ℕ) : Type 0 where
-  pub sums : total ≡ sum_of pairs
-  pub begins : IsFirst pairs first
 
 -- Each word of the pairs is less than the given one.
 abbrev pub AllBelow : Pairs → ℕ → Type 0
@@ -48,6 +43,15 @@ Ascends pairs = T (is_sorted word_order pairs)
 -- The pairs of all chunks, in a row.
 abbrev pub joined : List Pairs → Pairs
 joined chunks = flat_map (λ chunk. chunk) chunks
+
+-- The sum of each chunk.
+abbrev pub totals_of : List Pairs → List ℕ
+totals_of chunks = map sum_of chunks
+
+-- The chunks with another in the place of one, or without it where the other has no pair.
+abbrev pub with_left : List Pairs → ℕ → Pairs → List Pairs
+with_left chunks at [] = remove chunks at
+with_left chunks at (pair ∷ rest) = set chunks at (pair ∷ rest)
 
 -- Each chunk has a pair.
 abbrev pub AllFilled : List Pairs → Type 0

@@ -78,24 +78,22 @@ fn cut_off(entries: &mut Vec<Entry>, at: usize) -> Result<Vec<Entry>, AllocError
     Ok(upper)
 }
 
-// The entries, with the sum of the numbers and the first word beside, so that a search over chunks and a sum of them
-// take no look at entries.
+// The entries, with the first word beside, so that a search over chunks takes no look at entries.
 #[derive(Drop)]
 pub struct Chunk {
-    total: u64,
     first: u64,
     entries: Vec<Entry>,
 }
 
 impl Model for Chunk {
     ghost use Rattle.judy_sums.specs.Pairs.{Pairs};
-    ghost use Rattle.judy_sums.specs.Chunks.{TellsOf};
+    ghost use Rattle.judy_sums.specs.Chunks.{IsFirst};
 
     ghost Value = { Pairs };
 
     ghost view = { λ chunk. chunk.entries.items };
 
-    ghost invariant = { λ chunk. TellsOf chunk.entries.items chunk.total chunk.first };
+    ghost invariant = { λ chunk. IsFirst chunk.entries.items chunk.first };
 }
 
 impl Chunk {
@@ -103,15 +101,10 @@ impl Chunk {
     pub fn of(alloc: Global, entry: Entry) -> Result<Chunk, AllocError>
         ensures { IfOk result (λ chunk. chunk ≡ entry ∷ []) }
     {
-        let total = entry.number();
         let first = entry.word();
         let mut entries = Vec::new(alloc);
         entries.push(entry)?;
-        Ok(Chunk {
-            total,
-            first,
-            entries,
-        })
+        Ok(Chunk { first, entries })
     }
 
     // How many entries there are.
@@ -134,11 +127,12 @@ impl Chunk {
         self.first <= word
     }
 
-    // The sum of the numbers.
+    // The sum of the numbers. It goes over the entries.
     pub fn total(&self) -> u64
+        requires { sum_of self.now < 2 ^ 64 }
         ensures { result ≡ sum_of self.now }
     {
-        self.total
+        sum(&self.entries)
     }
 
     // The place of a word, or that it would have.
@@ -185,7 +179,6 @@ impl Chunk {
             self.new ≡ slice_set self.old at (pair.0, pair.1 + 1) }
     {
         self.entries[at].raise();
-        self.total += 1;
     }
 
     // Takes one from the number at a place.
@@ -196,54 +189,44 @@ impl Chunk {
             self.new ≡ slice_set self.old at (pair.0, pair.1 - 1) }
     {
         self.entries[at].lower();
-        self.total -= 1;
     }
 
     // Puts an entry in at a place. The error is want of memory.
     pub fn insert(&mut self, at: usize, entry: Entry) -> Result<(), AllocError>
-        requires within { at ≤ length self.old }
-        requires fits { sum_of self.old + entry.1 < 2 ^ 64 }
+        requires { at ≤ length self.old }
         ensures inserted { OnOk result (self.new ≡ insert self.old at entry) }
         ensures unchanged { OnErr result (self.new ≡ self.old) }
     {
-        let number = entry.number();
         let word = entry.word();
         insert_at(&mut self.entries, at, entry)?;
-        self.total += number;
         if at == 0 {
             self.first = word;
         }
         Ok(())
     }
 
-    // Takes the entry at a place out.
-    pub fn remove(&mut self, at: usize)
+    // Takes the entry at a place out, and answers its number.
+    pub fn remove(&mut self, at: usize) -> u64
         requires { at < length self.old }
-        ensures { self.new ≡ remove self.old at }
+        ensures removed { self.new ≡ remove self.old at }
+        ensures number { result ≡ (get_or self.old at (0, 0)).1 }
     {
         let entry = self.entries.remove(at);
-        self.total -= entry.number();
         if at == 0 {
             self.first = first_word(&self.entries);
         }
+        entry.number()
     }
 
     // Cuts the upper half off. The error is want of memory, and the chunk stays whole then.
     pub fn cut_half(&mut self) -> Result<Chunk, AllocError>
-        requires fits { sum_of self.old < 2 ^ 64 }
         ensures upper { IfOk result (λ upper. upper ≡ drop (length self.old / 2) self.old) }
         ensures lower { OnOk result (self.new ≡ take (length self.old / 2) self.old) }
         ensures unchanged { OnErr result (self.new ≡ self.old) }
     {
         let half = self.entries.len() / 2;
         let entries = cut_off(&mut self.entries, half)?;
-        let total = sum(&entries);
-        self.total -= total;
         let first = first_word(&entries);
-        Ok(Chunk {
-            total,
-            first,
-            entries,
-        })
+        Ok(Chunk { first, entries })
     }
 }

@@ -5,6 +5,7 @@ ghost use Rattle.judy_sums.specs.Pairs.{sum_of, sum_below};
 ghost use Rattle.judy_sums.specs.Chunks.{AreChunks, BelongsTo, IsSpot, StandsAt, pair_at, joined};
 
 use crate::chunk::Chunk;
+use crate::row::Chunks;
 
 // A place in the list: the chunk, and the place in there.
 #[derive(Clone, Copy)]
@@ -54,28 +55,17 @@ pub fn stands(chunks: &[Chunk], word: u64, spot: Spot) -> bool
     }
 }
 
-// The sum of the numbers of some chunks.
-fn total_of(chunks: &[Chunk]) -> u64
-    requires { sum_of (joined chunks.now) < 2 ^ 64 }
-    ensures { result ≡ sum_of (joined chunks.now) }
-{
-    let mut total = 0;
-    for chunk in chunks {
-        total += chunk.total();
-    }
-    total
-}
-
 // The sum of the numbers whose words are less than the given one.
-pub fn below(chunks: &[Chunk], word: u64) -> u64
+pub fn below(chunks: &Chunks, word: u64) -> u64
     requires { AreChunks chunks.now }
     ensures { result ≡ sum_below (joined chunks.now) word }
 {
-    if chunks.is_empty() {
+    let all = chunks.all();
+    if all.is_empty() {
         return 0;
     }
-    let at = chunk_of(chunks, word);
-    total_of(&chunks[..at]) + chunks[at].below(word)
+    let at = chunk_of(all, word);
+    chunks.total_before(at) + all[at].below(word)
 }
 
 // The number at a place.

@@ -4,9 +4,10 @@
 //! memory is asked for only where a word comes in ([`Sums::raise`], [`Sums::add`]); the list is left as it was where it
 //! is refused. A [`LevelSums`] has lists under indices. The crate stands on judy_model alone.
 //!
-//! sums.rt has the list and its calls, level_sums.rt lists under indices, chunks.rt a list's chunks, chunk.rt one of
-//! them, and entry.rt a word with its number. comings.rt has how words come in, steps.rt one more and one less at a
-//! word, changes.rt what changes at a place, and laws.rt laws of counts over a level of an array of strings.
+//! sums.rt has the list and its calls, level_sums.rt lists under indices, row.rt a list's chunks with their sums,
+//! chunks.rt where a word belongs among them, chunk.rt one of them, and entry.rt a word with its number. comings.rt has
+//! how words come in, steps.rt one more and one less at a word, changes.rt what changes at a place, and laws.rt laws of
+//! counts over a level of an array of strings.
 #![tactic(auto)]
 
 mod changes;
@@ -16,6 +17,7 @@ mod comings;
 mod entry;
 pub mod laws;
 mod level_sums;
+mod row;
 mod steps;
 mod sums;
 

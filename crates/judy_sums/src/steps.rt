@@ -11,24 +11,25 @@ use crate::chunk::Chunk;
 use crate::chunks::{Spot, number, spot_of, stands};
 use crate::comings::{begin, bring_in};
 use crate::entry::Entry;
+use crate::row::Chunks;
 use std::alloc::AllocError;
 
 // Adds one to the number of a word. The error is want of memory, for a word that isn't there.
-pub fn raise(chunks: &mut Vec<Chunk>, word: u64) -> Result<(), AllocError>
-    requires are { AreChunks chunks.old.items }
-    requires few { length (joined chunks.old.items) + 1 < 2 ^ 64 }
-    requires fits { sum_of (joined chunks.old.items) + 1 < 2 ^ 64 }
-    ensures are { AreChunks chunks.new.items }
-    ensures raised { let old = joined chunks.old.items in
-        OnOk result (joined chunks.new.items ≡ put word_order word (number_in old word + 1) old) }
-    ensures unchanged { OnErr result (joined chunks.new.items ≡ joined chunks.old.items) }
-    ensures there { IsSome (find word_order word (joined chunks.old.items)) → IsOk result }
+pub fn raise(chunks: &mut Chunks, word: u64) -> Result<(), AllocError>
+    requires are { AreChunks chunks.old }
+    requires few { length (joined chunks.old) + 1 < 2 ^ 64 }
+    requires fits { sum_of (joined chunks.old) + 1 < 2 ^ 64 }
+    ensures are { AreChunks chunks.new }
+    ensures raised { let old = joined chunks.old in
+        OnOk result (joined chunks.new ≡ put word_order word (number_in old word + 1) old) }
+    ensures unchanged { OnErr result (joined chunks.new ≡ joined chunks.old) }
+    ensures there { IsSome (find word_order word (joined chunks.old)) → IsOk result }
 {
-    if chunks.is_empty() {
+    if chunks.all().is_empty() {
         return begin(chunks, Entry::new(word, 1));
     }
-    let spot = spot_of(chunks, word);
-    if stands(chunks, word, spot) {
+    let spot = spot_of(chunks.all(), word);
+    if stands(chunks.all(), word, spot) {
         changes::raise(chunks, spot);
         return Ok(());
     }
@@ -36,20 +37,20 @@ pub fn raise(chunks: &mut Vec<Chunk>, word: u64) -> Result<(), AllocError>
 }
 
 // Brings in a word that isn't there, with a number. The error is want of memory, and the list stays then.
-pub fn add(chunks: &mut Vec<Chunk>, word: u64, number: u64) -> Result<(), AllocError>
-    requires are { AreChunks chunks.old.items }
-    requires new { find word_order word (joined chunks.old.items) ≡ None }
-    requires few { length (joined chunks.old.items) + 1 < 2 ^ 64 }
-    requires fits { sum_of (joined chunks.old.items) + number < 2 ^ 64 }
-    ensures are { AreChunks chunks.new.items }
+pub fn add(chunks: &mut Chunks, word: u64, number: u64) -> Result<(), AllocError>
+    requires are { AreChunks chunks.old }
+    requires new { find word_order word (joined chunks.old) ≡ None }
+    requires few { length (joined chunks.old) + 1 < 2 ^ 64 }
+    requires fits { sum_of (joined chunks.old) + number < 2 ^ 64 }
+    ensures are { AreChunks chunks.new }
     ensures added { OnOk result
-        (joined chunks.new.items ≡ put word_order word number (joined chunks.old.items)) }
-    ensures unchanged { OnErr result (joined chunks.new.items ≡ joined chunks.old.items) }
+        (joined chunks.new ≡ put word_order word number (joined chunks.old)) }
+    ensures unchanged { OnErr result (joined chunks.new ≡ joined chunks.old) }
 {
-    if chunks.is_empty() {
+    if chunks.all().is_empty() {
         return begin(chunks, Entry::new(word, number));
     }
-    let place = spot_of(chunks, word);
+    let place = spot_of(chunks.all(), word);
     bring_in(chunks, Entry::new(word, number), place)
 }
 
@@ -75,15 +76,15 @@ fn spot_there(chunks: &[Chunk], word: u64) -> Spot
 }
 
 // Takes one from the number of a word that is there, which is 1 or more; with its last one the word goes.
-pub fn lower(chunks: &mut Vec<Chunk>, word: u64)
-    requires are { AreChunks chunks.old.items }
-    requires there { IsSome (find word_order word (joined chunks.old.items)) }
-    requires some { 1 ≤ number_in (joined chunks.old.items) word }
-    ensures are { AreChunks chunks.new.items }
-    ensures lowered { joined chunks.new.items ≡ put_less word (joined chunks.old.items) }
+pub fn lower(chunks: &mut Chunks, word: u64)
+    requires are { AreChunks chunks.old }
+    requires there { IsSome (find word_order word (joined chunks.old)) }
+    requires some { 1 ≤ number_in (joined chunks.old) word }
+    ensures are { AreChunks chunks.new }
+    ensures lowered { joined chunks.new ≡ put_less word (joined chunks.old) }
 {
-    let spot = spot_there(chunks, word);
-    if number(chunks, spot) == 1 {
+    let spot = spot_there(chunks.all(), word);
+    if number(chunks.all(), spot) == 1 {
         changes::remove(chunks, spot);
     } else {
         changes::lower(chunks, spot);

@@ -4,16 +4,15 @@ ghost use Rattle.std.specs.Prelude.{◌≡◌, ◌<◌, ◌≤◌, ◌+◌, ◌-
 ghost use Rattle.std.specs.FinMap as map;
 ghost use Rattle.judy_sums.specs.Pairs.{sum_of, sum_below, number_at, raised, lowered};
 
-use crate::chunk::Chunk;
+use crate::row::Chunks;
 use crate::{chunks, steps};
 use std::alloc::{AllocError, Global};
 use std::marker::Model;
-use std::mem::size_of;
 
 /// An ordered list of words with numbers. To contracts it is the finite map from the words to their numbers.
 #[derive(Drop)]
 pub struct Sums {
-    chunks: Vec<Chunk>,
+    chunks: Chunks,
 }
 
 impl Model for Sums {
@@ -27,9 +26,9 @@ impl Model for Sums {
 
     ghost coded = { code coded_ℕ coded_ℕ };
 
-    ghost view = { λ sums. from_sorted (joined sums.chunks.items) };
+    ghost view = { λ sums. from_sorted (joined sums.chunks) };
 
-    ghost invariant = { λ sums. AreChunks sums.chunks.items };
+    ghost invariant = { λ sums. AreChunks sums.chunks };
 }
 
 impl Sums {
@@ -38,7 +37,7 @@ impl Sums {
         ensures { result ≡ map.empty }
     {
         Sums {
-            chunks: Vec::new(alloc),
+            chunks: Chunks::new(alloc),
         }
     }
 
@@ -77,18 +76,14 @@ impl Sums {
     ///
     ///     Sums::new(Global).bytes() == 0
     pub fn bytes(&self) -> u64 {
-        let mut total = (self.chunks.capacity() as u64).wrapping_mul(size_of::<Chunk>() as u64);
-        for chunk in &self.chunks {
-            total = total.wrapping_add(chunk.bytes());
-        }
-        total
+        self.chunks.bytes()
     }
 
     /// Whether a word is there.
     pub fn holds(&self, word: u64) -> bool
         ensures { result ≡ map.contains_key self.now word }
     {
-        steps::holds(&self.chunks, word)
+        steps::holds(self.chunks.all(), word)
     }
 
     /// Takes one from the number of a word that is there, which is 1 or more; with its last one the word goes. It asks

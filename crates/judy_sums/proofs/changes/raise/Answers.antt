@@ -1,20 +1,29 @@
-use Rattle.std.proofs.Common.{◌+◌, arith}
-use Rattle.judy_sums.proofs.SpotLemmas.{lent_fits, changed_is, changed_are}
+use Rattle.std.proofs.Common.{[], ◌+◌, get_or, set, refl, ap, ◌∙◌, subst, sym, arith}
+use Rattle.judy_sums.specs.Chunks.{AreChunks, joined, pair_at}
+use Rattle.judy_sums.proofs.ChunkLemmas.{sum_within}
+use Rattle.judy_sums.proofs.RowLemmas.{lent_self}
+use Rattle.judy_sums.proofs.SpotLemmas.{changed_is, changed_are}
 use Rattle.judy_sums.proofs.changes.raise.Goals as goal
 
 pub raise-requires-clause-fits : goal.raise-requires-clause-fits
 raise-requires-clause-fits c =
-    let most = lent_fits c.args.chunks.now.items c.args.spot.chunk c.args.spot.at c.requires.are c.requires.chunk c.requires.place c.index_mut.result.now c.index_mut.ensures.value in
+    let most = sum_within c.args.chunks.now c.args.spot.chunk c.requires.chunk in
     let fits = c.requires.fits in
     omega arith
 
 pub returns-clause-are : goal.returns-clause-are
 returns-clause-are c =
+    let chunks = c.args.chunks.now in
+    let chunk = get_or chunks c.args.spot.chunk [] in
+    let pair = pair_at chunks c.args.spot.chunk c.args.spot.at in
     let fits = c.requires.fits in
-    changed_are c.args.chunks.now.items c.args.spot.chunk c.args.spot.at c.requires.are c.requires.chunk c.requires.place c.index_mut.result.now c.index_mut.ensures.value
-    (λ n. n + 1) c.raise.new.self c.raise.ensures (omega arith)
+    subst AreChunks (sym c.raise.ensures) (changed_are chunks c.args.spot.chunk c.args.spot.at c.requires.are c.requires.chunk c.requires.place
+    chunk (lent_self chunks c.args.spot.chunk c.requires.chunk) (λ n. n + 1) (set chunk c.args.spot.at (pair.0, pair.1 + 1)) refl (omega arith))
 
 pub returns-clause-changed : goal.returns-clause-changed
 returns-clause-changed c =
-    changed_is c.args.chunks.now.items c.args.spot.chunk c.args.spot.at c.requires.are c.requires.chunk c.requires.place c.index_mut.result.now c.index_mut.ensures.value
-    (λ n. n + 1) c.raise.new.self c.raise.ensures
+    let chunks = c.args.chunks.now in
+    let chunk = get_or chunks c.args.spot.chunk [] in
+    let pair = pair_at chunks c.args.spot.chunk c.args.spot.at in
+    ap joined c.raise.ensures ∙ changed_is chunks c.args.spot.chunk c.args.spot.at c.requires.are c.requires.chunk c.requires.place
+    chunk (lent_self chunks c.args.spot.chunk c.requires.chunk) (λ n. n + 1) (set chunk c.args.spot.at (pair.0, pair.1 + 1)) refl

@@ -1,7 +1,6 @@
 use Rattle.std.proofs.Common.{ℕ, zero, suc, ◌<◌, ◌≤◌, [], ◌∷◌, length, ap, arith, sym, subst}
 use Rattle.std.specs.List.{insert}
-use Rattle.std.proofs.lemmas.List.Sums.{sum_by-insert}
-use Rattle.judy_sums.specs.Pairs.{Pairs, sum_of}
+use Rattle.judy_sums.specs.Pairs.{Pairs}
 use Rattle.judy_sums.specs.Chunks.{IsFirst}
 use Rattle.judy_sums.proofs.chunk.Chunk.insert.Goals as goal
 
@@ -14,14 +13,7 @@ first_kept (other ∷ rest) (suc at) first pair behind within begins = begins
 pub invariant_of-self-else-at-eq0 : goal.invariant_of-self-else-at-eq0
 invariant_of-self-else-at-eq0 c =
     let pairs : Pairs = c.self.inside.entries.items in
-    let within : c.args.at ≤ length pairs = let long = ap length c.self.view_is in let in_it = c.requires.within in omega arith in
+    let within : c.args.at ≤ length pairs = let long = ap length c.self.view_is in let in_it = c.requires in omega arith in
     let apart = c.if-at-eq0.false in
-    let more = sum_by-insert (λ (pair : ℕ × ℕ). pair.1) pairs c.args.at c.args.entry in
-    let is = ap sum_of c.in_ok-insert_at.ensures.items in
-    let total = c.self.invariant.sums in
-    record {
-      sums = omega arith;
-      begins =
-          subst (λ (pairs : Pairs). IsFirst pairs c.self.inside.first) (sym c.in_ok-insert_at.ensures.items)
-          (first_kept pairs c.args.at c.self.inside.first c.args.entry (omega arith) within c.self.invariant.begins);
-    }
+    subst (λ (pairs : Pairs). IsFirst pairs c.self.inside.first) (sym c.in_ok-insert_at.ensures.items)
+    (first_kept pairs c.args.at c.self.inside.first c.args.entry (omega arith) within c.self.invariant)

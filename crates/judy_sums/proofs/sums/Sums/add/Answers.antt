@@ -5,17 +5,17 @@ use Rattle.judy_sums.proofs.SumsLemmas.{len_is, get_is, entries_is, insert_is}
 use Rattle.judy_sums.proofs.sums.Sums.add.Goals as goal
 
 pub add-requires-clause-new : goal.add-requires-clause-new
-add-requires-clause-new c = sym (get_is c.self.inside.chunks.items c.args.self.now c.self.invariant c.self.view_is c.args.word) ∙ c.requires.absent
+add-requires-clause-new c = sym (get_is c.self.inside.chunks c.args.self.now c.self.invariant c.self.view_is c.args.word) ∙ c.requires.absent
 
 pub add-requires-clause-few : goal.add-requires-clause-few
 add-requires-clause-few c =
-    let long = len_is c.self.inside.chunks.items c.args.self.now c.self.invariant c.self.view_is in
+    let long = len_is c.self.inside.chunks c.args.self.now c.self.invariant c.self.view_is in
     let few = c.requires.few in
     omega arith
 
 pub add-requires-clause-fits : goal.add-requires-clause-fits
 add-requires-clause-fits c =
-    let sums = ap sum_of (entries_is c.self.inside.chunks.items c.args.self.now c.self.invariant c.self.view_is) in
+    let sums = ap sum_of (entries_is c.self.inside.chunks c.args.self.now c.self.invariant c.self.view_is) in
     let fits = c.requires.fits in
     omega arith
 
@@ -25,4 +25,4 @@ on_ok (Err error) more holds = holds
 
 pub returns-clause-added : goal.returns-clause-added
 returns-clause-added c =
-    on_ok c.add.result (insert_is c.self.inside.chunks.items c.args.self.now c.self.invariant c.self.view_is c.add.new.chunks.items c.args.word c.args.number) c.add.ensures.added
+    on_ok c.add.result (insert_is c.self.inside.chunks c.args.self.now c.self.invariant c.self.view_is c.add.new.chunks c.args.word c.args.number) c.add.ensures.added

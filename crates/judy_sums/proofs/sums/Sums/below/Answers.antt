@@ -6,5 +6,4 @@ use Rattle.judy_sums.proofs.sums.Sums.below.Goals as goal
 
 pub returns : goal.returns
 returns c =
-    c.below.ensures ∙ ap (λ (pairs : Pairs). sum_below pairs c.args.word) (ap joined c.deref.ensures.value ∙
-    sym (entries_is c.self.inside.chunks.items c.args.self.now c.self.invariant c.self.view_is))
+    c.below.ensures ∙ ap (λ (pairs : Pairs). sum_below pairs c.args.word) (sym (entries_is c.self.inside.chunks c.args.self.now c.self.invariant c.self.view_is))

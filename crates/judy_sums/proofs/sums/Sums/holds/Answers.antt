@@ -9,5 +9,5 @@ use Rattle.judy_sums.proofs.sums.Sums.holds.Goals as goal
 pub returns : goal.returns
 returns c =
     c.holds.ensures
-    ∙ ap (λ (all : List Pairs). is_some (find word_order c.args.word (joined all))) c.deref.ensures.value
-    ∙ ap (λ (found : Option ℕ). is_some found) (sym (get_is c.self.inside.chunks.items c.args.self.now c.self.invariant c.self.view_is c.args.word))
+    ∙ ap (λ (all : List Pairs). is_some (find word_order c.args.word (joined all))) c.all.ensures
+    ∙ ap (λ (found : Option ℕ). is_some found) (sym (get_is c.self.inside.chunks c.args.self.now c.self.invariant c.self.view_is c.args.word))

@@ -6,4 +6,4 @@ use Rattle.judy_sums.specs.Chunks.{joined}
 use Rattle.judy_sums.proofs.sums.Sums.new.Goals as goal
 
 pub returns : goal.returns
-returns c = ap from_sorted (ap joined c.new.ensures.items) ∙ from_sorted-nil word_order
+returns c = ap from_sorted (ap joined c.new.ensures) ∙ from_sorted-nil word_order

@@ -7,13 +7,13 @@ use Rattle.judy_sums.proofs.sums.Sums.raise.Goals as goal
 
 pub raise-requires-clause-few : goal.raise-requires-clause-few
 raise-requires-clause-few c =
-    let long = len_is c.self.inside.chunks.items c.args.self.now c.self.invariant c.self.view_is in
+    let long = len_is c.self.inside.chunks c.args.self.now c.self.invariant c.self.view_is in
     let few = c.requires.few in
     omega arith
 
 pub raise-requires-clause-fits : goal.raise-requires-clause-fits
 raise-requires-clause-fits c =
-    let sums = ap sum_of (entries_is c.self.inside.chunks.items c.args.self.now c.self.invariant c.self.view_is) in
+    let sums = ap sum_of (entries_is c.self.inside.chunks c.args.self.now c.self.invariant c.self.view_is) in
     let fits = c.requires.fits in
     omega arith
 
@@ -26,11 +26,11 @@ on_err (Ok value) more holds = holds
 on_err (Err error) more holds = more holds
 
 pub returns-clause-raised : goal.returns-clause-raised
-returns-clause-raised c = on_ok c.raise.result (raised_is c.self.inside.chunks.items c.args.self.now c.self.invariant c.self.view_is c.raise.new.chunks.items c.args.word) c.raise.ensures.raised
+returns-clause-raised c = on_ok c.raise.result (raised_is c.self.inside.chunks c.args.self.now c.self.invariant c.self.view_is c.raise.new.chunks c.args.word) c.raise.ensures.raised
 
 pub returns-clause-unchanged : goal.returns-clause-unchanged
 returns-clause-unchanged c = on_err c.raise.result (λ e. ap from_sorted e ∙ c.self.view_is) c.raise.ensures.unchanged
 
 pub returns-clause-there : goal.returns-clause-there
 returns-clause-there c = λ found. c.raise.ensures.there
-    (subst (λ (known : Option ℕ). IsSome known) (get_is c.self.inside.chunks.items c.args.self.now c.self.invariant c.self.view_is c.args.word) found)
+    (subst (λ (known : Option ℕ). IsSome known) (get_is c.self.inside.chunks c.args.self.now c.self.invariant c.self.view_is c.args.word) found)
