@@ -8,6 +8,7 @@ use Rattle.judy_sl.specs.declared.arena.Arena.{Arena}
 use Rattle.judy_sl.specs.declared.arena.Place.{Place}
 use Rattle.judy_sl.specs.declared.arena.Place.TheVariants.{Root, Below}
 use Rattle.judy_sl.specs.declared.shrink.Cut.{Cut}
+use Rattle.judy_sl.specs.declared.shrink.Removed.{Removed}
 use Rattle.judy_sl.specs.Pieces.{pieces, IsInner, IsFinal, IsText, ArePieces}
 use Rattle.judy_sl.specs.World.{World, Node, gone, tail, level, lookup}
 use Rattle.judy_sl.specs.WorldInvariants.{IsLed, AllLed}
@@ -83,10 +84,10 @@ pub record IsCutWhere (holds : Type 0) (world : World) (key : List ℕ) (cut : C
   pub wide : IsWide (seat_of cut.place) map
   pub child : IsCutChild world key map (piece_at cut.place) rest cut.below cut.left holds
 
--- It is cut off so; or it isn't there.
-abbrev pub IsCut : World → List ℕ → Option Cut → Type 0
+-- It is cut off so, and has this value; or it isn't there.
+abbrev pub IsCut : World → List ℕ → Option (Cut × ℕ) → Type 0
 IsCut world key None = lookup world 0 (pieces key) ≡ None
-IsCut world key (Some cut) = IsCutWhere (Unit {0}) world key cut
+IsCut world key (Some found) = IsCutWhere (Unit {0}) world key found.0 × (lookup world 0 (pieces key) ≡ Some found.1)
 
 -- The deeper of two cuts is taken where its level is the first on the way, or has other entries.
 abbrev pub IsDeeper : Option Cut → FinMap word_order ℕ → Cut → Cut → Type 0
@@ -121,6 +122,11 @@ pub record IsCleared (before after : Arena) : Type 0 where
   pub led : AllLed (world_of after)
   pub same : (ps : List ℕ) → ArePieces ps → lookup (world_of after) 0 ps ≡ lookup (world_of before) 0 ps
   pub left : IsLeft before after
+
+-- The value of a key that was taken out, where one was.
+abbrev pub value_removed : Option Removed → Option ℕ
+value_removed None = None
+value_removed (Some removed) = Some removed.value
 
 -- A key was taken out, where it was there, and nothing is left to which no entry leads.
 pub record IsShrunk (before after : Arena) (key : List ℕ) : Type 0 where

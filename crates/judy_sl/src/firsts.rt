@@ -1,12 +1,11 @@
 //! How many keys begin with each first piece, kept in a list of sums: of each piece that number less one. So a word of
 //! the first level that one key alone begins with has no place in the list.
 
-ghost use Rattle.std.specs.Prelude.{◌≡◌, ◌<◌, ◌≤◌, ◌+◌, ◌*◌, ℕ, List, true, false, None, [], length, is_some, IfOk, OnOk, OnErr};
+ghost use Rattle.std.specs.Prelude.{◌≡◌, ◌<◌, ◌≤◌, ◌+◌, ◌*◌, ℕ, List, None, [], length, IsSome, IsNone, IfOk, OnOk, OnErr};
 ghost use Rattle.std.specs.FinMap as map;
 ghost use Rattle.judy_sl.specs.Pieces.{pieces};
 ghost use Rattle.judy_sl.specs.World.{lookup};
-ghost use Rattle.judy_sl.specs.WorldInvariants.{AllLed};
-ghost use Rattle.judy_sl.specs.Arenas.{world_of, map_of, IsArena};
+ghost use Rattle.judy_sl.specs.Arenas.{world_of, map_of};
 ghost use Rattle.judy_sl.specs.Ways.{levels_passed, IsWay, IsNew};
 ghost use Rattle.judy_sl.specs.Noted.{AreNoted};
 ghost use Rattle.judy_sl.specs.Grown.{IsAdded, IsSame};
@@ -14,7 +13,7 @@ ghost use Rattle.judy_sl.specs.Shrunk.{IsShrunk};
 ghost use Rattle.judy_sl.specs.Counted.{AreCounted};
 ghost use Rattle.judy_sl.specs.Firsts.{AreFirsts};
 ghost use Rattle.judy_sl.specs.Listed.{AreListed, AreLeft, StaysLed};
-ghost use Rattle.judy_sl.specs.Settled.{IsSettled};
+ghost use Rattle.judy_sl.specs.Settled.{IsKept, IsSettled};
 ghost use Rattle.judy_sl.specs.Strings.{IsString};
 
 use crate::arena::{Arena, Place, Way};
@@ -37,9 +36,7 @@ fn insert_first(
     way: Way,
     passed: Noted<'_>,
 ) -> Result<Place, AllocError>
-    requires is_arena { IsArena arena.old }
-    requires counted { AreCounted arena.old }
-    requires led { AllLed (world_of arena.old) }
+    requires kept { IsKept arena.old }
     requires is_key { IsString key.now }
     requires way { IsWay arena.old key.now way }
     requires new { IsNew way }
@@ -76,9 +73,7 @@ fn insert_counted(
     way: Way,
     passed: Noted<'_>,
 ) -> Result<Place, AllocError>
-    requires is_arena { IsArena arena.old }
-    requires counted { AreCounted arena.old }
-    requires led { AllLed (world_of arena.old) }
+    requires kept { IsKept arena.old }
     requires is_key { IsString key.now }
     requires way { IsWay arena.old key.now way }
     requires new { IsNew way }
@@ -109,9 +104,7 @@ fn insert_again(
     count: u64,
     gone: &mut u64,
 ) -> Result<Place, AllocError>
-    requires is_arena { IsArena arena.old }
-    requires counted { AreCounted arena.old }
-    requires led { AllLed (world_of arena.old) }
+    requires kept { IsKept arena.old }
     requires is_key { IsString key.now }
     requires absent { map.get (map_of arena.old) key.now ≡ None }
     requires few { map.len (map_of arena.old) < 4294967295 }
@@ -145,9 +138,7 @@ pub fn insert(
     count: u64,
     gone: &mut u64,
 ) -> Result<Place, AllocError>
-    requires is_arena { IsArena arena.old }
-    requires counted { AreCounted arena.old }
-    requires led { AllLed (world_of arena.old) }
+    requires kept { IsKept arena.old }
     requires is_key { IsString key.now }
     requires way { IsWay arena.old key.now way }
     requires new { IsNew way }
@@ -167,85 +158,80 @@ pub fn insert(
     }
 }
 
-// Takes a key out, and counts it no more but in the lists of levels below the first; answers whether it was there. The
-// levels that its way passed and that stay are noted.
-fn del_first<N: LevelNotes>(
+// Takes a key out, and counts it no more but in the lists of levels below the first; answers its value, where it was
+// there. The levels that its way passed and that stay are noted.
+fn remove_first<N: LevelNotes>(
     arena: &mut Arena,
     firsts: &mut Sums,
     key: &[u8],
     passed: &mut N,
-) -> bool
+) -> Option<u64>
     requires few { length key.now < 8 * N.most + 8 }
     requires begins { N.has passed.old [] }
-    requires is_arena { IsArena arena.old }
-    requires counted { AreCounted arena.old }
-    requires led { AllLed (world_of arena.old) }
+    requires kept { IsKept arena.old }
     requires is_key { IsString key.now }
     requires firsts { AreFirsts (map_of arena.old) firsts.old }
-    ensures answer { result ≡ is_some (lookup (world_of arena.old) 0 (pieces key.now)) }
+    ensures answer { result ≡ lookup (world_of arena.old) 0 (pieces key.now) }
     ensures shrunk { IsShrunk arena.old arena.new key.now }
     ensures counted { AreCounted arena.new }
     ensures firsts { AreFirsts (map_of arena.new) firsts.new }
-    ensures left { result ≡ true → (places : List ℕ) × N.has passed.new places
+    ensures left { IsSome result → (places : List ℕ) × N.has passed.new places
         × AreLeft arena.old arena.new key.now places }
-    ensures unchanged { result ≡ false → arena.new ≡ arena.old }
+    ensures unchanged { IsNone result → arena.new ≡ arena.old }
 {
-    let Some(beside) = arena.del(key, passed) else {
-        return false;
-    };
-    if beside {
+    let removed = arena.remove(key, passed)?;
+    if removed.beside {
         firsts.lower(first_piece(key));
     }
-    true
+    Some(removed.value)
 }
 
 // The same, and counts it no more in those lists, by notes that are for as many levels as its way may pass.
-fn del_noted<N: LevelNotes + Drop>(
+fn remove_noted<N: LevelNotes + Drop>(
     arena: &mut Arena,
     firsts: &mut Sums,
     lists: &mut LevelSums,
     key: &[u8],
-) -> bool
+) -> Option<u64>
     requires few { length key.now < 8 * N.most + 8 }
-    requires is_arena { IsArena arena.old }
-    requires counted { AreCounted arena.old }
-    requires led { AllLed (world_of arena.old) }
+    requires kept { IsKept arena.old }
     requires is_key { IsString key.now }
     requires firsts { AreFirsts (map_of arena.old) firsts.old }
     requires listed { AreListed (world_of arena.old) lists.old }
-    ensures answer { result ≡ is_some (lookup (world_of arena.old) 0 (pieces key.now)) }
+    ensures answer { result ≡ lookup (world_of arena.old) 0 (pieces key.now) }
     ensures shrunk { IsShrunk arena.old arena.new key.now }
     ensures counted { AreCounted arena.new }
     ensures firsts { AreFirsts (map_of arena.new) firsts.new }
     ensures listed { AreListed (world_of arena.new) lists.new }
 {
     let mut passed = N::none();
-    if !del_first(arena, firsts, key, &mut passed) {
-        return false;
-    }
+    let value = remove_first(arena, firsts, key, &mut passed)?;
     arena.list_noted(lists, passed.noted(), key, false, false);
-    true
+    Some(value)
 }
 
-// Takes a key out, and counts it no more; answers whether it was there.
-pub fn del(arena: &mut Arena, firsts: &mut Sums, lists: &mut LevelSums, key: &[u8]) -> bool
-    requires is_arena { IsArena arena.old }
-    requires counted { AreCounted arena.old }
-    requires led { AllLed (world_of arena.old) }
+// Takes a key out, and counts it no more; answers its value, where it was there.
+pub fn remove(
+    arena: &mut Arena,
+    firsts: &mut Sums,
+    lists: &mut LevelSums,
+    key: &[u8],
+) -> Option<u64>
+    requires kept { IsKept arena.old }
     requires is_key { IsString key.now }
     requires firsts { AreFirsts (map_of arena.old) firsts.old }
     requires listed { AreListed (world_of arena.old) lists.old }
-    ensures answer { result ≡ is_some (lookup (world_of arena.old) 0 (pieces key.now)) }
+    ensures answer { result ≡ lookup (world_of arena.old) 0 (pieces key.now) }
     ensures shrunk { IsShrunk arena.old arena.new key.now }
     ensures counted { AreCounted arena.new }
     ensures firsts { AreFirsts (map_of arena.new) firsts.new }
     ensures listed { AreListed (world_of arena.new) lists.new }
 {
     if are_few(key) {
-        del_noted::<Passed<FEW_PIECES>>(arena, firsts, lists, key)
+        remove_noted::<Passed<FEW_PIECES>>(arena, firsts, lists, key)
     } else if are_listed(key) {
-        del_noted::<Passed<MOST_PIECES>>(arena, firsts, lists, key)
+        remove_noted::<Passed<MOST_PIECES>>(arena, firsts, lists, key)
     } else {
-        del_noted::<Number>(arena, firsts, lists, key)
+        remove_noted::<Number>(arena, firsts, lists, key)
     }
 }

@@ -245,23 +245,35 @@ impl<L: KeyLength> StringsOf<L> {
         }
     }
 
+    /// Takes the key out, and answers the value that it had; `None` where it was absent, as bytes that are no key are,
+    /// and then nothing changes. It takes one way down the array. It can't fail and asks for no memory of its own. With
+    /// the last key goes all the memory. (This project's own: a map's removal that tells the old value.)
+    ///
+    ///     prices.remove(b"apple")        // Some(30) where that was its price, and then None
+    pub fn remove(&mut self, key: &[u8]) -> Option<u64>
+        ensures answer { result ≡ map.get self.old.map key.now }
+        ensures deleted { self.new ≡ array.with_map self.old (array.del self.old.map key.now) }
+    {
+        let arena = &self.arena;
+        if !is_key_of::<L>(key) {
+            return None;
+        }
+        let removed = firsts::remove(&mut self.arena, &mut self.firsts, &mut self.lists, key);
+        if removed.is_some() {
+            self.count -= 1;
+            self.gone = self.gone.wrapping_add(1);
+            self.give_back();
+        }
+        removed
+    }
+
     /// Takes the key out, and answers whether it was there; bytes that are no key answer as an absent one. It can't
     /// fail and asks for no memory of its own. With the last key goes all the memory. (Manual: JSLD, JudySLDel.)
     pub fn del(&mut self, key: &[u8]) -> bool
         ensures answer { result ≡ map.contains_key self.old.map key.now }
         ensures deleted { self.new ≡ array.with_map self.old (array.del self.old.map key.now) }
     {
-        let arena = &self.arena;
-        if !is_key_of::<L>(key) {
-            return false;
-        }
-        let found = firsts::del(&mut self.arena, &mut self.firsts, &mut self.lists, key);
-        if found {
-            self.count -= 1;
-            self.gone = self.gone.wrapping_add(1);
-            self.give_back();
-        }
-        found
+        self.remove(key).is_some()
     }
 
     // Gives back what is left of an array that holds no key: the lists of its levels and of its tails.

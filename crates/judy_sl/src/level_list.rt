@@ -153,6 +153,16 @@ impl LevelList {
         self.words.remove(index)
     }
 
+    // Gives back the places behind the last level. A list for which less memory is refused stays as long.
+    pub fn trim(&mut self)
+        ensures { slab.SameValues self.old self.new }
+    {
+        self.words.shrink_to_fit();
+        let places = self.words.capacity();
+        self.numbers.truncate(places);
+        self.numbers.shrink_to_fit();
+    }
+
     // Does nothing but read: it tells a caller's proof that keys and values are words.
     pub fn law(&self)
         ensures { (index : ℕ) (words : ArrayOf word_order)

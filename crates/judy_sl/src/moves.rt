@@ -104,6 +104,14 @@ impl Arena {
         moved
     }
 
+    // Gives back the places of levels behind the last one.
+    fn trim_levels(&mut self)
+        requires kept { IsKept self.old }
+        ensures { IsSettled self.old self.new }
+    {
+        self.levels.trim();
+    }
+
     // The same where a walk over its keys, of which there are `count`, and over the places of its levels takes at most
     // `MOST_STEPS` for each key that has gone since the last one. So calls that are refused memory one after another,
     // with few keys taken out between them, take no walk each.
@@ -127,13 +135,15 @@ impl Arena {
 
 impl<L: KeyLength> StringsOf<L> {
     /// Gives back memory that deletes have left unused: what is left of keys moves together, so that pages become empty
-    /// and go. It reads each entry of each level once, asks for no memory and can't fail; each key keeps its value. Of
-    /// each length of what is left of keys at most one page has free places then. The list of the levels keeps its
-    /// memory until the last key goes. (This project's own.)
+    /// and go. It reads each entry of each level once, and can't fail; each key keeps its value. Of each length of what
+    /// is left of keys at most one page has free places then. The list of the levels gives back its places behind the
+    /// last one: that it be made smaller is all that is asked of memory, and where this is refused it stays. (This
+    /// project's own.)
     pub fn shrink(&mut self)
         ensures { self.new ≡ self.old }
     {
         self.gone = 0;
         self.arena.settle_all();
+        self.arena.trim_levels();
     }
 }

@@ -42,9 +42,9 @@ pub fn push_piece<K: KeyWriter>(key: &mut K, piece: u64)
     }
 }
 
-// The same byte by byte.
+// The same byte by byte, as of a final piece, which has a zero.
 #[inline(never)]
-fn push_each<K: KeyWriter>(key: &mut K, piece: u64)
+pub fn push_each<K: KeyWriter>(key: &mut K, piece: u64)
     requires { K.len key.old + length (piece_bytes piece) ≤ LONGEST_STRING }
     ensures len { K.len key.new ≡ K.len key.old + length (piece_bytes piece) }
     ensures has { (front : List ℕ)

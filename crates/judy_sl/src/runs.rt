@@ -13,7 +13,7 @@ ghost use Rattle.judy_tails.specs.Writers.{StaysBeyond, WasGiven};
 use crate::ahead::Ahead;
 use crate::arena::Arena;
 use crate::child::{ChildRef, is_level};
-use crate::pieces::{first_piece, push_piece};
+use crate::pieces::{first_piece, push_each, push_piece};
 use crate::scans::Look;
 use arrayvec::ArrayVec;
 use judy_model::keys::LONGEST_KEY;
@@ -167,7 +167,7 @@ impl Arena {
                 }
             }
         }
-        push_piece(key, piece);
+        push_each(key, piece);
         Some(value)
     }
 

@@ -12,7 +12,7 @@ ghost use Rattle.judy_sl.specs.Places.{IsLevelPlace};
 ghost use Rattle.judy_sl.specs.Ways.{levels_passed};
 ghost use Rattle.judy_sl.specs.Counted.{AreCounted};
 ghost use Rattle.judy_sl.specs.Listed.{AreLeft};
-ghost use Rattle.judy_sl.specs.Shrunk.{place_without, IsVacated, IsCut, IsDeeper, IsOrphan, IsCleared, IsShrunk};
+ghost use Rattle.judy_sl.specs.Shrunk.{place_without, value_removed, IsVacated, IsCut, IsDeeper, IsOrphan, IsCleared, IsShrunk};
 ghost use Rattle.judy_sl.specs.Strings.{IsString};
 
 use crate::arena::{Arena, Place, place_in};
@@ -32,6 +32,13 @@ pub struct Cut {
     pub depth: usize,
 }
 
+// What is told of a key that was taken out: its value, and whether others begin with its first piece.
+#[derive(Clone, Copy)]
+pub struct Removed {
+    pub value: u64,
+    pub beside: bool,
+}
+
 // The cut that stands once the way has come to a level: the one there, where the level is the first or has another
 // entry, and else the one before.
 fn deeper(before: Option<Cut>, level: &WordMap, here: Cut) -> Cut
@@ -44,8 +51,8 @@ fn deeper(before: Option<Cut>, level: &WordMap, here: Cut) -> Cut
 }
 
 impl Arena {
-    // Where the key is cut off, and `None` where it isn't there. The levels that its way passes are noted.
-    fn find_cut<N: Notes>(&self, key: &[u8], notes: &mut N) -> Option<Cut>
+    // Where the key is cut off, and its value; `None` where it isn't there. The levels that its way passes are noted.
+    fn find_cut<N: Notes>(&self, key: &[u8], notes: &mut N) -> Option<(Cut, u64)>
         requires is_arena { IsArena self.now }
         requires is_key { IsString key.now }
         requires begins { N.has notes.old [] }
@@ -68,26 +75,33 @@ impl Arena {
                 left: rest.len(),
                 depth,
             };
-            cut = Some(deeper(cut, level, here));
+            let last = deeper(cut, level, here);
             match self.child(at) {
                 ChildRef::Level(next) => {
                     notes.note(at);
+                    cut = Some(last);
                     depth += 1;
                     level = next;
                     child = Some(at);
                 }
-                ChildRef::Tail(tail) => return if tail.is(rest) { cut } else { None },
+                ChildRef::Tail(tail) => {
+                    return if tail.is(rest) {
+                        Some((last, tail.value()))
+                    } else {
+                        None
+                    };
+                }
             }
         }
         let piece = first_piece(rest);
-        level.get(piece)?;
+        let value = level.get(piece)?;
         let here = Cut {
             place: place_in(child, piece),
             below: None,
             left: 0,
             depth,
         };
-        Some(deeper(cut, level, here))
+        Some((deeper(cut, level, here), value))
     }
 
     // Takes an entry out of a level.
@@ -143,26 +157,25 @@ impl Arena {
         }
     }
 
-    // Takes a key out, and answers whether others begin with its first piece; `None` where it wasn't there. No level is
-    // left empty but the first, and each place that becomes free is used again. The levels that stay on its way count
-    // it no more; they are noted.
-    pub fn del<N: LevelNotes>(&mut self, key: &[u8], passed: &mut N) -> Option<bool>
+    // Takes a key out, and tells of it; `None` where it wasn't there. No level is left empty but the first, and each
+    // place that becomes free is used again. The levels that stay on its way count it no more; they are noted.
+    pub fn remove<N: LevelNotes>(&mut self, key: &[u8], passed: &mut N) -> Option<Removed>
         requires is_arena { IsArena self.old }
         requires counted { AreCounted self.old }
         requires led { AllLed (world_of self.old) }
         requires is_key { IsString key.now }
         requires few { length key.now < 8 * N.most + 8 }
         requires begins { N.has passed.old [] }
-        ensures answer { is_some result ≡ is_some (lookup (world_of self.old) 0 (pieces key.now)) }
+        ensures answer { value_removed result ≡ lookup (world_of self.old) 0 (pieces key.now) }
         ensures shrunk { IsShrunk self.old self.new key.now }
         ensures beside { IfSome result
-            (λ beside. beside ≡ is_some (get self.new.root.map (piece_of key.now))) }
+            (λ removed. removed.beside ≡ is_some (get self.new.root.map (piece_of key.now))) }
         ensures counted { AreCounted self.new }
         ensures left { IsSome result → (places : List ℕ) × N.has passed.new places
             × AreLeft self.old self.new key.now places }
         ensures unchanged { IsNone result → self.new ≡ self.old }
     {
-        let Some(cut) = self.find_cut(key, passed) else {
+        let Some((cut, value)) = self.find_cut(key, passed) else {
             return None;
         };
         passed.keep_first(cut.depth);
@@ -172,6 +185,6 @@ impl Arena {
         if let Some(at) = cut.below {
             self.clear(at, &key[key.len() - cut.left..]);
         }
-        Some(beside)
+        Some(Removed { value, beside })
     }
 }

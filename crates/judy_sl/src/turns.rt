@@ -14,7 +14,7 @@ ghost use Rattle.judy_sl.specs.Scans.{is_beyond, along_bytes, IsNearestEntry, Is
 use crate::arena::{Arena, Place, place_in};
 use crate::child::ChildRef;
 use crate::measure::Measure;
-use crate::pieces::{first_piece, fresh_piece, push_piece};
+use crate::pieces::{first_piece, fresh_piece, push_each, push_piece};
 use crate::scans::{Look, Scanned, Side, Turn};
 use judy_tails::{KeyFront, KeyHolder, KeyWriter, Tail};
 use judy_word::WordMap;
@@ -164,6 +164,8 @@ impl Arena {
     }
 
     // The entry behind which the neighbour of the key stands.
+    // Within its callers: a look above is then one call, whose answer is theirs and isn't copied.
+    #[inline(always)]
     pub fn turn(&self, look: Look, key: &[u8]) -> Option<Turn>
         requires is_arena { IsArena self.now }
         requires without_zero { All (λ byte. byte ≢ 0) key.now }
@@ -180,6 +182,7 @@ impl Arena {
 
     // The same, where the last level on its way has it: each level is asked once, and the last one once more where it
     // leads to a tail that isn't met. To a look above a level tells both at once, so that it needs none of this.
+    #[inline(never)]
     #[tactic(auto, using(crate::proofs::lemmas::pieces::PieceLemmas::text_from_bytes))]
     fn last_turn(&self, look: Look, key: &[u8]) -> Option<Turn>
         requires is_arena { IsArena self.now }
@@ -308,7 +311,7 @@ impl Arena {
                 }
             }
         }
-        push_piece(key, piece);
+        push_each(key, piece);
         Some(Scanned {
             place: place_in(child, piece),
             value,

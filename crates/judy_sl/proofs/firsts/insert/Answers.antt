@@ -13,13 +13,10 @@ use Rattle.judy_sl.proofs.firsts.insert.Goals as goal
 -- Nothing has changed so far.
 settled : (c : In-Err) → IsSettled c.args.arena.now c.insert_counted.new.arena
 settled c =
-    same_settled c.args.arena.now c.insert_counted.new.arena (record { is_arena = c.requires.is_arena; led = c.requires.led; counted = c.requires.counted }) c.in-Err.ensures.refused
+    same_settled c.args.arena.now c.insert_counted.new.arena c.requires.kept c.in-Err.ensures.refused
 
-pub insert_again-requires-clause-is_arena : goal.insert_again-requires-clause-is_arena
-insert_again-requires-clause-is_arena c = (settled (goal.at.insert_again-requires-clause-is_arena c).In-Err).kept.is_arena
-
-pub insert_again-requires-clause-led : goal.insert_again-requires-clause-led
-insert_again-requires-clause-led c = (settled (goal.at.insert_again-requires-clause-led c).In-Err).kept.led
+pub insert_again-requires-clause-kept : goal.insert_again-requires-clause-kept
+insert_again-requires-clause-kept c = (settled (goal.at.insert_again-requires-clause-kept c).In-Err).kept
 
 pub insert_again-requires-clause-absent : goal.insert_again-requires-clause-absent
 insert_again-requires-clause-absent c =
@@ -34,8 +31,8 @@ insert_again-requires-clause-few c =
 pub returns-in-Err-clause-added : goal.returns-in-Err-clause-added
 returns-in-Err-clause-added c =
     if_ok c.insert_again.result
-    (λ made added. settled_added c.args.arena.now c.insert_counted.new.arena c.requires.is_arena (settled (goal.at.returns-in-Err-clause-added c).In-Err) c.insert_again.new.arena c.args.key.now made
-    added) c.insert_again.ensures.added
+    (λ made added. settled_added c.args.arena.now c.insert_counted.new.arena c.requires.kept.is_arena (settled (goal.at.returns-in-Err-clause-added c).In-Err) c.insert_again.new.arena
+    c.args.key.now made added) c.insert_again.ensures.added
 
 pub returns-in-Err-clause-refused : goal.returns-in-Err-clause-refused
 returns-in-Err-clause-refused c =

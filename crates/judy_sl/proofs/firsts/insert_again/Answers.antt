@@ -25,7 +25,7 @@ returns-then-not-settle_again-clause-listed c =
     settled-listed c.args.arena.now c.settle_again.new.self c.settle_again.ensures.settled c.args.lists.now c.requires.listed
 
 pub settle_again-requires : goal.settle_again-requires
-settle_again-requires c = record { kept = record { is_arena = c.requires.is_arena; led = c.requires.led; counted = c.requires.counted } }
+settle_again-requires c = record { kept = c.requires.kept }
 
 pub walk-way-requires-clause-is_arena : goal.walk-way-requires-clause-is_arena
 walk-way-requires-clause-is_arena c = c.settle_again.ensures.settled.kept.is_arena
@@ -33,14 +33,8 @@ walk-way-requires-clause-is_arena c = c.settle_again.ensures.settled.kept.is_are
 pub walk-way-requires-clause-ends : goal.walk-way-requires-clause-ends
 walk-way-requires-clause-ends c = ends-text c.args.key.now (text_of_key c.args.key.now c.requires.is_key)
 
-pub insert_counted-requires-clause-is_arena : goal.insert_counted-requires-clause-is_arena
-insert_counted-requires-clause-is_arena c = c.settle_again.ensures.settled.kept.is_arena
-
-pub insert_counted-requires-clause-led : goal.insert_counted-requires-clause-led
-insert_counted-requires-clause-led c = c.settle_again.ensures.settled.kept.led
-
-pub insert_counted-requires-clause-counted : goal.insert_counted-requires-clause-counted
-insert_counted-requires-clause-counted c = c.settle_again.ensures.settled.kept.counted
+pub insert_counted-requires-clause-kept : goal.insert_counted-requires-clause-kept
+insert_counted-requires-clause-kept c = c.settle_again.ensures.settled.kept
 
 pub insert_counted-requires-clause-way : goal.insert_counted-requires-clause-way
 insert_counted-requires-clause-way c = c.walk-way.ensures.way (text_of_key c.args.key.now c.requires.is_key)
@@ -70,7 +64,7 @@ insert_counted-requires-clause-listed c = settled-listed c.args.arena.now c.sett
 pub returns-clause-added : goal.returns-clause-added
 returns-clause-added c =
     if_ok c.insert_counted.result
-    (λ made added. settled_added c.args.arena.now c.settle_again.new.self c.requires.is_arena c.settle_again.ensures.settled c.insert_counted.new.arena c.args.key.now made added)
+    (λ made added. settled_added c.args.arena.now c.settle_again.new.self c.requires.kept.is_arena c.settle_again.ensures.settled c.insert_counted.new.arena c.args.key.now made added)
     c.insert_counted.ensures.added
 
 pub returns-clause-refused : goal.returns-clause-refused

@@ -17,9 +17,9 @@ list_noted-requires-clause-noted c =
       levels_passed (world_of c.args.arena.now) c.args.key.now,
       c.requires.passed,
       first-stays c.args.arena.now c.insert_first.new.arena c.in_ok-made.ensures.stays c.args.key.now c.requires.is_key,
-      come_but c.args.arena.now c.insert_first.new.arena c.requires.is_arena c.requires.led c.args.key.now c.requires.is_key c.in_ok-made.ensures.added.change none
+      come_but c.args.arena.now c.insert_first.new.arena c.requires.kept.is_arena c.requires.kept.led c.args.key.now c.requires.is_key c.in_ok-made.ensures.added.change none
           c.in_ok-made.ensures.stays c.args.lists.now c.requires.listed,
-      λ comes. are_begun c.args.arena.now c.insert_first.new.arena c.requires.is_arena c.requires.led c.args.key.now c.requires.is_key c.in_ok-made.ensures.added.change none
+      λ comes. are_begun c.args.arena.now c.insert_first.new.arena c.requires.kept.is_arena c.requires.kept.led c.args.key.now c.requires.is_key c.in_ok-made.ensures.added.change none
           c.in_ok-made.ensures.stays c.clashes.result meets,
     )
 

@@ -21,7 +21,7 @@ raise-requires-clause-few c = let words = firsts_len (map_of c.args.arena.now) c
 pub returns-then-ends_first-clause-firsts : goal.returns-then-ends_first-clause-firsts
 returns-then-ends_first-clause-firsts c =
     let none = get-map c.args.arena.now c.args.key.now c.requires.is_key ∙ way-none c.args.arena.now c.args.key.now c.args.way c.requires.way c.requires.new in
-    let nothing = begun_none c.args.arena.now c.requires.is_arena c.args.key.now c.args.way c.requires.way (sym c.ends_first.ensures ∙ c.if-ends_first.true) in
+    let nothing = begun_none c.args.arena.now c.requires.kept.is_arena c.args.key.now c.args.way c.requires.way (sym c.ends_first.ensures ∙ c.if-ends_first.true) in
     tried_first c.args.arena.now c.add_counted.new.self c.args.key.now c.requires.is_key none c.args.firsts.now c.requires.firsts nothing c.add_counted.result
     c.add_counted.ensures.added c.add_counted.ensures.refused
 
@@ -29,7 +29,7 @@ pub lower-requires-clause-there : goal.lower-requires-clause-there
 lower-requires-clause-there c =
     let is = c.in_ok-raise.ensures.raised ∙ ap (raised c.args.firsts.now) c.first_piece-piece.ensures in
     let none = get-map c.args.arena.now c.args.key.now c.requires.is_key ∙ way-none c.args.arena.now c.args.key.now c.args.way c.requires.way c.requires.new in
-    let some = begun_some c.args.arena.now c.requires.is_arena c.args.key.now c.args.way c.requires.way c.requires.new (sym c.ends_first.ensures ∙ c.if-ends_first.false) in
+    let some = begun_some c.args.arena.now c.requires.kept.is_arena c.args.key.now c.args.way c.requires.way c.requires.new (sym c.ends_first.ensures ∙ c.if-ends_first.false) in
     subst (λ (firsts : FinMap word_order ℕ). IsSome (get firsts c.first_piece-piece.result)) (sym is)
     (subst (λ word. IsSome (get (raised c.args.firsts.now (piece_of c.args.key.now)) word)) (sym c.first_piece-piece.ensures)
     (number_there (map_of c.args.arena.now) c.args.key.now 0 none (raised c.args.firsts.now (piece_of c.args.key.now)) some
@@ -39,7 +39,7 @@ pub lower-requires-clause-some : goal.lower-requires-clause-some
 lower-requires-clause-some c =
     let is = c.in_ok-raise.ensures.raised ∙ ap (raised c.args.firsts.now) c.first_piece-piece.ensures in
     let none = get-map c.args.arena.now c.args.key.now c.requires.is_key ∙ way-none c.args.arena.now c.args.key.now c.args.way c.requires.way c.requires.new in
-    let some = begun_some c.args.arena.now c.requires.is_arena c.args.key.now c.args.way c.requires.way c.requires.new (sym c.ends_first.ensures ∙ c.if-ends_first.false) in
+    let some = begun_some c.args.arena.now c.requires.kept.is_arena c.args.key.now c.args.way c.requires.way c.requires.new (sym c.ends_first.ensures ∙ c.if-ends_first.false) in
     subst (λ (firsts : FinMap word_order ℕ). 1 ≤ number_at firsts c.first_piece-piece.result) (sym is)
     (subst (λ word. 1 ≤ number_at (raised c.args.firsts.now (piece_of c.args.key.now)) word) (sym c.first_piece-piece.ensures)
     (number_some (map_of c.args.arena.now) c.args.key.now 0 none (raised c.args.firsts.now (piece_of c.args.key.now)) some
@@ -49,7 +49,7 @@ pub returns-in-Ok-clause-firsts : goal.returns-in-Ok-clause-firsts
 returns-in-Ok-clause-firsts c =
     let is = c.in_ok-raise.ensures.raised ∙ ap (raised c.args.firsts.now) c.first_piece-piece.ensures in
     let none = get-map c.args.arena.now c.args.key.now c.requires.is_key ∙ way-none c.args.arena.now c.args.key.now c.args.way c.requires.way c.requires.new in
-    let some = begun_some c.args.arena.now c.requires.is_arena c.args.key.now c.args.way c.requires.way c.requires.new (sym c.ends_first.ensures ∙ c.if-ends_first.false) in
+    let some = begun_some c.args.arena.now c.requires.kept.is_arena c.args.key.now c.args.way c.requires.way c.requires.new (sym c.ends_first.ensures ∙ c.if-ends_first.false) in
     subst (AreFirsts (map_of c.add_counted-2.new.self)) (sym is)
     (added_more c.args.arena.now c.add_counted-2.new.self c.args.key.now c.requires.is_key none c.args.firsts.now c.requires.firsts some c.in-Ok.place c.in-Ok.ensures.added)
 

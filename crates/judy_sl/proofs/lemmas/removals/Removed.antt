@@ -18,7 +18,7 @@ use Rattle.judy_sl.specs.Strings.{IsString}
 module _ (limit : ℕ) (arena : Arena) (key : List ℕ) where
   -- Bytes that are no key are absent.
   module _ {Self : Type 0} (lengths : Ghosts Self) {longest count : ℕ} (is : IsStrings lengths.LONGEST longest limit count arena) (bad : lengths.IsKey key → ⊥) where
-    bad-none : get (map_of arena) key ≡ None
+    pub bad-none : get (map_of arena) key ≡ None
     bad-none = by (get (map_of arena) key) refl
       where
         by : (found : Option ℕ) → get (map_of arena) key ≡ found → get (map_of arena) key ≡ None
@@ -28,14 +28,11 @@ module _ (limit : ℕ) (arena : Arena) (key : List ℕ) where
             let most = is.longest_fits in
             absurd (bad (key_of_string lengths key (table_some all_strings-all (λ k. lookup (world_of arena) 0 (pieces k)) key value held).0 (omega (arith, short, most))))
 
-    pub bad-absent : contains_key (map_of arena) key ≡ false
-    bad-absent = ap (λ (o : Option ℕ). is_some o) bad-none
-
     pub bad-deleted : array_of limit arena ≡ with_map (array_of limit arena) (del (map_of arena) key)
     bad-deleted = ap (λ (m : FinMap byte_order ℕ). record { limit = limit; map = m }) (sym (remove_absent byte_order_total byte_order_same (map_of arena) key bad-none))
 
   module _ (is_key : IsString key) where
-    pub key-there : contains_key (map_of arena) key ≡ is_some (lookup (world_of arena) 0 (pieces key))
+    key-there : contains_key (map_of arena) key ≡ is_some (lookup (world_of arena) 0 (pieces key))
     key-there = ap (λ (o : Option ℕ). is_some o) (get-map arena key is_key)
 
     module _ (after : Arena) (shrunk : IsShrunk arena after key) where

@@ -3,7 +3,7 @@ use Rattle.std.proofs.Common.{◌≡◌, ℕ, zero, suc, ◌+◌, ◌<◌, ◌�
 use Rattle.std.proofs.Common.{inr, subst, true≢false, arith}
 use Rattle.std.specs.Prelude.{if◌then◌else◌, nat_le}
 use Rattle.std.proofs.lemmas.Bool.{cases_eq, cases_lt, le-leb, lt-leb}
-use Rattle.std.proofs.lemmas.List.{ext_get_or, get_or-set_same, get_or-set_other, length-set}
+use Rattle.std.proofs.lemmas.List.{ext_get_or, get_or_past, get_or-set_same, get_or-set_other, length-set}
 use Rattle.std.proofs.lemmas.List.Sums.{sum_by-cons}
 use Rattle.judy_model.specs.Keys.{word_order}
 use Rattle.judy_model.specs.Arrays.{ArrayOf}
@@ -70,6 +70,26 @@ pub numbered-same : (slots : List (Option (ArrayOf word_order))) (numbers others
 numbered-same slots numbers others same =
     ext_get_or None (numbered slots others) (numbered slots numbers) (length-numbered slots others ∙ sym (length-numbered slots numbers)) (λ index within.
     get-numbered slots others index ∙ ap (λ keys. parts_of keys (get_or slots index None)) (same index) ∙ sym (get-numbered slots numbers index))
+
+-- A level's index is one of the list's.
+pub held-within : (words : slab.Slab (ArrayOf word_order)) (index : ℕ) → slab.ContainsKey words index → index < length words.slots
+held-within words index held = elim (cases_lt index (length words.slots)) [
+  | inl less ↦ less
+  | inr past ↦ absurd (true≢false (sym held ∙ ap is_some (get_or_past words.slots index None past)))
+]
+
+-- Where each level stays, with its number, both lists stay.
+pub same-both : (words after : slab.Slab (ArrayOf word_order)) (numbers others : List ℕ) → slab.SameValues words after →
+    ((index : ℕ) → slab.ContainsKey after index → get_or others index 0 ≡ get_or numbers index 0) → slab.SameValues (side_by_side words numbers) (side_by_side after others)
+same-both words after numbers others same keys = λ index.
+    get-numbered after.slots others index
+    ∙ parts-same (get_or others index 0) (get_or numbers index 0) (slab.get after index) (keys index)
+    ∙ ap (λ slot. parts_of (get_or numbers index 0) slot) (same index)
+    ∙ sym (get-numbered words.slots numbers index)
+  where
+    parts-same : (one other : ℕ) (slot : Option (ArrayOf word_order)) → (IsSome slot → one ≡ other) → parts_of one slot ≡ parts_of other slot
+    parts-same one other None same = refl
+    parts-same one other (Some words) same = ap (λ keys. parts_of keys (Some words)) (same refl)
 
 -- ---- one of them changed
 

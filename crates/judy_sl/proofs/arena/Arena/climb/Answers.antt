@@ -55,8 +55,8 @@ child-requires g c =
     taken_of c.args.self.now c.loop-piece.value (follow_on c.requires.is_arena.is_world from c.loop-piece.last.run.level.now.map c.loop-piece.piece on.bytes on.are.on
     c.loop-piece.value on.are.entry c.loop-piece-test.true)
 
-pub push_piece-requires-2 : goal.push_piece-requires-2
-push_piece-requires-2 g c =
+pub push_each-requires : goal.push_each-requires
+push_each-requires g c =
     let from = c.requires.begun.0 in
     let on = c.loop-piece.invariant.way from c.requires.begun.1 in
     let room = follow_room c.requires.is_arena.is_world from c.loop-piece.last.run.level.now.map c.loop-piece.piece on.bytes on.are.on in
@@ -69,14 +69,14 @@ returns g c = record {
       let on = c.loop-piece.invariant.way from begun in
       record {
         bytes = on.bytes ++ piece_bytes c.loop-piece.piece;
-        given = c.push_piece-2.ensures.has on.bytes on.given;
+        given = c.push_each.ensures.has on.bytes on.given;
         are = (
           follow_last c.requires.is_arena.is_world from c.loop-piece.last.run.level.now.map c.loop-piece.piece on.bytes on.are.on c.loop-piece.value (omega arith) on.are.entry,
           climb_last c.requires.is_arena.is_world on.are c.loop-piece.last.run.level refl (omega arith),
         );
       };
   leads = climb_leads c.requires.is_arena.is_world (c.loop-piece.invariant.way c.requires.begun.0 c.requires.begun.1).are;
-  beyond = by_piece g c.args.key.now c.loop-piece.key c.push_piece-2.new.key c.loop-piece.piece c.push_piece-2.ensures.len c.loop-piece.invariant.beyond c.push_piece-2.ensures.beyond;
+  beyond = by_piece g c.args.key.now c.loop-piece.key c.push_each.new.key c.loop-piece.piece c.push_each.ensures.len c.loop-piece.invariant.beyond c.push_each.ensures.beyond;
 }
 
 pub returns-in_err-first-in-Level : goal.returns-in_err-first-in-Level

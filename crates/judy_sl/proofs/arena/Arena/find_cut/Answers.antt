@@ -6,7 +6,7 @@ use Rattle.judy_sl.specs.Shrunk.{IsCut, IsDeeper}
 use Rattle.judy_sl.proofs.lemmas.pieces.PieceLemmas.{text_of_key, piece-IsInner, text-drop}
 use Rattle.judy_sl.proofs.lemmas.counts.PassedLevels.{noted-on, noted-tail, noted-last}
 use Rattle.judy_sl.proofs.lemmas.pieces.Exact.{ends-text}
-use Rattle.judy_sl.proofs.lemmas.pieces.OnWay.{on-start, on-short, start-deep, on-moved, moved-deep, found-clash, found-none, on-taken}
+use Rattle.judy_sl.proofs.lemmas.pieces.OnWay.{on-start, on-short, start-deep, on-moved, moved-deep, found-tail, found-clash, found-none, found-last, on-taken}
 use Rattle.judy_sl.proofs.lemmas.removals.Cuts.{cut-on, cut-last, cut-tail}
 use Rattle.judy_sl.proofs.arena.Arena.find_cut.Goals as goal
 
@@ -39,7 +39,7 @@ loop-rest-preserved g c =
       below = Some c.in_ok-at.at;
       left = length xs;
       depth = c.loop-rest.depth;
-    }) c.deeper.result) (take_rest c.loop-rest.rest.now 8) c.deeper.ensures in
+    }) c.deeper-last.result) (take_rest c.loop-rest.rest.now 8) c.deeper-last.ensures in
     rw take_rest (record {
       on =
           on-moved _ _ _ _ _ c.loop-rest.invariant.on c.in_ok-at.at c.in-Level.next.now.map c.loop-rest-test.true
@@ -49,7 +49,7 @@ loop-rest-preserved g c =
           cut-on (world_of c.args.self.now) c.args.key.now c.loop-rest.child c.loop-rest.level.now.map c.loop-rest.rest.now c.loop-rest.invariant.on
           (text_of_key c.args.key.now c.requires.is_key) c.loop-rest.cut c.loop-rest.invariant.so_far c.first_piece-piece.result c.first_piece-piece.ensures
           c.place_in.result c.place_in.ensures c.loop-rest.depth c.loop-rest.invariant.deep
-          c.in_ok-at.at c.deeper.result c.loop-rest-test.true (sym c.get.ensures ∙ c.in_ok-at.was) deeper;
+          c.in_ok-at.at c.deeper-last.result c.loop-rest-test.true (sym c.get.ensures ∙ c.in_ok-at.was) deeper;
       is_arena = c.requires.is_arena;
       noted = c.loop-rest.invariant.noted ++ c.in_ok-at.at ∷ [];
       has = c.note.ensures c.loop-rest.invariant.noted c.loop-rest.invariant.has;
@@ -70,13 +70,19 @@ returns-then-is-clause-cut g c =
       below = Some c.in_ok-at.at;
       left = length xs;
       depth = c.loop-rest.depth;
-    }) c.deeper.result) (take_rest c.loop-rest.rest.now 8) c.deeper.ensures in
-    cut-tail (world_of c.args.self.now) c.args.key.now c.in_ok-at.at (drop 8 c.loop-rest.rest.now) c.in-Tail.tail.0 c.in-Tail.tail.1 c.deeper.result
-    (ap node_of c.in-Tail.ensures) (c.is.ensures.0 c.if-is.true ∙ take_rest c.loop-rest.rest.now 8) (cut-on
-    (world_of c.args.self.now) c.args.key.now c.loop-rest.child c.loop-rest.level.now.map c.loop-rest.rest.now c.loop-rest.invariant.on
-    (text_of_key c.args.key.now c.requires.is_key) c.loop-rest.cut c.loop-rest.invariant.so_far c.first_piece-piece.result c.first_piece-piece.ensures c.place_in.result
-    c.place_in.ensures c.loop-rest.depth c.loop-rest.invariant.deep c.in_ok-at.at c.deeper.result c.loop-rest-test.true
-    (sym c.get.ensures ∙ c.in_ok-at.was) deeper)
+    }) c.deeper-last.result) (take_rest c.loop-rest.rest.now 8) c.deeper-last.ensures in
+    let same = c.is.ensures.0 c.if-is.true ∙ take_rest c.loop-rest.rest.now 8 in (
+      cut-tail (world_of c.args.self.now) c.args.key.now c.in_ok-at.at (drop 8 c.loop-rest.rest.now) c.in-Tail.tail.0 c.in-Tail.tail.1 c.deeper-last.result
+          (ap node_of c.in-Tail.ensures) same (cut-on
+          (world_of c.args.self.now) c.args.key.now c.loop-rest.child c.loop-rest.level.now.map c.loop-rest.rest.now c.loop-rest.invariant.on
+          (text_of_key c.args.key.now c.requires.is_key) c.loop-rest.cut c.loop-rest.invariant.so_far c.first_piece-piece.result c.first_piece-piece.ensures c.place_in.result
+          c.place_in.ensures c.loop-rest.depth c.loop-rest.invariant.deep c.in_ok-at.at c.deeper-last.result c.loop-rest-test.true
+          (sym c.get.ensures ∙ c.in_ok-at.was) deeper),
+      found-tail _ _ _ _ _ c.loop-rest.invariant.on c.loop-rest-test.true (piece-IsInner c.loop-rest.rest.now
+          (c.loop-rest.invariant.on.text (text_of_key c.args.key.now c.requires.is_key)) c.loop-rest-test.true) c.in_ok-at.at
+          (sym (ap (λ p. get c.loop-rest.level.now.map p) c.first_piece-piece.ensures) ∙ sym c.get.ensures ∙ c.in_ok-at.was) c.in-Tail.tail.0 c.in-Tail.tail.1
+          (ap node_of c.in-Tail.ensures) same ∙ ap (λ value. Some value) (sym c.value.ensures),
+    )
 
 pub returns-else-is-clause-cut : goal.returns-else-is-clause-cut
 returns-else-is-clause-cut g c =
@@ -87,18 +93,21 @@ returns-else-is-clause-cut g c =
     (ap node_of child) (subst HasText child (c.requires.is_arena.texts c.in_ok-at.at)) (λ e. true≢false (sym (c.is.ensures.1 (e ∙ sym (take_rest c.loop-rest.rest.now 8))) ∙ c.if-is.false))
     (text_of_key c.args.key.now c.requires.is_key)
 
-pub returns-in_err-get-clause-cut : goal.returns-in_err-get-clause-cut
-returns-in_err-get-clause-cut g c =
-    subst (IsCut (world_of c.args.self.now) c.args.key.now) (sym c.from_residual-in_err-get.ensures)
+pub returns-in_err-value-clause-cut : goal.returns-in_err-value-clause-cut
+returns-in_err-value-clause-cut g c =
+    subst (IsCut (world_of c.args.self.now) c.args.key.now) (sym c.from_residual-in_err-value.ensures)
     (found-none c.args.self.now c.requires.is_arena _ _ _ _ c.loop-rest.invariant.on (sym (ap (λ p. get c.loop-rest.level.now.map p) c.first_piece-piece-2.ensures) ∙
-    sym c.get-2.ensures ∙ c.in_err-get.was))
+    sym c.get-2.ensures ∙ c.in_err-value.was))
 
 pub returns-clause-cut : goal.returns-clause-cut
-returns-clause-cut g c =
-    cut-last (world_of c.args.self.now) c.args.key.now c.loop-rest.child c.loop-rest.level.now.map c.loop-rest.rest.now c.loop-rest.invariant.on
-    (text_of_key c.args.key.now c.requires.is_key) c.loop-rest.cut c.loop-rest.invariant.so_far c.first_piece-piece-2.result c.first_piece-piece-2.ensures
-    c.place_in-2.result c.place_in-2.ensures c.loop-rest.depth c.loop-rest.invariant.deep
-    c.in_ok-get.field-0 c.deeper-2.result (omega arith) (sym c.get-2.ensures ∙ c.in_ok-get.was) c.deeper-2.ensures
+returns-clause-cut g c = (
+  cut-last (world_of c.args.self.now) c.args.key.now c.loop-rest.child c.loop-rest.level.now.map c.loop-rest.rest.now c.loop-rest.invariant.on
+      (text_of_key c.args.key.now c.requires.is_key) c.loop-rest.cut c.loop-rest.invariant.so_far c.first_piece-piece-2.result c.first_piece-piece-2.ensures
+      c.place_in-2.result c.place_in-2.ensures c.loop-rest.depth c.loop-rest.invariant.deep
+      c.in_ok-value.value c.deeper.result (omega arith) (sym c.get-2.ensures ∙ c.in_ok-value.was) c.deeper.ensures,
+  found-last c.args.self.now c.requires.is_arena _ _ _ _ c.loop-rest.invariant.on (omega arith) ∙
+      sym (ap (λ p. get c.loop-rest.level.now.map p) c.first_piece-piece-2.ensures) ∙ sym c.get-2.ensures ∙ c.in_ok-value.was,
+)
 
 -- ---- the levels that the way passed
 

@@ -109,8 +109,8 @@ returns-in-Tail g c =
       beyond = stays-beyond g.K.KeyWriter.len g.K.KeyWriter.beyond c.args.key.now c.push_piece.new.key c.push_to.new.key (length c.in-Tail.tail.0) c.push_to.ensures.len more c.push_to.ensures.beyond;
     }
 
-pub push_piece-requires-2 : goal.push_piece-requires-2
-push_piece-requires-2 g c =
+pub push_each-requires : goal.push_each-requires
+push_each-requires g c =
     let from = c.requires.begun.0 in
     let on = c.loop-piece.invariant.way from c.requires.begun.1 in
     let room = follow_room c.requires.is_arena.is_world from on.are.map c.loop-piece.piece on.bytes on.are.on in
@@ -127,8 +127,8 @@ returns g c = record {
       c.loop-piece.child c.loop-piece.value on.are.stands (omega arith) on.are.entry in
       record {
         bytes = on.bytes ++ piece_bytes c.loop-piece.piece;
-        given = c.push_piece-2.ensures.has on.bytes on.given;
+        given = c.push_each.ensures.has on.bytes on.given;
         are = (neighbour, rw c.place_in.ensures (neighbour.1, place));
       };
-  beyond = by_piece g c.args.key.now c.loop-piece.key c.push_piece-2.new.key c.loop-piece.piece c.push_piece-2.ensures.len c.loop-piece.invariant.beyond c.push_piece-2.ensures.beyond;
+  beyond = by_piece g c.args.key.now c.loop-piece.key c.push_each.new.key c.loop-piece.piece c.push_each.ensures.len c.loop-piece.invariant.beyond c.push_each.ensures.beyond;
 }

@@ -229,10 +229,10 @@ insert-requires-clause-firsts g c =
     let settled = c.in_ok-place.ensures.open c.in_default.is in
     settled-firsts c.self.inside.arena c.try_first.new.self settled c.self.inside.firsts c.self.invariant.2
 
-pub insert-requires-clause-led : goal.insert-requires-clause-led
-insert-requires-clause-led g c =
+pub insert-requires-clause-kept : goal.insert-requires-clause-kept
+insert-requires-clause-kept g c =
     let settled = c.in_ok-place.ensures.open c.in_default.is in
-    settled.kept.led
+    settled.kept
 
 -- The levels that the way passed are noted.
 pub insert-requires-clause-passed : goal.insert-requires-clause-passed
@@ -252,11 +252,6 @@ insert-requires-clause-listed g c =
 
 pub walk-requires-clause-is_arena : goal.walk-requires-clause-is_arena
 walk-requires-clause-is_arena g c =
-    let settled = c.in_ok-place.ensures.open c.in_default.is in
-    settled.kept.is_arena
-
-pub insert-requires-clause-is_arena : goal.insert-requires-clause-is_arena
-insert-requires-clause-is_arena g c =
     let settled = c.in_ok-place.ensures.open c.in_default.is in
     settled.kept.is_arena
 

@@ -20,15 +20,15 @@ use Rattle.judy_sl.proofs.lemmas.counts.CountedLost.{lost-stays, left-among, lef
 use Rattle.judy_sl.proofs.lemmas.counts.WayLevels.{first-taken, first-few}
 use Rattle.judy_sl.proofs.lemmas.counts.LedLevels.{stays_before}
 use Rattle.judy_sl.proofs.lemmas.removals.Beside.{beside-left}
-use Rattle.judy_sl.proofs.arena.Arena.del.Given.{Over}
-use Rattle.judy_sl.proofs.arena.Arena.del.Goals.{After-noted, After-count_noted}
-use Rattle.judy_sl.proofs.arena.Arena.del.Goals as goal
+use Rattle.judy_sl.proofs.arena.Arena.remove.Given.{Over}
+use Rattle.judy_sl.proofs.arena.Arena.remove.Goals.{After-noted, After-count_noted}
+use Rattle.judy_sl.proofs.arena.Arena.remove.Goals as goal
 
 -- ---- the key is counted out
 
 -- The key is there,
 there : (g : Over) (c : After-count_noted g) → is_some (lookup (world_of c.args.self.now) 0 (pieces c.args.key.now)) ≡ true
-there g c = cut-found c.args.self.now c.requires.is_arena c.requires.led c.args.key.now c.in-Some.cut c.in-Some.ensures.cut
+there g c = cut-found c.args.self.now c.requires.is_arena c.requires.led c.args.key.now c.in-Some.cut c.in-Some.ensures.cut.0
 
 -- and these levels stay on its way: they are noted,
 noted : (g : Over) (c : After-noted g) → AreNoted c.noted.result (take c.in-Some.cut.depth (levels_passed (world_of c.args.self.now) c.args.key.now))
@@ -51,7 +51,7 @@ led : (g : Over) (c : After-count_noted g) → AllLed (world_of c.count_noted.ne
 led g c = subst AllLed (sym (stepped g c).world) c.requires.led
 
 cut : (g : Over) (c : After-count_noted g) → IsCutWhere (Unit {0}) (world_of c.count_noted.new.self) c.args.key.now c.in-Some.cut
-cut g c = subst (λ (w : World). IsCutWhere (Unit {0}) w c.args.key.now c.in-Some.cut) (sym (stepped g c).world) c.in-Some.ensures.cut
+cut g c = subst (λ (w : World). IsCutWhere (Unit {0}) w c.args.key.now c.in-Some.cut) (sym (stepped g c).world) c.in-Some.ensures.cut.0
 
 counted : (g : Over) (c : After-count_noted g) →
     AreCountedBut c.count_noted.new.self (take c.in-Some.cut.depth (levels_passed (world_of c.count_noted.new.self) c.args.key.now))
@@ -65,7 +65,7 @@ count_noted-requires-clause-noted g c = (
   noted g (goal.at.count_noted-requires-clause-noted g c).After-noted,
   first-taken (world_of c.args.self.now) c.args.key.now c.in-Some.cut.depth,
   can-go c.args.self.now c.requires.is_arena c.requires.counted c.args.key.now c.requires.is_key
-      (cut-found c.args.self.now c.requires.is_arena c.requires.led c.args.key.now c.in-Some.cut c.in-Some.ensures.cut) c.in-Some.cut.depth,
+      (cut-found c.args.self.now c.requires.is_arena c.requires.led c.args.key.now c.in-Some.cut c.in-Some.ensures.cut.0) c.in-Some.cut.depth,
 )
 
 -- ---- and taken out
@@ -90,10 +90,10 @@ clear-requires-clause-loose g c =
     (cut g to) c.take_out.new.self c.take_out.ensures c.in-Some-below.at c.in-Some-below.is)
 
 pub returns-in-Some-below-clause-answer : goal.returns-in-Some-below-clause-answer
-returns-in-Some-below-clause-answer g c = sym (cut-found c.args.self.now c.requires.is_arena c.requires.led c.args.key.now c.in-Some.cut c.in-Some.ensures.cut)
+returns-in-Some-below-clause-answer g c = sym c.in-Some.ensures.cut.1
 
 pub returns-in_default-below-clause-answer : goal.returns-in_default-below-clause-answer
-returns-in_default-below-clause-answer g c = sym (cut-found c.args.self.now c.requires.is_arena c.requires.led c.args.key.now c.in-Some.cut c.in-Some.ensures.cut)
+returns-in_default-below-clause-answer g c = sym c.in-Some.ensures.cut.1
 
 pub returns-in-Some-below-clause-shrunk : goal.returns-in-Some-below-clause-shrunk
 returns-in-Some-below-clause-shrunk g c =
