@@ -6,16 +6,17 @@ use Rattle.std.proofs.lemmas.Option.{none-some}
 use Rattle.judy_places.specs.Places.{NoneLost, IsNextPlace}
 use Rattle.judy_places.proofs.PlaceLemmas.{free-inside}
 use Rattle.judy_model.specs.Keys.{word_order}
-use Rattle.judy_model.specs.Arrays.{ArrayOf}
+use Rattle.std.specs.FinMap.{get, remove}
+use Rattle.judy_model.specs.Arrays.{ArrayOf, with_map}
 use Rattle.judy_hs.specs.declared.group.GroupPlace.{GroupPlace}
 use Rattle.judy_hs.specs.declared.group.GroupPlace.TheVariants.{Free, Short, Long}
 use Rattle.judy_hs.specs.declared.group.Inside.{Inside}
 use Rattle.judy_hs.specs.declared.group.Inside.TheVariants.{Word, Chained}
 use Rattle.judy_hs.specs.LongGroups.{put_at, one_word, one_long}
-use Rattle.judy_hs.specs.Groups.{Group, none, short, long, group_with, group_with_key, group_without, one_group, CanTakeKey, IsInside}
+use Rattle.judy_hs.specs.Groups.{Group, none, short, long, group_with, group_with_key, group_without, one_group, CanTakeKey, IsInside, IsEmptyGroup, IsGroupLess}
 use Rattle.judy_hs.specs.GroupPlaces.{group_of, groups_of, link_of, links_of}
 use Rattle.judy_hs.specs.GroupLends.{place_with}
-use Rattle.judy_hs.specs.Keyed.{Keyed, keyed_with, IsFreeGroup}
+use Rattle.judy_hs.specs.Keyed.{Keyed, keyed_with, IsFreeGroup, IsSpot, IsTaken}
 use Rattle.judy_hs.specs.declared.trial.Trial.{Trial}
 use Rattle.judy_hs.specs.declared.trial.Trial.TheVariants.{Added, Refused, Open}
 use Rattle.judy_hs.specs.Trials.{IfAdded, UnlessAdded}
@@ -74,6 +75,39 @@ module _ (lengths : ArrayOf word_order) (places : List GroupPlace) (place : ℕ)
 
   pub keyed-back : keyed_of lengths (set places place held) ≡ keyed_of lengths places
   keyed-back = ap (keyed_of lengths) (set_same places place held is)
+
+  -- A key was taken out of the group at a place.
+  module _ (part : ℕ) (key : List ℕ) (leads : get lengths.map (length key) ≡ Some place) (new : GroupPlace) (less : IsGroupLess (group_of held) part key (group_of new)) where
+    less-here : IsGroupLess (get_or (groups_of places) place none) part key (group_of new)
+    less-here = subst (λ (group : Group). IsGroupLess group part key (group_of new)) held-is less
+
+    stood-here : IsSpot (keyed_of lengths places) part key place less-here.inside
+    stood-here = record {
+      leads = leads;
+      within = let same = length-map places group_of in omega (arith, within, same);
+      is_inside = less-here.stood;
+    }
+
+    -- Others are left,
+    pub taken-kept : (IsEmptyGroup (group_of new) → ⊥) → IsTaken (keyed_of lengths places) part key (keyed_of lengths (set places place new))
+    taken-kept some = record {
+      place = place;
+      inside = less-here.inside;
+      stood = stood-here;
+      kept = λ used. keyed-set lengths places place new _ less-here.less;
+      emptied = λ empty. absurd (some (subst IsEmptyGroup (sym less-here.less) empty));
+    }
+
+    -- or none is, and the group goes.
+    pub taken-emptied : IsEmptyGroup (group_of new) → (next : ℕ) (fewer : ArrayOf word_order) → fewer ≡ with_map lengths (remove lengths.map (length key)) →
+        IsTaken (keyed_of lengths places) part key (keyed_of fewer (set (set places place new) place (Free next)))
+    taken-emptied empty next fewer is_fewer = record {
+      place = place;
+      inside = less-here.inside;
+      stood = stood-here;
+      kept = λ used. absurd (used (subst IsEmptyGroup less-here.less empty));
+      emptied = λ gone. keyed-free fewer places place next new ∙ ap (λ (words : ArrayOf word_order). record { lengths = words; groups = set (groups_of places) place none }) is_fewer;
+    }
 
 -- ---- what the places keep
 

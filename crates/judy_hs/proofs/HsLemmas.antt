@@ -1,7 +1,7 @@
 -- Arrays: what the changes of their groups make of them.
-use Rattle.std.proofs.Common.{◌≡◌, ℕ, ◌+◌, ◌-◌, ◌<◌, ◌≤◌, ◌==◌, true, false, cond, List, length, get_or, set, Option, Some, None, is_some, Result, Ok, Err}
+use Rattle.std.proofs.Common.{◌≡◌, ℕ, ◌+◌, ◌-◌, ◌<◌, ◌≤◌, ◌==◌, cond, List, length, get_or, set, Option, Some, None, is_some, Result, Ok, Err}
 use Rattle.std.proofs.Common.{IsOk, IfOk, OnOk, IfErr, MutBor, IsTrue, ◌↔◌, eq-eqb, refl, sym, ap, ◌∙◌, subst, ◌⊎◌, inl, inr, ⊎_elim, arith}
-use Rattle.std.specs.FinMap.{FinMap, get, insert, remove, empty, len, contains_key, len-empty, len-insert, len-remove, get-empty, empty_of_len}
+use Rattle.std.specs.FinMap.{FinMap, get, insert, remove, empty, len, len-empty, len-insert, len-remove, get-empty, empty_of_len}
 use Rattle.std.specs.Borrow.{name_if_ok}
 use borrow.Follows.Closed.{read_of}
 use Rattle.std.proofs.lemmas.Bool.{false≢true}
@@ -15,7 +15,7 @@ use Rattle.judy_model.proofs.lemmas.maps.ChangesLemmas.{del_absent}
 use Rattle.judy_hs.specs.declared.error.HsError.{HsError}
 use Rattle.judy_hs.specs.declared.group.Inside.{Inside}
 use Rattle.judy_hs.specs.Groups.{Group, none, short, long, IsInside, IsEmptyGroup, value_inside, group_with, group_with_key, group_without}
-use Rattle.judy_hs.specs.Keyed.{Keyed, no_keys, group_at, in_place, IsSpot, IsNewSpot, keyed_with, with_group, added_keyed, keyed_without, without_group}
+use Rattle.judy_hs.specs.Keyed.{Keyed, no_keys, group_at, in_keyed, in_place, IsSpot, IsNewSpot, keyed_with, with_group, added_keyed, keyed_without, without_group}
 use Rattle.judy_hs.specs.Parts.{part_of}
 use Rattle.judy_hs.specs.Kept.{value_of, map_of, array_of, IsKeyed, IsHs}
 use Rattle.judy_hs.specs.Slots.{with_value}
@@ -63,6 +63,10 @@ module _ (hash_of : List ℕ → ℕ) (longest : ℕ) where
     -- The map answers as the groups do, and for what is no key nothing.
     pub get_is : IsBytesKeyTo longest key → get (map_of hash_of longest keyed) key ≡ value_of hash_of keyed key
     get_is is_key = get-table (bytes_keys-all longest) (value_of hash_of keyed) key is_key
+
+    -- So it answers as they do under the word by which its group finds the key.
+    pub get_part : IsBytesKeyTo longest key → (part : ℕ) → part ≡ part_of hash_of key → get (map_of hash_of longest keyed) key ≡ in_keyed keyed part key
+    get_part is_key part is = get_is is_key ∙ ap (λ (word : ℕ). in_keyed keyed word key) (sym is)
 
     pub get_long : longest < length key → get (map_of hash_of longest keyed) key ≡ None
     get_long over = get-table_bad (bytes_keys-all longest) (value_of hash_of keyed) key (λ is. absurd (omega (arith, is.within_limit)))
@@ -197,12 +201,6 @@ module _ (hash_of : List ℕ → ℕ) (longest limit count : ℕ) (keyed : Keyed
 -- A key that isn't there isn't deleted.
 pub not_deleted : (array : ArrayOf byte_order) (key : List ℕ) → get array.map key ≡ None → array ≡ with_map array (del array.map key)
 not_deleted array key absent = ap (with_map array) (sym (del_absent byte_order_total array.map key byte_order_same absent))
-
-pub not_contained : (map : FinMap byte_order ℕ) (key : List ℕ) → get map key ≡ None → false ≡ contains_key map key
-not_contained map key absent = sym (ap (λ (found : Option ℕ). is_some found) absent)
-
-pub contained : (map : FinMap byte_order ℕ) (key : List ℕ) (value : ℕ) → get map key ≡ Some value → true ≡ contains_key map key
-contained map key value held = sym (ap (λ (found : Option ℕ). is_some found) held)
 
 -- A count of keys of which there is one is at least 1.
 pub counts_one : (map : FinMap byte_order ℕ) (key : List ℕ) (value count : ℕ) → get map key ≡ Some value → count ≡ len map → 1 ≤ count

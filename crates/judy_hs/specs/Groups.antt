@@ -122,6 +122,12 @@ group_without (short words) part inside key = short (with_map words (remove word
 group_without (long group) part (Word word) key = long group
 group_without (long group) part (Chained place) key = long (without_key group part place key)
 
+-- A key that stood in the group was taken out.
+pub record IsGroupLess (before : Group) (part : ℕ) (key : List ℕ) (after : Group) : Type 0 where
+  pub inside : Inside
+  pub stood : IsInside before part key inside
+  pub less : after ≡ group_without before part inside key
+
 -- The group has no key.
 abbrev pub IsEmptyGroup : Group → Type 0
 IsEmptyGroup none = Unit {0}

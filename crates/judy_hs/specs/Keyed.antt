@@ -5,7 +5,7 @@ use Rattle.std.specs.FinMap.{get, insert, remove}
 use Rattle.judy_model.specs.Keys.{word_order}
 use Rattle.judy_model.specs.Arrays.{ArrayOf, array_code, with_map, empty_array}
 use Rattle.judy_hs.specs.LongGroups.{put_at}
-use Rattle.judy_hs.specs.Groups.{Group, none, group_code, in_group, chain_in, IsInside, IsNewInside, group_with, group_with_key, group_without, one_group, one_inside, words_of}
+use Rattle.judy_hs.specs.Groups.{Group, none, group_code, in_group, chain_in, IsInside, IsNewInside, IsEmptyGroup, group_with, group_with_key, group_without, one_group, one_inside, words_of}
 use Rattle.judy_hs.specs.declared.group.Inside.{Inside}
 
 -- The array from lengths to the places of groups, and the groups.
@@ -78,6 +78,14 @@ keyed_without keyed place part inside key = record keyed { groups = slice_set ke
 -- Without a group, the only one of keys of a length.
 abbrev pub without_group : Keyed → ℕ → ℕ → Keyed
 without_group keyed key_length place = record { lengths = with_map keyed.lengths (remove keyed.lengths.map key_length); groups = slice_set keyed.groups place none }
+
+-- A key that stood in a group was taken out, and with the last one of its length the group.
+pub record IsTaken (before : Keyed) (part : ℕ) (key : List ℕ) (after : Keyed) : Type 0 where
+  pub place : ℕ
+  pub inside : Inside
+  pub stood : IsSpot before part key place inside
+  pub kept : (IsEmptyGroup (group_without (group_at before place) part inside key) → ⊥) → after ≡ keyed_without before place part inside key
+  pub emptied : IsEmptyGroup (group_without (group_at before place) part inside key) → after ≡ without_group before (length key) place
 
 -- The array by which the group that a length leads to finds its keys.
 abbrev pub words_at : Keyed → Option ℕ → Option (ArrayOf word_order)

@@ -100,6 +100,12 @@ without_key long hash place key =
     let left = without (chain_at long place) key in
     record long { hashes = hashes_without long hash left; chains = slice_set long.chains place left }
 
+-- A key that stood in the group was taken out.
+pub record IsLongLess (before : Long) (hash : ℕ) (key : List ℕ) (after : Long) : Type 0 where
+  pub place : ℕ
+  pub stood : IsLongPlace before hash key place
+  pub less : after ≡ without_key before hash place key
+
 -- The group with a value for a key of one of its chains.
 abbrev pub long_with : Long → ℕ → List ℕ → ℕ → Long
 long_with long place key value = record long { chains = slice_set long.chains place (with_value (chain_at long place) key value) }

@@ -29,7 +29,7 @@ pub enum GroupPlace {
 }
 
 impl GroupPlace {
-    ghost use Rattle.judy_hs.specs.Groups.{none, in_group, chain_in, words_of, IsInside, IsNewInside, IsOfLength, IsUsable, value_inside, group_with_key, group_without, CanTakeKey, IsEmptyGroup};
+    ghost use Rattle.judy_hs.specs.Groups.{none, in_group, chain_in, words_of, IsInside, IsNewInside, IsOfLength, IsUsable, value_inside, group_with_key, CanTakeKey, IsEmptyGroup, IsGroupLess};
     ghost use Rattle.judy_hs.specs.GroupPlaces.{group_of, link_of};
     ghost use Rattle.judy_hs.specs.Relaid.{IsRelaidGroup};
     ghost use Rattle.judy_hs.specs.Trials.{IfAdded, UnlessAdded, UnlessOpen, IfOpen};
@@ -155,24 +155,31 @@ impl GroupPlace {
         }
     }
 
-    // Takes a key out that stands there, and says whether no key is left.
-    pub fn remove(&mut self, part: u64, inside: Inside, key: &[u8]) -> bool
-        requires { IsInside (group_of self.old) part key.now inside }
-        ensures removed { group_of self.new
-            ≡ group_without (group_of self.old) part inside key.now }
-        ensures answer { IsTrue result ↔ IsEmptyGroup (group_of self.new) }
+    // Takes a key out by its word or hash, and answers the value that it had.
+    pub fn take(&mut self, part: u64, key: &[u8]) -> Option<u64>
+        ensures answer { result ≡ in_group (group_of self.old) part key.now }
+        ensures taken { IfSome result
+            (λ _. IsGroupLess (group_of self.old) part key.now (group_of self.new)) }
+        ensures absent { result ≡ None → self.new ≡ self.old }
     {
         match self {
             GroupPlace::Short(words) => {
+                let was = words.get(part)?;
                 words.del(part);
-                words.is_empty()
+                Some(was)
             }
-            GroupPlace::Long(group) => {
-                if let Inside::Chained(place) = inside {
-                    group.remove(part, place, key);
-                }
-                group.is_empty()
-            }
+            GroupPlace::Long(group) => group.take(part, key),
+            GroupPlace::Free(_) => None,
+        }
+    }
+
+    // Whether no key is left.
+    pub fn is_empty(&self) -> bool
+        ensures { IsTrue result ↔ IsEmptyGroup (group_of self.now) }
+    {
+        match self {
+            GroupPlace::Short(words) => words.is_empty(),
+            GroupPlace::Long(group) => group.is_empty(),
             GroupPlace::Free(_) => true,
         }
     }

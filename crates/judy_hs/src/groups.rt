@@ -77,8 +77,8 @@ fn group_of_one(alloc: Global, part: u64, key: &[u8]) -> Result<(GroupPlace, Ins
 }
 
 impl Groups {
-    ghost use Rattle.judy_hs.specs.Groups.{IsUsable, CanTakeKey, IsInside, IsOfLength, IsEmptyGroup, value_inside, group_without};
-    ghost use Rattle.judy_hs.specs.Keyed.{no_keys, in_keyed, chain_led, words_at, group_at, IsSpot, IsNewSpot, added_keyed, with_group, keyed_without, without_group};
+    ghost use Rattle.judy_hs.specs.Groups.{IsUsable, CanTakeKey, IsOfLength, value_inside};
+    ghost use Rattle.judy_hs.specs.Keyed.{no_keys, in_keyed, chain_led, words_at, group_at, IsSpot, IsNewSpot, IsTaken, added_keyed, with_group};
     ghost use Rattle.judy_hs.specs.Trials.{IfAdded, UnlessAdded, UnlessOpen, IfOpen};
     ghost use Rattle.judy_hs.specs.KeyedLends.{LendsSpot, LendsSpotOk};
     ghost use Rattle.judy_hs.specs.Listed.{CanList, entries_in, group_list, keyed_list};
@@ -267,23 +267,24 @@ impl Groups {
         Ok(KeyPlace { group, inside })
     }
 
-    // Takes a key out that stands there. A group that becomes empty goes, with the length of its keys.
-    pub fn remove(&mut self, part: u64, key: &[u8], spot: KeyPlace)
-        requires within { spot.group < length self.old.groups }
-        requires is_inside { IsInside (group_at self.old spot.group) part key.now spot.inside }
-        ensures kept { (IsEmptyGroup
-            (group_without (group_at self.old spot.group) part spot.inside key.now) → ⊥)
-            → self.new ≡ keyed_without self.old spot.group part spot.inside key.now }
-        ensures emptied { IsEmptyGroup
-            (group_without (group_at self.old spot.group) part spot.inside key.now)
-            → self.new ≡ without_group self.old (length key.now) spot.group }
+    // Takes a key out by the word by which its group finds it, and answers the value that it had. A group that becomes
+    // empty goes, with the length of its keys.
+    pub fn take(&mut self, part: u64, key: &[u8]) -> Option<u64>
+        ensures answer { result ≡ in_keyed self.old part key.now }
+        ensures taken { IfSome result (λ _. IsTaken self.old part key.now self.new) }
+        ensures absent { result ≡ None → self.new ≡ self.old }
     {
-        let emptied = self.groups[spot.group].remove(part, spot.inside, key);
-        if emptied {
+        let place = self.lengths.get(key.len() as u64)? as usize;
+        let Some(held) = self.groups.get_mut(place) else {
+            return None;
+        };
+        let was = held.take(part, key)?;
+        if held.is_empty() {
             self.lengths.del(key.len() as u64);
-            self.groups[spot.group] = GroupPlace::Free(self.free);
-            self.free = spot.group;
+            self.groups[place] = GroupPlace::Free(self.free);
+            self.free = place;
         }
+        Some(was)
     }
 
     // Moves records of long keys out of pages with free places, where a walk over the keys of a group takes at most so

@@ -115,9 +115,31 @@ impl<H: ByteHash + Drop> JudyHs<H> {
     {
         let _groups = &self.groups;
         match spot_of(&self.hasher, &self.groups, key) {
-            Some((_, spot)) => self.groups.slot(spot, key),
+            Some(spot) => self.groups.slot(spot, key),
             None => None,
         }
+    }
+
+    /// Takes a key out, and answers the value that it had; `None` where it was absent, as every key of more than
+    /// `H::LONGEST` bytes is, and then nothing changes. The key is looked up once. It can't fail and asks for no
+    /// memory of its own. With the last key goes all the memory. (This project's own: a removal that tells the old
+    /// value.)
+    ///
+    /// ```
+    /// if let Some(value) = array.remove(b"pear") { sum -= value; }
+    /// ```
+    pub fn remove(&mut self, key: &[u8]) -> Option<u64>
+        ensures answer { result ≡ map.get self.old.map key.now }
+        ensures removed { self.new ≡ array.with_map self.old (array.del self.old.map key.now) }
+    {
+        let _groups = &self.groups;
+        if key.len() > H::LONGEST {
+            return None;
+        }
+        let was = self.groups.take(part_of(&self.hasher, key), key)?;
+        self.count -= 1;
+        self.give_back();
+        Some(was)
     }
 
     /// Takes a key out, and answers whether it was there; a key of more than `H::LONGEST` bytes never is. It can't fail
@@ -126,16 +148,7 @@ impl<H: ByteHash + Drop> JudyHs<H> {
         ensures answer { result ≡ map.contains_key self.old.map key.now }
         ensures deleted { self.new ≡ array.with_map self.old (array.del self.old.map key.now) }
     {
-        let _groups = &self.groups;
-        match spot_of(&self.hasher, &self.groups, key) {
-            Some((part, spot)) => {
-                self.groups.remove(part, key, spot);
-                self.count -= 1;
-                self.give_back();
-                true
-            }
-            None => false,
-        }
+        self.remove(key).is_some()
     }
 
     // Gives back what is left of an array that holds no key: its lists and their free places.
@@ -269,22 +282,18 @@ impl<H: ByteHash + Drop> JudyHs<H> {
     }
 }
 
-// The word by which its group finds a key, and where the key stands; none where it is absent, as every key of more than
-// `H::LONGEST` bytes is.
-// Compiled into its two callers: a look-up for a slot is one of them.
+// Where a key stands; none where it is absent, as every key of more than `H::LONGEST` bytes is.
+// Compiled into its one caller, the look-up for a slot.
 #[inline(always)]
-fn spot_of<H: ByteHash>(hasher: &H, groups: &Groups, key: &[u8]) -> Option<(u64, KeyPlace)>
+fn spot_of<H: ByteHash>(hasher: &H, groups: &Groups, key: &[u8]) -> Option<KeyPlace>
     ensures { MatchOption result
         (map.get (map_of H.hash_of H.LONGEST groups.now) key.now ≡ None)
-        (λ found. StandsAt H.hash_of H.LONGEST groups.now key.now found.0 found.1) }
+        (StandsAt H.hash_of H.LONGEST groups.now key.now) }
 {
     if key.len() > H::LONGEST {
         return None;
     }
     let part = part_of(hasher, key);
     let way = groups.way(part, key);
-    match groups.find(way, part, key) {
-        Some(spot) => Some((part, spot)),
-        None => None,
-    }
+    groups.find(way, part, key)
 }

@@ -94,7 +94,7 @@ fn is_own(
 }
 
 impl LongGroup {
-    ghost use Rattle.judy_hs.specs.LongGroups.{one_long, in_long, in_chain, chain_at, IsLed, IsLongPlace, IsAdded, value_of_place, without_key};
+    ghost use Rattle.judy_hs.specs.LongGroups.{one_long, in_long, in_chain, chain_at, IsLed, IsLongPlace, IsLongLess, IsAdded, value_of_place, without_key};
     ghost use Rattle.judy_hs.specs.Trials.{IfAdded, UnlessAdded, UnlessOpen, IfOpen};
     ghost use Rattle.judy_hs.specs.LongLends.{LendsLong};
     ghost use Rattle.judy_hs.specs.Chains.{AreApart};
@@ -236,9 +236,21 @@ impl LongGroup {
         }
     }
 
+    // Takes a key with that hash out, and answers the value that it had.
+    pub fn take(&mut self, hash: u64, key: &[u8]) -> Option<u64>
+        ensures answer { result ≡ in_long self.old hash key.now }
+        ensures taken { IfSome result (λ _. IsLongLess self.old hash key.now self.new) }
+        ensures absent { result ≡ None → self.new ≡ self.old }
+    {
+        let place = self.hashes.get(hash)? as usize;
+        let was = self.value_at(place, key)?;
+        self.remove(hash, place, key);
+        Some(was)
+    }
+
     // Takes a key at the place of its hash out. Where its record is there, another key with that hash takes its place;
     // where there is none, the hash goes too, and the place is free.
-    pub fn remove(&mut self, hash: u64, place: usize, key: &[u8])
+    fn remove(&mut self, hash: u64, place: usize, key: &[u8])
         requires leads { get self.old.hashes.map hash ≡ Some place }
         requires is_there { IsSome (value_in (chain_at self.old place) key.now) }
         ensures { self.new ≡ without_key self.old hash place key.now }

@@ -197,10 +197,13 @@ fn check_numbers(rt: &impl Abort, array: &JudyHs<Same>, has_odd: bool) {
     }
 }
 
-// Takes the odd numbers out.
-fn delete_odd(rt: &impl Abort, array: &mut JudyHs<Same>) {
+// Takes the odd numbers out, each once and with its value.
+fn remove_odd(rt: &impl Abort, array: &mut JudyHs<Same>) {
     for half in 0..500u32 {
-        check_del(rt, array, &digits(half * 2 + 1), true);
+        let number = half * 2 + 1;
+        let key = digits(number);
+        same_value(rt, array.remove(&key), Some(u64::from(number)));
+        same_value(rt, array.remove(&key), None);
     }
 }
 
@@ -218,7 +221,7 @@ fn long_keys_and_one_hash(rt: HostRuntime) {
     let mut array = JudyHs::new(rt.alloc(), 1000, Same);
     insert_numbers(&rt, &mut array);
     check_numbers(&rt, &array, true);
-    delete_odd(&rt, &mut array);
+    remove_odd(&rt, &mut array);
     check_numbers(&rt, &array, false);
     match array.sorted() {
         Ok(list) => check_even(&rt, &list),
