@@ -19,3 +19,4 @@ pub mod Loans
 pub mod RootFacts
 pub mod SumFacts
 pub mod PresentFacts
+pub mod NearestFacts

@@ -10,4 +10,5 @@ pub mod Built
 pub mod ShapeSums
 pub mod Slots
 pub mod Seats
+pub mod Nearest
 pub mod Branches

@@ -14,14 +14,10 @@ use std::alloc::{AllocError, Global};
 use std::marker::PhantomData;
 
 impl<V: Words + Drop> ChildOf<V> {
-    // A copy of the node and of those below it. No visit is counted, which takes leave. The error is want of memory;
-    // nothing is kept then.
+    /// A copy of the node and of those below it. No visit is counted, which takes leave. The error is want of memory;
+    /// nothing is kept then.
     #[cycle(clone)]
-    pub(crate) fn try_clone(
-        &self,
-        leave: Unmetered,
-        alloc: Global,
-    ) -> Result<ChildOf<V>, AllocError>
+    pub fn try_clone(&self, leave: Unmetered, alloc: Global) -> Result<ChildOf<V>, AllocError>
         ensures { IfOk result (λ copy. copy ≡ self.now) }
     {
         let kind = match self.kind() {
