@@ -34,7 +34,7 @@ set-there [] at x is = refl
 set-there (first ∷ xs) zero x is = ap (λ y. y ∷ xs) (sym (same_Some first x is))
 set-there (first ∷ xs) (suc at) x is = ap (λ rest. first ∷ rest) (set-there xs at x is)
 
-branch_is : (words w v : ℕ) (s r b c : List ℕ) (k l : List Tree) (n m : ℕ) → w ≡ v → s ≡ r → b ≡ c → k ≡ l → n ≡ m → IsBranch words w s b k n → IsBranch words v r c l m
+pub branch_is : (words w v : ℕ) (s r b c : List ℕ) (k l : List Tree) (n m : ℕ) → w ≡ v → s ≡ r → b ≡ c → k ≡ l → n ≡ m → IsBranch words w s b k n → IsBranch words v r c l m
 branch_is words w v s r b c k l n m ew es eb ek en is =
     subst (λ x. IsBranch words x r c l m) ew (subst (λ x. IsBranch words w x c l m) es (subst (λ x. IsBranch words w s x l m) eb
     (subst (λ x. IsBranch words w s b x m) ek (subst (λ x. IsBranch words w s b k x) en is))))
@@ -231,7 +231,7 @@ or_false : (one other : Bool) → (one && other) ≡ false → (one ≡ false) �
 or_false true other is = inr is
 or_false false other is = inl refl
 
-and_true : (one other : Bool) → (one && other) ≡ true → (one ≡ true) × (other ≡ true)
+pub and_true : (one other : Bool) → (one && other) ≡ true → (one ≡ true) × (other ≡ true)
 and_true true other is = (refl, is)
 and_true false other is = absurd (true≢false (sym is))
 

@@ -12,6 +12,7 @@ pub mod LeafFacts
 pub mod BelowFacts
 pub mod InsertFacts
 pub mod RootFacts
+pub mod AroundFacts
 pub mod KidInserts
 pub mod GivenValues
 pub mod WayFacts

@@ -33,7 +33,7 @@ without-same pair pairs key same = ap (λ b. cond b (without key pairs) (pair �
 pub without-apart : (pair : ℕ × ℕ) (pairs : Pairs) (key : ℕ) → pair.0 ≢ key → without key (pair ∷ pairs) ≡ pair ∷ without key pairs
 without-apart pair pairs key apart = ap (λ b. cond b (without key pairs) (pair ∷ without key pairs)) (ne_eqb pair.0 key apart)
 
-same_or : (one other : ℕ) → (one ≡ other) ⊎ (one ≢ other)
+pub same_or : (one other : ℕ) → (one ≡ other) ⊎ (one ≢ other)
 same_or one other = ⊎_elim (λ h. inl h.1) (λ h. inr h.1) (eqb_tells one other)
 
 -- One pair with a key's value.

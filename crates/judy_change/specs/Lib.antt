@@ -1,4 +1,5 @@
 pub mod Removals
+pub mod Around
 pub mod LeafTrees
 pub mod Inserted
 pub mod Exchanged

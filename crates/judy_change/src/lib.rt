@@ -17,13 +17,14 @@
 //! gets a child (put.rt), or at a node that skips other bytes than the key begins with, which gets a branch above it
 //! (split.rt). gap.rt puts a pair among others, and appends.rt many behind all others, a new node at once.
 //! removals.rt has the way of a removal, remove_leaf.rt its end, settle.rt the smaller nodes, removed.rt what is
-//! answered, and laws.rt a law of removals.
+//! answered, around.rt the removal of a key with others around it, and laws.rt a law of removals.
 //!
 //! The crate stands on judy_model, judy_bits, judy_block, judy_leaf and judy_node, of which it uses the parts for
 //! writing; judy_word stands on it.
 #![tactic(auto)]
 
 mod appends;
+mod around;
 mod bitmaps;
 mod childless;
 mod gap;
@@ -43,6 +44,8 @@ mod split;
 mod way_down;
 
 pub use appends::append;
+pub use around::{Cleared, Span, remove_around};
 pub use inserts::{exchange, insert, insert_with, slot};
 pub use removals::remove;
 pub use removed::Removed;
+pub use settle::settled;

@@ -144,7 +144,7 @@ fn remove_kind<V: Words + Drop>(alloc: Global, width: u8, kind: &mut KindOf<V>, 
 }
 
 // From a node without children. A leaf or a bitmap leaf that stays one is changed where it stands.
-fn remove_childless<V: Words + Drop>(
+pub(crate) fn remove_childless<V: Words + Drop>(
     alloc: Global,
     width: u8,
     kind: &mut KindOf<V>,
@@ -236,7 +236,7 @@ fn remove_below<V: Words + Drop>(alloc: Global, branch: &mut BranchOf<V>, key: u
             if branch.population == 1 {
                 return Taken::Only(value);
             }
-            lose_child(branch, byte, place);
+            lose_child(branch, byte, place, 1);
             Taken::Gone(value, true)
         }
         Taken::Gone(value, shrunk) => {
@@ -247,25 +247,30 @@ fn remove_below<V: Words + Drop>(alloc: Global, branch: &mut BranchOf<V>, key: u
     }
 }
 
-// A child of one key goes, with its byte, and so do the sums of all children.
-fn lose_child<V: Words + Drop>(branch: &mut BranchOf<V>, byte: u8, place: usize)
+// A child of so many keys goes, with its byte, and so do the sums of all children.
+pub(crate) fn lose_child<V: Words + Drop>(
+    branch: &mut BranchOf<V>,
+    byte: u8,
+    place: usize,
+    count: u64,
+)
     requires place { place < length branch.old.children.items }
-    requires some { 1 ≤ branch.old.population }
+    requires some { count ≤ branch.old.population }
     ensures children { branch.new.children.items ≡ remove branch.old.children.items place }
     ensures bytes { branch.new.bytes ≡ set.without_byte branch.old.bytes byte }
-    ensures population { branch.new.population + 1 ≡ branch.old.population }
+    ensures population { branch.new.population + count ≡ branch.old.population }
     ensures skip { branch.new.skip ≡ branch.old.skip }
     ensures width { branch.new.width ≡ branch.old.width }
     ensures sums { AreSums branch.new.sums branch.new.children.items }
 {
     let _ = branch.children.remove(place);
     branch.bytes.take(byte);
-    branch.population -= 1;
+    branch.population -= count;
     branch.sums = Sums::none();
 }
 
 // Whether both hold.
-fn both(one: bool, other: bool) -> bool
+pub(crate) fn both(one: bool, other: bool) -> bool
     ensures { result ≡ (one && other) }
 {
     one && other

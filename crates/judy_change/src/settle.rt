@@ -167,3 +167,26 @@ fn smaller<V: Words + Drop>(
     }
     (merged(&mut branch), true)
 }
+
+/// The smallest node of a branch below which no node is loose and whose keys have `width` bytes, two of them at least
+/// at width 8. The error is want of memory; nothing is kept then.
+pub fn settled<V: Words + Drop>(
+    alloc: Global,
+    width: u8,
+    branch: BranchOf<V>,
+) -> Result<ChildOf<V>, AllocError>
+    requires one { V.WORDS ≤ 1 }
+    requires branch { IsWholeBranch V.WORDS branch }
+    requires sums { AreSums branch.sums branch.children.items }
+    requires width { width_of branch ≡ width }
+    requires two { width ≡ 8 → 2 ≤ branch.population }
+    requires tight { loose_below branch ≡ 0 }
+    ensures { IfOk result (λ child. IsTightOf V.WORDS width (pairs_below branch) child) }
+{
+    let mut kind = KindOf::Branch(Box::new(alloc, branch)?);
+    if settle(alloc, width, &mut kind) {
+        Ok(ChildOf::close(kind))
+    } else {
+        Err(AllocError)
+    }
+}
