@@ -3,6 +3,7 @@ mod SeenWords
 mod HeldFacts
 mod MapFacts
 mod RemovalFacts
+mod RangeFacts
 mod ExchangeFacts
 mod InsertionFacts
 mod ArrayFacts

@@ -17,7 +17,7 @@ no_more key (pair ∷ pairs) =
     let rest = no_more key pairs in
     by_same (λ left. length left ≤ length (pair ∷ pairs)) pair.0 key (without key pairs) (pair ∷ without key pairs) (λ same. omega arith) (λ apart. omega arith)
 
-neither : (one other : Bool) → (one || not other) ≡ false → (one ≡ false) × (other ≡ true)
+pub neither : (one other : Bool) → (one || not other) ≡ false → (one ≡ false) × (other ≡ true)
 neither true other e = cc
 neither false true e = (refl, refl)
 neither false false e = cc

@@ -6,6 +6,7 @@ ghost use Rattle.judy_model.specs.Forms.{shape_in};
 ghost use Rattle.judy_model.specs.Shapes.{shape_of};
 ghost use Rattle.judy_node.specs.ShapeSums.{shape_as};
 ghost use Rattle.judy_node.specs.Roots.{one_tree};
+ghost use Rattle.judy_node.specs.Trees.{IsTight};
 ghost use Rattle.judy_word.specs.Held.{map_in, nothing_held, IsHeld};
 
 use judy_leaf::Words;
@@ -20,6 +21,7 @@ mod empties;
 mod entries;
 mod fronts;
 mod kept;
+mod ranges;
 mod slots;
 mod sorted;
 mod values;
@@ -68,6 +70,22 @@ impl<V: Words + Drop> TreeArray<V> {
         TreeArray {
             limit,
             root: NodeOf::empty(),
+            loose: false,
+            alloc,
+        }
+    }
+
+    /// The array with a limit, at least 1, of a tree whose nodes are as small as its keys allow, which are no more than
+    /// the limit.
+    pub fn of_root(alloc: Global, limit: u64, root: NodeOf<V>) -> TreeArray<V>
+        requires some { 1 ≤ limit }
+        requires within { length root.pairs ≤ limit }
+        requires tight { IsTight root }
+        ensures { result ≡ record { limit = limit; tree = root; loose = false } }
+    {
+        TreeArray {
+            limit,
+            root,
             loose: false,
             alloc,
         }

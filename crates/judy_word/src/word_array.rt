@@ -1,14 +1,16 @@
 //! An array over words as its callers have it: a set of words and a map from words, with what both have alike.
 
-ghost use Rattle.std.specs.Prelude.{◌≡◌, ◌≤◌, ◌↔◌, true, false, IsTrue};
+ghost use Rattle.std.specs.Prelude.{◌≡◌, ◌+◌, ◌≤◌, ◌↔◌, true, false, length, IsTrue};
 ghost use Rattle.std.specs.FinMap as map;
 ghost use Rattle.judy_model.specs.Arrays as array;
 ghost use Rattle.judy_model.specs.Counts as counts;
 ghost use Rattle.judy_model.specs.Neighbours as neighbours;
 ghost use Rattle.judy_model.specs.Empties as empties;
+ghost use Rattle.judy_model.specs.Ranges as ranges;
 ghost use Rattle.judy_model.specs.Forms.{loose_in, shape_in};
 ghost use Rattle.judy_model.specs.Shapes.{form_of, shape_of};
 ghost use Rattle.judy_node.specs.ShapeSums.{shape_as};
+ghost use Rattle.judy_node.specs.Trees.{IsTight};
 ghost use Rattle.judy_change.specs.Removals.{Has33};
 ghost use Rattle.judy_query.specs.Maps.{map_of};
 ghost use Rattle.judy_word.specs.WordArrays.{array_of, no_keys, seen_as};
@@ -206,6 +208,38 @@ impl<V: Words + Drop> WordArray<V> {
     {
         self.tree.law();
         self.tree.remove(i);
+    }
+
+    /// Takes the key `i` out, where it is there, and with it other keys from `from` to `to`, between which `i` lies:
+    /// all of a node with that key, where the node has none but such keys. It answers how many went. It is a step of
+    /// those that take all keys of a range out, and can't fail: where memory for a smaller node is refused, the larger
+    /// one stays.
+    pub fn delete_within(&mut self, i: u64, from: u64, to: u64) -> u64
+        requires one { V.WORDS ≤ 1 }
+        requires low { from ≤ i }
+        requires high { i ≤ to }
+        ensures limit { self.new.limit ≡ self.old.limit }
+        ensures outside { ranges.outside self.new.map from to
+            ≡ ranges.outside self.old.map from to }
+        ensures count { map.len self.new.map + result ≡ map.len self.old.map }
+        ensures some { result ≡ 0 → map.contains_key self.old.map i ≡ false }
+    {
+        self.tree.remove_within(i, from, to)
+    }
+
+    /// The array with a limit, at least 1, of a tree whose nodes are as small as its keys allow, which are no more than
+    /// the limit: for what makes a tree of two.
+    pub fn of_root(alloc: Global, limit: u64, root: NodeOf<V>) -> WordArray<V>
+        requires some { 1 ≤ limit }
+        requires within { length root.pairs ≤ limit }
+        requires tight { IsTight root }
+        ensures limit { result.limit ≡ limit }
+        ensures map { result.map ≡ map_of root.pairs }
+        ensures tight { result.loose ≡ false }
+    {
+        WordArray {
+            tree: TreeArray::of_root(alloc, limit, root),
+        }
     }
 
     // The array that is made of it.
