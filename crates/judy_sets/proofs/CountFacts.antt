@@ -3,9 +3,9 @@ use Rattle.std.proofs.Common.{◌≡◌, ℕ, ◌+◌, ◌-◌, ◌≤◌, true,
 use Rattle.std.specs.FinMap.{FinMap, entries, len}
 use Rattle.judy_model.specs.Keys.{word_order}
 use Rattle.judy_model.specs.TwoMaps.{union, intersection, difference, symmetric_difference}
-use Rattle.judy_sets.specs.Merges.{Pairs, Ascends}
+use Rattle.judy_combine.specs.Merges.{Pairs, Ascends}
 use Rattle.judy_sets.specs.Pages.{Ahead, rest}
-use Rattle.judy_sets.proofs.Finds.{ascends-drop}
+use Rattle.judy_combine.proofs.Finds.{ascends-drop}
 use Rattle.judy_sets.proofs.Lengths.{entries_ascend, len-difference, len-rest, len-union, len-kept}
 use Rattle.judy_sets.proofs.MapLaws.{kept-symmetric}
 

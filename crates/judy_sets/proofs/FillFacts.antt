@@ -10,12 +10,12 @@ use Rattle.judy_model.specs.Keys.{word_order}
 use Rattle.judy_model.specs.Arrays.{ArrayOf, with_map}
 use Rattle.judy_model.proofs.lemmas.maps.ValuesLemmas.{value_from_All}
 use Rattle.judy_word.specs.Held.{with_new}
-use Rattle.judy_sets.specs.declared.keep.Keep.{Keep}
-use Rattle.judy_sets.specs.Merges.{Pairs, taken, pick}
+use Rattle.judy_combine.specs.declared.keep.Keep.{Keep}
+use Rattle.judy_combine.specs.Merges.{Pairs, taken, pick}
 use Rattle.judy_sets.specs.Pages.{Ahead, rest}
 use Rattle.judy_sets.specs.Fills.{worth, IsAdded, IsPut, IsRestPut, IsFilled}
 use Rattle.judy_sets.specs.Results.{kept, kept_count}
-use Rattle.judy_sets.proofs.Finds.{same_or, find-same, find-apart, find-join}
+use Rattle.judy_combine.proofs.Finds.{same_or, find-same, find-apart, find-join}
 use Rattle.judy_sets.proofs.MapLaws.{same_words, get-kept}
 
 or_none : (o : Option ℕ) → option_or o None ≡ o

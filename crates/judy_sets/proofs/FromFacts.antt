@@ -12,9 +12,9 @@ use Rattle.judy_model.proofs.lemmas.orders.WordOrder.{is_le_word, is_lt_word, le
 use Rattle.judy_node.specs.Trees.{IsMap}
 use Rattle.judy_query.specs.Maps.{map_of}
 use Rattle.judy_word.proofs.IterFacts.{entries_are}
-use Rattle.judy_sets.specs.Merges.{Pairs, Ascends}
+use Rattle.judy_combine.specs.Merges.{Pairs, Ascends}
 use Rattle.judy_sets.specs.Pages.{AreWords, IsFrom}
-use Rattle.judy_sets.proofs.Finds.{same_or, find-apart, find-below, ascends-drop}
+use Rattle.judy_combine.proofs.Finds.{same_or, find-apart, find-below, ascends-drop}
 use Rattle.judy_sets.proofs.Lengths.{entries_ascend}
 
 -- How many keys are below a word.

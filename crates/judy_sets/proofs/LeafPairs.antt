@@ -6,8 +6,8 @@ use Rattle.std.proofs.lemmas.List.{drop_all, take_all, take_at, length-take-le}
 use Rattle.std.proofs.Math.Dec.{leb}
 use Rattle.std.proofs.lemmas.Bool.{eq-eqb, ne_eqb}
 use mir.Val.{bool_byte}
-use Rattle.judy_sets.proofs.Finds.{same_or}
-use Rattle.judy_sets.proofs.SliceSteps.{by_tests}
+use Rattle.judy_combine.proofs.Finds.{same_or}
+use Rattle.judy_combine.proofs.SliceSteps.{by_tests}
 use Rattle.judy_bits.specs.ByteSets.{has}
 use Rattle.judy_model.specs.Ways.{Ascends}
 use Rattle.judy_leaf.specs.KeyLists.{keys_of, shift}

@@ -9,10 +9,10 @@ use Rattle.judy_model.specs.Keys.{word_order}
 use Rattle.judy_model.proofs.lemmas.orders.WordOrder.{lt_from_word}
 use Rattle.judy_model.proofs.lemmas.maps.Tests.{left_of, right_of, holds_test}
 use Rattle.judy_model.specs.TwoMaps.{union, intersection, difference}
-use Rattle.judy_sets.specs.Merges.{Pairs, Ascends, met}
+use Rattle.judy_combine.specs.Merges.{Pairs, Ascends, met}
 use Rattle.judy_sets.specs.Results.{kept, kept_count}
-use Rattle.judy_sets.specs.declared.keep.Keep.{Keep}
-use Rattle.judy_sets.proofs.Finds.{find-below, find-join}
+use Rattle.judy_combine.specs.declared.keep.Keep.{Keep}
+use Rattle.judy_combine.proofs.Finds.{find-below, find-join}
 use Rattle.judy_sets.proofs.MapLaws.{Words, same_words, get-part, get-union, get-intersection, get-difference}
 
 -- The entries of a map ascend.
@@ -101,10 +101,13 @@ halves p (e ∷ es) =
       | false ↦ omega (arith, rest)
     ]
 
+-- The keys that pass a test, and those that don't.
+pub len-parts : (map : Words) (test : ℕ → Bool) → len (retain_keys map (λ key. not (test key))) + len (retain_keys map test) ≡ len map
+len-parts map test = (λ t. len-part map (λ key. not (test key)) t + len-part map test t) ∙ halves (λ e. test e.0) (entries map) ∙ sym (len-entries map)
+
 pub len-difference : (one other : Words) → len (difference one other) + len (intersection one other) ≡ len one
 unfolding difference intersection
-len-difference one other =
-    (λ t. len-part one (λ key. not (contains_key other key)) t + len-part one (contains_key other) t) ∙ halves (λ e. contains_key other e.0) (entries one) ∙ sym (len-entries one)
+len-difference one other = len-parts one (contains_key other)
 
 -- Two maps without a common key.
 none_common : (ours theirs : Option ℕ) → cond (is_some (cond (not (is_some ours)) theirs None)) ours None ≡ None

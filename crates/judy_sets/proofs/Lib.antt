@@ -1,8 +1,6 @@
-pub mod Finds
-pub mod Merging
 pub mod MapLaws
+pub mod RootFacts
 pub mod Lengths
-pub mod SliceSteps
 pub mod PageFacts
 pub mod CountFacts
 pub mod FillFacts

@@ -9,12 +9,12 @@ use Rattle.judy_model.specs.Keys.{word_order}
 use Rattle.judy_model.specs.Arrays.{ArrayOf, with_map}
 use Rattle.judy_model.specs.TwoMaps.{intersection, difference, IsSubset, IsDisjoint, HaveSameKeys}
 use Rattle.judy_word.specs.Held.{with_new}
-use Rattle.judy_sets.specs.declared.keep.Keep.{Keep}
-use Rattle.judy_sets.specs.Merges.{Pairs, taken, pick}
+use Rattle.judy_combine.specs.declared.keep.Keep.{Keep}
+use Rattle.judy_combine.specs.Merges.{Pairs, taken, pick}
 use Rattle.judy_sets.specs.Pages.{Ahead, rest}
 use Rattle.judy_sets.specs.Fills.{worth, IsFilled}
 use Rattle.judy_sets.specs.LookUps.{is_wanted, common, IsCommonPut}
-use Rattle.judy_sets.proofs.Finds.{same_or, find-same, find-apart, find-join}
+use Rattle.judy_combine.proofs.Finds.{same_or, find-same, find-apart, find-join}
 use Rattle.judy_sets.proofs.FillFacts.{get-with_new, map-or, then_added, added_alike}
 use Rattle.judy_sets.proofs.Lengths.{len-part, len-difference, len-rest}
 use Rattle.judy_sets.proofs.MapLaws.{Words, same_words, get-intersection, get-difference}

@@ -5,10 +5,10 @@ use Rattle.std.specs.Cmp.{nat_cmp_total}
 use Rattle.std.specs.FinMap.{FinMap, empty, entries, contains_key, get, retain_keys, get-entries, get-empty, get-retain_keys, get-from_entries, same_map, nat_cmp-IsAntisymmetric}
 use Rattle.judy_model.specs.Keys.{word_order}
 use Rattle.judy_model.specs.TwoMaps.{union, intersection, difference, symmetric_difference}
-use Rattle.judy_sets.specs.Merges.{taken, pick}
+use Rattle.judy_combine.specs.Merges.{taken, pick}
 use Rattle.judy_sets.specs.Results.{kept}
-use Rattle.judy_sets.specs.declared.keep.Keep.{Keep}
-use Rattle.judy_sets.proofs.Finds.{find-join}
+use Rattle.judy_combine.specs.declared.keep.Keep.{Keep}
+use Rattle.judy_combine.proofs.Finds.{find-join}
 
 abbrev pub Words : Type 0
 Words = FinMap word_order ℕ

@@ -15,7 +15,7 @@ use Rattle.judy_query.proofs.Finds.{part-value}
 use Rattle.judy_query.proofs.Links.{get_is}
 use Rattle.judy_sets.specs.LookUps.{is_wanted}
 use Rattle.judy_sets.specs.Meets.{is_sought, found, IsCounted}
-use Rattle.judy_sets.proofs.Finds.{same_or, find-same, find-apart}
+use Rattle.judy_combine.proofs.Finds.{same_or, find-same, find-apart}
 
 -- One more, where a test holds.
 one_or : (b : Bool) (n m : ℕ) → cond b (suc n) n + m ≡ cond b (suc (n + m)) (n + m)

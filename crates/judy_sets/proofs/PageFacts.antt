@@ -4,11 +4,11 @@ use Rattle.std.proofs.Math.ListN.{drop_of_length-le}
 use Rattle.std.specs.Option.{option_or}
 use Rattle.std.specs.FinMap.{find}
 use Rattle.std.proofs.lemmas.List.{map-id, take_at, length-append, length-drop, length-take-le, take-append-drop}
-use Rattle.judy_sets.specs.declared.keep.Keep.{Keep}
+use Rattle.judy_combine.specs.declared.keep.Keep.{Keep}
 use Rattle.judy_model.specs.Keys.{word_order}
-use Rattle.judy_sets.specs.Merges.{Pairs, Ascends, pick, IsMerged}
+use Rattle.judy_combine.specs.Merges.{Pairs, Ascends, pick, IsMerged}
 use Rattle.judy_sets.specs.Pages.{Ahead, rest, IsPart}
-use Rattle.judy_sets.proofs.Finds.{ascends-drop}
+use Rattle.judy_combine.proofs.Finds.{ascends-drop}
 
 -- The pairs of a page are the next of those that were left.
 pub page_is : (left out page : Pairs) (told : ℕ) → told ≤ length left → page ≡ map (λ (pair : ℕ × ℕ). (pair.0, pair.1)) (take told left) ++ drop told out → take told page ≡ take told left

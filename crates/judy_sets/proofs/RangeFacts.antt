@@ -1,9 +1,9 @@
 -- A range of keys that is taken out of a map key by key.
-use Rattle.std.proofs.Common.{◌≡◌, ◌≢◌, ℕ, suc, ◌+◌, ◌-◌, ◌<◌, ◌≤◌, ⊎_elim, not, ◌&&◌, Bool, true, false, cond, [], ◌∷◌, length, map, filter, Option, Some, None, is_some, refl}
-use Rattle.std.proofs.Common.{sym, ap, ◌∙◌, subst, arith, ne_eqb}
-use Rattle.std.specs.Ordering.{eq_by_cmp, is_le, is_ge}
-use Rattle.std.specs.Cmp.{nat_cmp_total, unsigned_tied}
-use Rattle.std.specs.FinMap.{entries, empty, get, contains_key, remove, len, len-entries, get-empty, get-remove, len-remove, len-empty, empty_of_len, nat_cmp-IsAntisymmetric}
+use Rattle.std.proofs.Common.{◌≡◌, ℕ, suc, ◌+◌, ◌<◌, ◌≤◌, not, ◌&&◌, Bool, true, false, cond, [], ◌∷◌, length, map, filter, Option, Some, None, is_some, refl}
+use Rattle.std.proofs.Common.{sym, ap, ◌∙◌, subst, arith}
+use Rattle.std.specs.Ordering.{is_le, is_ge}
+use Rattle.std.specs.Cmp.{nat_cmp_total}
+use Rattle.std.specs.FinMap.{entries, empty, get, contains_key, len, len-entries, get-empty, len-empty, nat_cmp-IsAntisymmetric}
 use Rattle.judy_model.specs.Keys.{word_order}
 use Rattle.judy_model.specs.Counts.{count}
 use Rattle.judy_model.specs.Nearest.{IsFirst}
@@ -13,11 +13,10 @@ use Rattle.judy_model.proofs.lemmas.maps.Tests.{both_true, first_true, second_tr
 use Rattle.judy_model.proofs.lemmas.maps.MapsOfPairs.{count-is}
 use Rattle.judy_model.proofs.lemmas.orders.WordOrder.{is_le_word, is_ge_word, le_word, le_from_word}
 use Rattle.judy_model.proofs.lemmas.queries.NearestLemmas.{first-IsFirst}
-use Rattle.judy_sets.specs.Merges.{Pairs}
+use Rattle.judy_combine.specs.Merges.{Pairs}
 use Rattle.judy_sets.specs.RangeWords.{IsLeast}
-use Rattle.judy_sets.proofs.Finds.{same_or}
 use Rattle.judy_sets.proofs.MapLaws.{Words, same_words, get-part}
-use Rattle.judy_sets.proofs.Lengths.{len-part}
+use Rattle.judy_sets.proofs.Lengths.{len-part, len-parts}
 
 abbrev in_range : ℕ → ℕ → ℕ → Bool
 in_range from to key = is_le (word_order from key) && is_le (word_order key to)
@@ -40,57 +39,6 @@ module _ (from to : ℕ) where
   pub get-within : (m : Words) (key : ℕ) → get (within m from to) key ≡ cond (in_range from to key) (get m key) None
   unfolding within
   get-within m key = get-part m (in_range from to) key
-
-  -- ---- a key of the range taken out
-
-  gone : (b e : Bool) (held : Option ℕ) → (e ≡ true → b ≡ true) → cond (not b) (cond e None held) None ≡ cond (not b) held None
-  gone true e held is = refl
-  gone false true held is = absurd (let never = is refl in cc)
-  gone false false held is = refl
-
-  tie : (key at : ℕ) → in_range from to key ≡ true → eq_by_cmp word_order at key ≡ true → in_range from to at ≡ true
-  tie key at is tied = ⊎_elim
-      (λ (same : at ≡ key). ap (in_range from to) same ∙ is)
-      (λ (apart : at ≢ key). absurd (let never = sym tied ∙ unsigned_tied at key ∙ ne_eqb at key apart in cc))
-      (same_or at key)
-
-  pub outside-remove : (m : Words) (key : ℕ) → in_range from to key ≡ true → outside (remove m key) from to ≡ outside m from to
-  outside-remove m key is = same_words _ _ (λ at.
-      get-outside (remove m key) at
-      ∙ ap (λ (o : Option ℕ). cond (not (in_range from to at)) o None) (get-remove nat_cmp_total m key at)
-      ∙ gone (in_range from to at) (eq_by_cmp word_order at key) (get m at) (tie key at is)
-      ∙ sym (get-outside m at))
-
-  swapped : (b e : Bool) (held : Option ℕ) → cond b (cond e None held) None ≡ cond e None (cond b held None)
-  swapped true e held = refl
-  swapped false true held = refl
-  swapped false false held = refl
-
-  within-remove : (m : Words) (key : ℕ) → within (remove m key) from to ≡ remove (within m from to) key
-  within-remove m key = same_words _ _ (λ at.
-      get-within (remove m key) at
-      ∙ ap (λ (o : Option ℕ). cond (in_range from to at) o None) (get-remove nat_cmp_total m key at)
-      ∙ swapped (in_range from to at) (eq_by_cmp word_order at key) (get m at)
-      ∙ sym (get-remove nat_cmp_total (within m from to) key at ∙ ap (cond (eq_by_cmp word_order at key) None) (get-within m at)))
-
-  some_len : (m : Words) (key : ℕ) → contains_key m key ≡ true → 1 ≤ len m
-  some_len m key held = ⊎_elim
-      (λ (none : len m ≡ 0). absurd (let never = sym held ∙ ap is_some (ap (λ (w : Words). get w key) (empty_of_len m none) ∙ get-empty word_order key) in cc))
-      (λ (some : len m ≢ 0). omega (arith, some))
-      (same_or (len m) 0)
-
-  pub within-fewer : (m : Words) (key : ℕ) → contains_key m key ≡ true → in_range from to key ≡ true → len (within (remove m key) from to) + 1 ≡ len (within m from to)
-  within-fewer m key held is =
-      let here : contains_key (within m from to) key ≡ true = ap is_some (get-within m key ∙ ap (λ b. cond b (get m key) None) is) ∙ held in
-      let some = some_len (within m from to) key here in
-      let long = ap len (within-remove m key) ∙ len-remove nat_cmp_total (within m from to) key ∙ ap (λ b. cond b (len (within m from to) - 1) (len (within m from to))) here in
-      omega (arith, some, long)
-
-  pub fewer : (m : Words) (key : ℕ) → contains_key m key ≡ true → len (remove m key) < len m
-  fewer m key held =
-      let some = some_len m key held in
-      let long = len-remove nat_cmp_total m key ∙ ap (λ b. cond b (len m - 1) (len m)) held in
-      omega (arith, some, long)
 
   -- ---- nothing of the range is left
 
@@ -145,6 +93,19 @@ module _ (from to : ℕ) where
       let few = most (λ e. in_range from to e.0) (entries m) in
       omega (arith, part, long, few)
 
+  -- The keys of a range and the others are all.
+  pub len-sides : (m : Words) → len (outside m from to) + len (within m from to) ≡ len m
+  unfolding outside within
+  len-sides m = len-parts m (in_range from to)
+
+  -- Keys of the range are taken out, so many.
+  pub within-less : (m after : Words) (count : ℕ) → outside after from to ≡ outside m from to → len after + count ≡ len m → len (within after from to) + count ≡ len (within m from to)
+  within-less m after count same counted =
+      let here = len-sides m in
+      let there = len-sides after in
+      let others = ap len same in
+      omega (arith, here, there, others, counted)
+
   -- ---- the first key from the lower end on
 
   is_first : (m : Words) → IsFirst word_order (contains_key m) from (first m from)
@@ -168,10 +129,10 @@ module _ (from to : ℕ) where
   pub first_held : (m : Words) (least : ℕ) → Some least ≡ first m from → contains_key m least ≡ true
   first_held m least is = first_true _ _ (subst (IsFirst word_order (contains_key m) from) (sym is) (is_first m)).0
 
-  pub first_inside : (m : Words) (least : ℕ) → Some least ≡ first m from → least ≤ to → in_range from to least ≡ true
-  first_inside m least is high =
+  pub first_low : (m : Words) (least : ℕ) → Some least ≡ first m from → from ≤ least
+  first_low m least is =
       let ge = second_true (contains_key m least) (is_ge (word_order least from)) (subst (IsFirst word_order (contains_key m) from) (sym is) (is_first m)).0 in
-      inside from to least (le_from_word from least (is_le_word from least ∙ sym (is_ge_word least from) ∙ ge)) high
+      le_from_word from least (is_le_word from least ∙ sym (is_ge_word least from) ∙ ge)
 
   pub none_between : (m : Words) → NoneInside m → (key : ℕ) → from ≤ key → key ≤ to → contains_key m key ≡ false
   none_between m none key low high = no_test (contains_key m key) (λ held. let never = sym (inside from to key low high) ∙ none key held in cc)

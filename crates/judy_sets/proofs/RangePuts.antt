@@ -1,5 +1,5 @@
 -- What an array has at a key as the pairs of a range are put in.
-use Rattle.std.proofs.Common.{◌≡◌, ℕ, suc, ◌+◌, ◌-◌, not, is_some, IsTrue, All, ◌<◌, ◌≤◌, ◌⊎◌, inl, inr, ⊎_elim, ◌&&◌, Bool, true}
+use Rattle.std.proofs.Common.{◌≡◌, ℕ, suc, ◌+◌, ◌-◌, is_some, IsTrue, All, ◌<◌, ◌≤◌, ◌⊎◌, inl, inr, ⊎_elim, ◌&&◌, Bool, true}
 use Rattle.std.proofs.Common.{false, cond, [], ◌∷◌, ◌++◌, length, take, drop, get_or, Option, Some, None, refl, sym, ap, ◌∙◌, subst, arith}
 use Rattle.std.proofs.Math.Seq.{drop-cons}
 use Rattle.std.proofs.lemmas.Bool.{leb-true, leb-false, lt-leb, le-ltb}
@@ -10,16 +10,16 @@ use Rattle.std.specs.Ordering.{is_lt, is_le}
 use Rattle.std.specs.FinMap.{FinMap, find, get, empty, values, get-empty}
 use Rattle.judy_model.specs.Keys.{word_order}
 use Rattle.judy_model.specs.Arrays.{ArrayOf}
-use Rattle.judy_model.specs.Ranges.{within, outside}
+use Rattle.judy_model.specs.Ranges.{within}
 use Rattle.judy_model.proofs.lemmas.orders.WordOrder.{is_lt_word, is_le_word, lt_word, le_word}
 use Rattle.judy_model.proofs.lemmas.maps.ValuesLemmas.{value_from_All}
-use Rattle.judy_sets.specs.Merges.{Pairs, Ascends, UpTo}
+use Rattle.judy_combine.specs.Merges.{Pairs, Ascends, UpTo}
 use Rattle.judy_sets.specs.Fills.{worth, IsAdded, IsPut, IsFrontPut, IsRangePut, IsBelowPut, IsAbovePut}
 use Rattle.judy_sets.specs.Pages.{AreWords, IsFrom}
-use Rattle.judy_sets.proofs.Finds.{find-apart, find-below, find-join, ascends-drop}
+use Rattle.judy_combine.proofs.Finds.{find-apart, find-below, find-join, ascends-drop}
 use Rattle.judy_sets.proofs.FillFacts.{same_worth, map-or, then_added, added_alike}
 use Rattle.judy_sets.proofs.MapLaws.{same_words}
-use Rattle.judy_sets.proofs.RangeFacts.{get-within, get-outside}
+use Rattle.judy_sets.proofs.RangeFacts.{get-within}
 
 pub two_ways : (a b : ℕ) → (a ≤ b) ⊎ (b < a)
 two_ways a b = elim (leb a b) as (λ t. leb a b ≡ t → (a ≤ b) ⊎ (b < a)) [ true ↦ λ e. inl (leb-true a b e) | false ↦ λ e. inr (leb-false a b e) ] refl
@@ -203,39 +203,3 @@ part_is words from to map before after new zeros put = same_words after.map (wit
     ∙ ap (λ (m : FinMap word_order ℕ). option_or (get m key) (option_map (worth words) (get (within map from to) key))) new
     ∙ ap (λ (o : Option ℕ). option_or o (option_map (worth words) (get (within map from to) key))) (get-empty word_order key)
     ∙ all_zero words map (get (within map from to)) zeros (λ k v is. in_part _ (get map k) v (sym (get-within from to map k) ∙ is)) key)
-
--- Those below a range and those above it.
-sides : (from to key : ℕ) (held : Option ℕ) → from ≤ to → option_or (cond (is_lt (word_order key from)) held None) (cond (is_lt (word_order to key)) held None) ≡
-    cond (not (is_le (word_order from key) && is_le (word_order key to))) held None
-sides from to key held order = by (two_ways from key) (two_ways key to)
-  where
-    or_none : (o : Option ℕ) → option_or o None ≡ o
-    or_none None = refl
-    or_none (Some v) = refl
-
-    by : (from ≤ key) ⊎ (key < from) → (key ≤ to) ⊎ (to < key) → option_or (cond (is_lt (word_order key from)) held None) (cond (is_lt (word_order to key)) held None) ≡
-        cond (not (is_le (word_order from key) && is_le (word_order key to))) held None
-    by (inl low) (inl high) = (λ t. option_or (cond ((is_lt_word key from ∙ le-ltb key from low) t) held None) (cond ((is_lt_word to key ∙ le-ltb to key high) t) held None))
-        ∙ sym (λ t. cond (not (le_word from key low t && le_word key to high t)) held None)
-    by (inl low) (inr past) = (λ t. option_or (cond ((is_lt_word key from ∙ le-ltb key from low) t) held None) (cond (lt_word to key past t) held None))
-        ∙ sym (λ t. cond (not (le_word from key low t && above key to past t)) held None)
-    by (inr under) (inl high) = (λ t. option_or (cond (lt_word key from under t) held None) (cond ((is_lt_word to key ∙ le-ltb to key high) t) held None)) ∙ or_none held
-        ∙ sym (ap (λ b. cond (not (b && is_le (word_order key to))) held None) (above from key under))
-    by (inr under) (inr past) = absurd (omega (arith, under, past, order))
-
-pub rest_is : (words from to : ℕ) (map : FinMap word_order ℕ) (before old after : ArrayOf word_order) → from ≤ to → before.map ≡ empty → (words ≡ 0 → All (λ value. value ≡ 0) (values map)) →
-    IsBelowPut words before old map from → IsAbovePut words old after map to → after.map ≡ outside map from to
-rest_is words from to map before old after order new zeros first more = same_words after.map (outside map from to) (λ key.
-    let both = then_added words before old after _ _ first more in
-    both.map key
-    ∙ ap (λ (m : FinMap word_order ℕ). option_or (get m key) (option_or (option_map (worth words) (low key)) (option_map (worth words) (high key)))) new
-    ∙ ap (λ (o : Option ℕ). option_or o (option_or (option_map (worth words) (low key)) (option_map (worth words) (high key)))) (get-empty word_order key)
-    ∙ (λ t. option_or (all_zero words map low zeros (λ k v is. in_part _ (get map k) v is) key t) (all_zero words map high zeros (λ k v is. in_part _ (get map k) v is) key t))
-    ∙ sides from to key (get map key) order
-    ∙ sym (get-outside from to map key))
-  where
-    low : ℕ → Option ℕ
-    low key = cond (is_lt (word_order key from)) (get map key) None
-
-    high : ℕ → Option ℕ
-    high key = cond (is_lt (word_order to key)) (get map key) None

@@ -6,11 +6,13 @@ use Rattle.std.specs.FinMap.{FinMap, find, get, len}
 use Rattle.judy_model.specs.Keys.{word_order}
 use Rattle.judy_model.specs.Arrays.{ArrayOf}
 use Rattle.judy_model.specs.Ranges.{within}
+use Rattle.judy_node.specs.Trees.{Tree, IsTight}
+use Rattle.judy_query.specs.Maps.{map_of}
 use Rattle.judy_word.specs.WordArrays.{WordArray}
 use Rattle.judy_word.specs.declared.error.InsertError.{InsertError}
 use Rattle.judy_word.specs.declared.error.InsertError.TheVariants.{Full, NoMemory}
-use Rattle.judy_sets.specs.declared.keep.Keep.{Keep}
-use Rattle.judy_sets.specs.Merges.{Pairs, UpTo, pick}
+use Rattle.judy_combine.specs.declared.keep.Keep.{Keep}
+use Rattle.judy_combine.specs.Merges.{Pairs, UpTo, pick}
 
 -- What is put in for a value: 0 where keys have no words of value.
 abbrev pub worth : ℕ → ℕ → ℕ
@@ -54,6 +56,12 @@ IsAbovePut words before after map at = IsAdded before after (λ key. option_map 
 -- What is kept of two lists was put in.
 abbrev pub IsFilled : ℕ → Keep → ArrayOf word_order → ArrayOf word_order → Pairs → Pairs → Type 0
 IsFilled words keep before after one other = IsAdded before after (λ key. option_map (worth words) (pick keep (find word_order key one) (find word_order key other)))
+
+-- A tight tree is a map.
+pub record IsRootOf (wanted : FinMap word_order ℕ) (tree : Tree) : Type 0 where
+  pub map : map_of tree.pairs ≡ wanted
+  pub long : length tree.pairs ≡ len wanted
+  pub tight : IsTight tree
 
 -- Full: the map has more keys than the limit. NoMemory: it hasn't.
 abbrev pub IsRefused : ℕ → FinMap word_order ℕ → InsertError → Type 0

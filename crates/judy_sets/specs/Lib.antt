@@ -1,4 +1,3 @@
-pub mod Merges
 pub mod Pages
 pub mod Results
 pub mod Fills

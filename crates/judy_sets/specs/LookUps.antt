@@ -4,7 +4,7 @@ use Rattle.std.specs.Option.{option_map}
 use Rattle.std.specs.FinMap.{FinMap, find, get, contains_key}
 use Rattle.judy_model.specs.Keys.{word_order}
 use Rattle.judy_model.specs.Arrays.{ArrayOf}
-use Rattle.judy_sets.specs.Merges.{Pairs}
+use Rattle.judy_combine.specs.Merges.{Pairs}
 use Rattle.judy_sets.specs.Fills.{worth, IsAdded}
 
 -- Whether a key is looked for: one that the map has, or one that it lacks.

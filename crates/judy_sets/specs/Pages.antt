@@ -4,8 +4,8 @@ use Rattle.std.specs.Ordering.{is_le}
 use Rattle.std.specs.FinMap.{FinMap, find, get, contains_key}
 use Rattle.std.specs.Option.{option_or}
 use Rattle.judy_model.specs.Keys.{word_order}
-use Rattle.judy_sets.specs.declared.keep.Keep.{Keep}
-use Rattle.judy_sets.specs.Merges.{Pairs, Ascends, pick}
+use Rattle.judy_combine.specs.declared.keep.Keep.{Keep}
+use Rattle.judy_combine.specs.Merges.{Pairs, Ascends, pick}
 
 -- Those that were read, and those behind them.
 abbrev pub Ahead : Type 0

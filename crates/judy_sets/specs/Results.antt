@@ -3,7 +3,7 @@ use Rattle.std.specs.Prelude.{ℕ, ◌+◌, ◌-◌, if◌then◌else◌}
 use Rattle.std.specs.FinMap.{FinMap, empty, contains_key, retain_keys}
 use Rattle.judy_model.specs.Keys.{word_order}
 use Rattle.judy_model.specs.TwoMaps.{union, difference}
-use Rattle.judy_sets.specs.declared.keep.Keep.{Keep}
+use Rattle.judy_combine.specs.declared.keep.Keep.{Keep}
 
 -- The keys that are kept; of a key that both have the left one's value.
 unfoldable pub kept : Keep → FinMap word_order ℕ → FinMap word_order ℕ → FinMap word_order ℕ

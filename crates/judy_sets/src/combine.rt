@@ -1,23 +1,25 @@
 //! New arrays of the keys that two have together, sets of sets and maps of maps.
 
-ghost use Rattle.std.specs.Prelude.{◌≡◌, ◌≤◌, false, OnOk, OnErr, IfErr};
+ghost use Rattle.std.specs.Prelude.{◌≡◌, ◌≤◌, false, OnOk, OnErr, IfOk, IfErr, IfSome};
+ghost use Rattle.std.specs.FinMap as map;
 ghost use Rattle.judy_model.specs.Arrays as arrays;
 ghost use Rattle.judy_model.specs.TwoMaps as two;
 ghost use Rattle.judy_word.specs.WordArrays.{array_of, no_keys};
-ghost use Rattle.judy_sets.specs.Fills.{IsMade, IsRefused};
+ghost use Rattle.judy_sets.specs.Fills.{IsMade, IsNew, IsRefused, IsRootOf};
 ghost use Rattle.judy_sets.specs.Results.{kept};
 
-use crate::fills::filled;
-use crate::keep::Keep;
+use crate::fills::{are_sought, exceeds, filled};
+use judy_combine::{Keep, combined_tree};
 use judy_leaf::Words;
+use judy_node::NodeOf;
 use judy_word::{InsertError, WordArray};
-use std::alloc::Global;
+use std::alloc::{AllocError, Global};
 
 /// The array with a limit, at least 1, of the keys that are kept. Of a key that both have, the value is that of the
 /// one.
 ///
 /// `Full` where they are more than the limit, which is told before memory is asked for; `NoMemory` where there is none.
-/// It takes one way through both.
+/// It takes one way through both. Nodes that one alone has are copied.
 pub fn combined<V: Words + Drop>(
     alloc: Global,
     limit: u64,
@@ -29,11 +31,61 @@ pub fn combined<V: Words + Drop>(
     requires some { 1 ≤ limit }
     ensures { IsMade limit (kept keep one.now.map other.now.map) result }
 {
-    let filling = filled(alloc, limit, keep, one, other)?;
-    match filling.into_array() {
+    if exceeds(limit, keep, one, other) {
+        return Err(InsertError::Full);
+    }
+    match made(alloc, limit, keep, one, other) {
         Ok(array) => Ok(array),
         Err(_) => Err(InsertError::NoMemory),
     }
+}
+
+// The same, where they aren't more than the limit: node by node, or else by their pairs.
+fn made<V: Words + Drop>(
+    alloc: Global,
+    limit: u64,
+    keep: Keep,
+    one: &WordArray<V>,
+    other: &WordArray<V>,
+) -> Result<WordArray<V>, AllocError>
+    requires one { V.WORDS ≤ 1 }
+    requires some { 1 ≤ limit }
+    requires within { map.len (kept keep one.now.map other.now.map) ≤ limit }
+    ensures { IfOk result (IsNew limit (kept keep one.now.map other.now.map)) }
+{
+    if let Some(root) = by_nodes(alloc, limit, keep, one, other)? {
+        return Ok(WordArray::of_root(alloc, limit, root));
+    }
+    match filled(alloc, limit, keep, one, other)?.into_array() {
+        Ok(made) => Ok(made),
+        Err(_) => Err(AllocError),
+    }
+}
+
+// The tree of what is kept, where neither array is loose and both roots are branches whose keys begin with the same
+// bytes. Where one has few keys of which those that both have are kept, they are sooner looked up.
+fn by_nodes<V: Words + Drop>(
+    alloc: Global,
+    limit: u64,
+    keep: Keep,
+    one: &WordArray<V>,
+    other: &WordArray<V>,
+) -> Result<Option<NodeOf<V>>, AllocError>
+    requires one { V.WORDS ≤ 1 }
+    requires within { map.len (kept keep one.now.map other.now.map) ≤ limit }
+    ensures { IfOk result (λ made. IfSome made (IsRootOf (kept keep one.now.map other.now.map))) }
+{
+    if one.is_loose() || other.is_loose() || are_sought(keep, one, other) {
+        return Ok(None);
+    }
+    let (left, right) = (one.root(), other.root());
+    left.law();
+    right.law();
+    let Some(tree) = combined_tree(alloc, keep, left, right)? else {
+        return Ok(None);
+    };
+    tree.law();
+    Ok(Some(tree))
 }
 
 /// The array of the keys that the one or the other has, as [`combined`] makes it.

@@ -2,19 +2,19 @@
 
 ghost use Rattle.std.specs.Prelude.{◌≡◌, ◌==◌, ◌≤◌, ◌<◌, ◌+◌, ◌↔◌, if◌then◌else◌, IfOk, OnOk, IfErr, IsTrue};
 ghost use Rattle.std.specs.FinMap as map;
-ghost use Rattle.judy_sets.specs.Fills.{worth, IsPut, IsRestPut, IsFilled, IsRefused};
-ghost use Rattle.judy_sets.specs.Merges.{Ascends};
+ghost use Rattle.judy_sets.specs.Fills.{worth, IsPut, IsRestPut, IsFilled};
+ghost use Rattle.judy_combine.specs.Merges.{Ascends};
 ghost use Rattle.judy_sets.specs.Pages.{rest};
 ghost use Rattle.judy_sets.specs.Results.{kept};
 
 use crate::counts::common_count;
-use crate::keep::Keep;
 use crate::lookups::{are_few, put_common};
 use crate::pages::Pages;
 use crate::steps::{ROOM, next_pairs};
+use judy_combine::Keep;
 use judy_leaf::Words;
 use judy_word::{Filling, InsertError, WordArray};
-use std::alloc::Global;
+use std::alloc::{AllocError, Global};
 
 // What is put in for a value: 0 where keys have none.
 pub fn worth<V: Words + Drop>(value: u64) -> u64
@@ -128,8 +128,14 @@ pub fn share(wanted: bool, count: u64) -> u64
     if wanted { count } else { 0 }
 }
 
+// Whether the keys of one array are sooner looked up in the other than both are gone through.
+pub fn are_sought<V: Words + Drop>(keep: Keep, one: &WordArray<V>, other: &WordArray<V>) -> bool {
+    let (ours, theirs) = (one.len(), other.len());
+    keep.is_intersection() && (are_few(ours, theirs) || are_few(theirs, ours))
+}
+
 // Whether more keys are kept than a limit. The keys that both have are counted only where there could be.
-fn exceeds<V: Words + Drop>(
+pub fn exceeds<V: Words + Drop>(
     limit: u64,
     keep: Keep,
     one: &WordArray<V>,
@@ -150,29 +156,24 @@ fn exceeds<V: Words + Drop>(
     limit - front < share(keep.right, theirs - common)
 }
 
-// An array that comes to what is kept of two arrays. `Full` is told before memory is asked for.
+// An array that comes to what is kept of two arrays, which are no more keys than the limit.
 pub fn filled<V: Words + Drop>(
     alloc: Global,
     limit: u64,
     keep: Keep,
     one: &WordArray<V>,
     other: &WordArray<V>,
-) -> Result<Filling<V>, InsertError>
+) -> Result<Filling<V>, AllocError>
     requires one { V.WORDS ≤ 1 }
     requires some { 1 ≤ limit }
     ensures limit { IfOk result (λ a. a.limit ≡ limit) }
     ensures map { IfOk result (λ a. a.map ≡ kept keep one.now.map other.now.map) }
-    ensures within { OnOk result (map.len (kept keep one.now.map other.now.map) ≤ limit) }
-    ensures refused { IfErr result (IsRefused limit (kept keep one.now.map other.now.map)) }
 {
-    if exceeds(limit, keep, one, other) {
-        return Err(InsertError::Full);
-    }
     one.len();
     other.len();
     let mut made = Filling::new(alloc, limit);
     match fill_of(&mut made, keep, one, other) {
         Ok(()) => Ok(made),
-        Err(_) => Err(InsertError::NoMemory),
+        Err(_) => Err(AllocError),
     }
 }

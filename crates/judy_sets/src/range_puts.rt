@@ -5,7 +5,7 @@ ghost use Rattle.std.specs.FinMap as map;
 ghost use Rattle.judy_model.specs.Ranges as ranges;
 ghost use Rattle.judy_sets.specs.Fills.{IsFront, IsFrontPut, IsRangePut, IsBelowPut, IsAbovePut, IsRefused};
 ghost use Rattle.judy_query.specs.Maps.{map_of};
-ghost use Rattle.judy_sets.specs.Merges.{Ascends};
+ghost use Rattle.judy_combine.specs.Merges.{Ascends};
 ghost use Rattle.judy_sets.specs.Pages.{rest, AreWords};
 
 use crate::fills::put_all;
@@ -89,26 +89,6 @@ pub fn part_filled<V: Words + Drop>(
         Ok(()) => Ok(made),
         Err(_) => Err(InsertError::NoMemory),
     }
-}
-
-// An array that comes to all other pairs, with the same limit. The error is want of memory.
-pub fn rest_filled<V: Words + Drop>(
-    alloc: Global,
-    array: &WordArray<V>,
-    from: u64,
-    to: u64,
-) -> Result<Filling<V>, InsertError>
-    requires one { V.WORDS ≤ 1 }
-    requires order { from ≤ to }
-    ensures limit { IfOk result (λ a. a.limit ≡ array.now.limit) }
-    ensures map { IfOk result (λ a. a.map ≡ ranges.outside array.now.map from to) }
-{
-    array.len();
-    keys_law(array);
-    let mut made = Filling::new(alloc, array.limit());
-    put_below(&mut made, array, from)?;
-    put_above(&mut made, array, to)?;
-    Ok(made)
 }
 
 // Puts in the pairs of an array whose keys are below a word.

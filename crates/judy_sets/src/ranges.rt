@@ -8,7 +8,7 @@ ghost use Rattle.judy_model.specs.Ranges as ranges;
 ghost use Rattle.judy_word.specs.WordArrays.{array_of};
 ghost use Rattle.judy_sets.specs.Fills.{IsMade};
 
-use crate::range_puts::{keys_law, part_filled, rest_filled};
+use crate::range_puts::{keys_law, part_filled};
 use judy_leaf::Words;
 use judy_word::{InsertError, WordArray};
 use std::alloc::{AllocError, Global};
@@ -40,10 +40,10 @@ pub fn copy_range<V: Words + Drop>(
 
 /// Takes the keys from one word to another out, both included, and answers how many they were: none where the first is
 /// above the second.
-/// It can't fail. Where more keys go than stay, the others are put into new nodes, if there is memory; else the array
-/// may become loose, as by so many deletes.
+/// It can't fail. Nodes with none but such keys are freed whole; where memory for a smaller node is refused, the larger
+/// one stays, and the array becomes loose, as by so many deletes.
 pub fn remove_range<V: Words + Drop>(
-    alloc: Global,
+    _alloc: Global,
     array: &mut WordArray<V>,
     from: u64,
     to: u64,
@@ -53,33 +53,10 @@ pub fn remove_range<V: Words + Drop>(
     ensures left { array_of array.new
         ≡ arrays.with_map (array_of array.old) (ranges.outside array.old.map from to) }
 {
-    let count = array.count(from, to);
-    if from <= to && array.len() <= count.saturating_mul(2) {
-        if let Ok(rest) = without_range(alloc, array, from, to) {
-            *array = rest;
-            return count;
-        }
-    }
     remove_keys(array, from, to)
 }
 
-// The array of all keys but those from one word to another. The error is want of memory.
-fn without_range<V: Words + Drop>(
-    alloc: Global,
-    array: &WordArray<V>,
-    from: u64,
-    to: u64,
-) -> Result<WordArray<V>, InsertError>
-    requires one { V.WORDS ≤ 1 }
-    requires order { from ≤ to }
-    ensures { IfOk result (λ rest. array_of rest
-        ≡ arrays.with_map (array_of array.now) (ranges.outside array.now.map from to)) }
-{
-    let filling = rest_filled(alloc, array, from, to)?;
-    filling.into_array()
-}
-
-// Takes them out one by one.
+// Takes them out from the least on.
 fn remove_keys<V: Words + Drop>(array: &mut WordArray<V>, from: u64, to: u64) -> u64
     requires { V.WORDS ≤ 1 }
     ensures count { result ≡ counts.count array.old.map from to }
@@ -95,8 +72,7 @@ fn remove_keys<V: Words + Drop>(array: &mut WordArray<V>, from: u64, to: u64) ->
         if key > to {
             return count;
         }
-        array.delete(key);
-        count += 1;
+        count += array.delete_within(key, from, to);
     }
 }
 

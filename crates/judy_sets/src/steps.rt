@@ -1,12 +1,11 @@
 //! Two arrays, gone through side by side a page at a time.
 
 ghost use Rattle.std.specs.Prelude.{◌≡◌, ◌≤◌, length, MatchOption};
-ghost use Rattle.judy_sets.specs.Merges.{Ascends};
+ghost use Rattle.judy_combine.specs.Merges.{Ascends};
 ghost use Rattle.judy_sets.specs.Pages.{rest, IsEnd, IsPart};
 
-use crate::keep::Keep;
-use crate::merges::merge;
 use crate::pages::Pages;
+use judy_combine::{Keep, merge};
 use judy_leaf::Words;
 
 // How many pairs are written at once at most: two pages of them.

@@ -2,7 +2,7 @@ use Rattle.std.proofs.Common.{◌+◌, length}
 use Rattle.judy_model.specs.Keys.{word_order}
 use Rattle.judy_model.specs.Arrays.{ArrayOf}
 use Rattle.judy_sets.specs.Fills.{IsFilled}
-use Rattle.judy_sets.specs.Merges.{Ascends}
+use Rattle.judy_combine.specs.Merges.{Ascends}
 use Rattle.judy_sets.specs.Pages.{rest}
 use Rattle.judy_sets.proofs.fills.fill.Given as goal
 

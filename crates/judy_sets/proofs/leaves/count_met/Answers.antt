@@ -1,7 +1,7 @@
 use Rattle.std.proofs.Common.{inl, inr, get_or, arith}
 use Rattle.std.proofs.Math.Dec.{leb}
 use Rattle.judy_sets.proofs.LeafPairs.{same_small, both_tested, both_ended, both-filtered}
-use Rattle.judy_sets.proofs.SliceSteps.{byte_small}
+use Rattle.judy_combine.proofs.SliceSteps.{byte_small}
 use Rattle.judy_sets.proofs.leaves.count_met.Goals as goal
 
 pub keys-preserved : goal.keys-preserved

@@ -1,6 +1,6 @@
 use Rattle.std.proofs.Common.{refl, subst}
 use Rattle.judy_sets.specs.LookUps.{IsCommonPut}
-use Rattle.judy_sets.specs.Merges.{Pairs}
+use Rattle.judy_combine.specs.Merges.{Pairs}
 use Rattle.judy_sets.specs.Pages.{rest}
 use Rattle.judy_sets.proofs.CountFacts.{at_end}
 use Rattle.judy_sets.proofs.LookFacts.{common_none, common_page}

@@ -1,5 +1,5 @@
 use Rattle.std.proofs.Common.{◌-◌, ◌≤◌, length, take}
-use Rattle.judy_sets.specs.Merges.{UpTo}
+use Rattle.judy_combine.specs.Merges.{UpTo}
 use Rattle.judy_sets.proofs.range_puts.count_up_to.Given as goal
 
 abbrev pub invariant-pairs : goal.invariant-pairs

@@ -1,7 +1,7 @@
 use Rattle.std.proofs.Common.{◌≡◌, ◌++◌, length, take, drop, sym, ap, ◌∙◌, eqb-true, subst}
 use Rattle.std.specs.FinMap.{find}
 use Rattle.judy_model.specs.Keys.{word_order}
-use Rattle.judy_sets.specs.Merges.{Pairs, Ascends}
+use Rattle.judy_combine.specs.Merges.{Pairs, Ascends}
 use Rattle.judy_sets.specs.Pages.{rest}
 use Rattle.judy_sets.proofs.CountFacts.{at_end, after_pass}
 use Rattle.judy_sets.proofs.RangePuts.{front_none, front_join, front_and_rest, past_front}

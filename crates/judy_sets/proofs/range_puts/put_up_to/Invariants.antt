@@ -2,7 +2,7 @@ use Rattle.std.proofs.Common.{length}
 use Rattle.judy_model.specs.Keys.{word_order}
 use Rattle.judy_model.specs.Arrays.{ArrayOf}
 use Rattle.judy_sets.specs.Fills.{IsFrontPut}
-use Rattle.judy_sets.specs.Merges.{Ascends}
+use Rattle.judy_combine.specs.Merges.{Ascends}
 use Rattle.judy_sets.specs.Pages.{rest}
 use Rattle.judy_sets.proofs.range_puts.put_up_to.Given as goal
 

@@ -1,9 +1,6 @@
-use Rattle.std.proofs.Common.{◌≡◌, ℕ, ap, sym, ◌∙◌, arith}
-use Rattle.std.specs.FinMap.{FinMap, remove, len}
-use Rattle.judy_model.specs.Keys.{word_order}
-use Rattle.judy_model.specs.Arrays.{ArrayOf}
-use Rattle.judy_model.specs.Ranges.{within, outside}
-use Rattle.judy_sets.proofs.RangeFacts.{count-within, within-none, within-most, within-fewer, outside-all, outside-remove, none_first, past_first, first_held, first_inside, fewer}
+use Rattle.std.proofs.Common.{◌≡◌, ◌≢◌, true≢false, sym, ◌∙◌, arith}
+use Rattle.judy_model.specs.Ranges.{outside}
+use Rattle.judy_sets.proofs.RangeFacts.{count-within, within-none, within-most, within-less, outside-all, none_first, past_first, first_held, first_low}
 use Rattle.judy_sets.proofs.ranges.remove_keys.Goals as goal
 
 pub returns-in_default-clause-count : goal.returns-in_default-clause-count
@@ -42,14 +39,14 @@ returns-then-key-to-clause-left g c =
     let same : here ≡ outside c.args.array.now.map from to = sym (outside-all from to here (past_first from to here c.in-Some.key c.in-Some.ensures c.if-key-to.true)) ∙ c.keys.invariant.left in
     λ t. record { limit = c.keys.invariant.limit t; map = same t }
 
+pub delete_within-count-requires : goal.delete_within-count-requires
+delete_within-count-requires g c = (omega arith, (c.requires, (first_low c.args.from c.args.to c.keys.array.map c.in-Some.key c.in-Some.ensures, c.if-key-to.false)))
+
 pub overflow_add-count : goal.overflow_add-count
 overflow_add-count g c =
     let from = c.args.from in
     let to = c.args.to in
-    let here = c.keys.array.map in
-    let key = c.in-Some.key in
-    let found = c.in-Some.ensures in
-    let less = within-fewer from to here key (first_held from to here key found) (first_inside from to here key found c.if-key-to.false) in
+    let less = within-less from to c.keys.array.map c.delete_within-count.new.self.map c.delete_within-count.result c.delete_within-count.ensures.outside c.delete_within-count.ensures.count in
     let counted = c.keys.invariant.counted in
     let most = within-most from to c.args.array.now.map in
     let long = c.len-most.ensures.count in
@@ -57,28 +54,18 @@ overflow_add-count g c =
 
 pub keys-smaller : goal.keys-smaller
 keys-smaller g c =
-    let from = c.args.from in
-    let to = c.args.to in
-    let here = c.keys.array.map in
-    let key = c.in-Some.key in
-    let after : c.delete.new.self.map ≡ remove here key = ap (λ (a : ArrayOf word_order). a.map) c.delete.ensures.deleted in
-    let less = fewer from to here key (first_held from to here key c.in-Some.ensures) in
-    rw after less
+    let held = first_held c.args.from c.args.to c.keys.array.map c.in-Some.key c.in-Some.ensures in
+    let some : c.delete_within-count.result ≢ 0 = λ none. true≢false (sym held ∙ c.delete_within-count.ensures.some none) in
+    let counted = c.delete_within-count.ensures.count in
+    omega (arith, some, counted)
 
 pub keys-preserved : goal.keys-preserved
 keys-preserved g c =
     let from = c.args.from in
     let to = c.args.to in
-    let here = c.keys.array.map in
-    let key = c.in-Some.key in
-    let found = c.in-Some.ensures in
-    let held = first_held from to here key found in
-    let is = first_inside from to here key found c.if-key-to.false in
-    let after : c.delete.new.self.map ≡ remove here key = ap (λ (a : ArrayOf word_order). a.map) c.delete.ensures.deleted in
-    let less = within-fewer from to here key held is in
-    let counted = c.keys.invariant.counted in
-    let long = ap (λ (m : FinMap word_order ℕ). len (within m from to)) after in record {
-      limit = ap (λ (a : ArrayOf word_order). a.limit) c.delete.ensures.deleted ∙ c.keys.invariant.limit;
-      left = ap (λ (m : FinMap word_order ℕ). outside m from to) after ∙ outside-remove from to here key is ∙ c.keys.invariant.left;
-      counted = omega (arith, less, counted, long);
+    let less = within-less from to c.keys.array.map c.delete_within-count.new.self.map c.delete_within-count.result c.delete_within-count.ensures.outside c.delete_within-count.ensures.count in
+    let counted = c.keys.invariant.counted in record {
+      limit = c.delete_within-count.ensures.limit ∙ c.keys.invariant.limit;
+      left = c.delete_within-count.ensures.outside ∙ c.keys.invariant.left;
+      counted = omega (arith, less, counted);
     }

@@ -1,11 +1,11 @@
-use Rattle.std.proofs.Common.{◌≡◌, ◌+◌, ◌<◌, ℕ, Bool, cond, length, get_or, take, sym, ap, ◌∙◌, subst, arith}
+use Rattle.std.proofs.Common.{◌≡◌, ◌+◌, ◌<◌, ℕ, Bool, cond, length, get_or, take, sym, ap, ◌∙◌, subst, arith, length-set}
 use Rattle.std.proofs.Math.Dec.{leb}
 use Rattle.std.proofs.Math.ListN.{set}
 use Rattle.std.proofs.lemmas.Bool.{le-leb, lt-leb}
-use Rattle.judy_sets.specs.Merges.{IsMerged}
-use Rattle.judy_sets.proofs.SliceSteps.{byte_small, taken_small, merged_tested}
-use Rattle.judy_sets.proofs.merges.merge.Goals as goal
-use Rattle.judy_sets.proofs.merges.merge.Goals.{then-in_one, else-in_one}
+use Rattle.judy_combine.specs.Merges.{IsMerged, IsOrdered}
+use Rattle.judy_combine.proofs.SliceSteps.{byte_small, taken_small, merged_tested, ordered_tested}
+use Rattle.judy_combine.proofs.merges.merge.Goals as goal
+use Rattle.judy_combine.proofs.merges.merge.Goals.{then-in_one, else-in_one}
 use mir.Val.{bool_byte}
 
 pub pairs-preserved : goal.pairs-preserved
@@ -25,6 +25,12 @@ pairs-preserved c =
       left = omega (arith, left);
       right = omega (arith, right);
       few = omega (arith, few, taken);
+      same_room = length-set c.pairs.out c.pairs.count c.if-in_one.out ∙ c.pairs.invariant.same_room;
+      ordered = λ words top map other_map. subst (λ (n : ℕ). IsOrdered words top c.args.one.now c.args.other.now (c.pairs.left + bool_byte (leb ours.0 theirs.0))
+          (c.pairs.right + bool_byte (leb theirs.0 ours.0)) (take (c.pairs.count + n) (set c.pairs.out c.pairs.count c.if-in_one.out)))
+          (sym taken)
+          (ordered_tested c.args.one.now c.args.other.now c.pairs.left c.pairs.right c.pairs-test.true c.if-right-other.true words top keep c.pairs.out c.pairs.count c.if-in_one.out room pair
+          (c.pairs.invariant.ordered words top map other_map));
       merged = subst (λ (n : ℕ). IsMerged keep c.args.one.now c.args.other.now (c.pairs.left + bool_byte (leb ours.0 theirs.0)) (c.pairs.right + bool_byte (leb theirs.0 ours.0))
           (take (c.pairs.count + n) (set c.pairs.out c.pairs.count c.if-in_one.out)))
           (sym taken)

@@ -7,7 +7,7 @@ use Rattle.std.specs.FinMap.{find}
 use Rattle.std.proofs.lemmas.Bool.{eq-eqb, ne_eqb}
 use Rattle.std.proofs.lemmas.Bool.Decides.{eqb_tells}
 use Rattle.judy_model.specs.Keys.{word_order}
-use Rattle.judy_sets.specs.Merges.{Pairs, Ascends}
+use Rattle.judy_combine.specs.Merges.{Pairs, Ascends}
 
 pub same_or : (one other : ℕ) → (one ≡ other) ⊎ (one ≢ other)
 same_or one other = ⊎_elim (λ h. inl h.1) (λ h. inr h.1) (eqb_tells one other)

@@ -3,7 +3,8 @@ use Rattle.std.specs.Prelude.{◌≡◌, ℕ, suc, ◌+◌, ◌≤◌, Bool, if�
 use Rattle.std.specs.Option.{option_or}
 use Rattle.std.specs.FinMap.{find}
 use Rattle.judy_model.specs.Keys.{word_order}
-use Rattle.judy_sets.specs.declared.keep.Keep.{Keep}
+use Rattle.judy_node.specs.Trees.{IsMap}
+use Rattle.judy_combine.specs.declared.keep.Keep.{Keep}
 
 abbrev pub Pairs : Type 0
 Pairs = List (ℕ × ℕ)
@@ -39,3 +40,11 @@ IsMerged keep one other left right out =
     (one_more other_more : Pairs) → Ascends 0 (one ++ one_more) → Ascends 0 (other ++ other_more) → (key : ℕ) →
     option_or (find word_order key out) (pick keep (find word_order key (drop left one ++ one_more)) (find word_order key (drop right other ++ other_more)))
     ≡ pick keep (find word_order key (one ++ one_more)) (find word_order key (other ++ other_more))
+
+-- Those that are written ascend, below all that are still to be passed.
+pub record IsOrdered (words top : ℕ) (one other : Pairs) (left right : ℕ) (out : Pairs) : Type 0 where
+  pub low : ℕ
+  pub inside : low ≤ top
+  pub front : IsMap words 0 low out
+  pub left_up : IsMap words low top (drop left one)
+  pub right_up : IsMap words low top (drop right other)

@@ -3,9 +3,9 @@ use Rattle.std.proofs.Common.{◌≡◌, ◌≢◌, ℕ, Bool, true, false, cond
 use Rattle.std.specs.Option.{option_or}
 use Rattle.std.specs.FinMap.{find}
 use Rattle.judy_model.specs.Keys.{word_order}
-use Rattle.judy_sets.specs.declared.keep.Keep.{Keep}
-use Rattle.judy_sets.specs.Merges.{Pairs, taken, pick}
-use Rattle.judy_sets.proofs.Finds.{same_or, find-same, find-apart, find-join}
+use Rattle.judy_combine.specs.declared.keep.Keep.{Keep}
+use Rattle.judy_combine.specs.Merges.{Pairs, taken, pick}
+use Rattle.judy_combine.proofs.Finds.{same_or, find-same, find-apart, find-join}
 
 -- ---- what is taken
 

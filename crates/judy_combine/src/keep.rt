@@ -37,7 +37,7 @@ impl Keep {
     };
 
     // Whether keys are kept that both have, and no others.
-    pub(crate) fn is_intersection(self) -> bool
+    pub fn is_intersection(self) -> bool
         ensures { IsTrue result
             → (self.left ≡ false) × (self.both ≡ true) × (self.right ≡ false) }
     {
@@ -46,7 +46,7 @@ impl Keep {
 
     // Whether a key is kept, by which of the two have it: one of them does.
     #[inline(always)]
-    pub(crate) fn takes(self, in_left: bool, in_right: bool) -> bool
+    pub fn takes(self, in_left: bool, in_right: bool) -> bool
         ensures { result
             ≡ (if in_left then (if in_right then self.both else self.left) else self.right) }
     {

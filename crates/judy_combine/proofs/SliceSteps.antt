@@ -1,5 +1,5 @@
 -- One step through two slices of pairs, of which more may be behind.
-use Rattle.std.proofs.Common.{◌≡◌, ◌≢◌, nat_eq, ⊎_elim, refl, ℕ, ◌+◌, ◌<◌, ◌≤◌, Bool, true, false, cond, ◌∷◌}
+use Rattle.std.proofs.Common.{◌≡◌, ◌≢◌, nat_eq, ⊎_elim, refl, ℕ, ◌+◌, ◌<◌, ◌≤◌, Bool, true, false, cond, [], ◌∷◌}
 use Rattle.std.proofs.Common.{◌++◌, length, get_or, take, drop, None, sym, ap, ◌∙◌, subst, arith, add-one, add-zero, append-nil}
 use Rattle.std.proofs.Math.ListN.{set}
 use Rattle.std.proofs.Math.Seq.{drop-cons}
@@ -7,10 +7,12 @@ use Rattle.std.proofs.lemmas.List.{take-set, take_more_set}
 use Rattle.std.specs.Option.{option_or}
 use Rattle.std.specs.FinMap.{find}
 use Rattle.judy_model.specs.Keys.{word_order}
-use Rattle.judy_sets.specs.declared.keep.Keep.{Keep}
-use Rattle.judy_sets.specs.Merges.{Pairs, Ascends, pick, IsMerged}
-use Rattle.judy_sets.proofs.Finds.{find-below, ascends-drop}
-use Rattle.judy_sets.proofs.Merging.{one_if, pass-left, pass-right, pass-both}
+use Rattle.judy_combine.specs.declared.keep.Keep.{Keep}
+use Rattle.judy_node.specs.Trees.{IsMap}
+use Rattle.judy_node.proofs.Maps.{map-wider, map-append}
+use Rattle.judy_combine.specs.Merges.{Pairs, Ascends, pick, IsMerged, IsOrdered}
+use Rattle.judy_combine.proofs.Finds.{find-below, ascends-drop}
+use Rattle.judy_combine.proofs.Merging.{one_if, pass-left, pass-right, pass-both}
 use Rattle.std.proofs.Math.Dec.{leb}
 use Rattle.std.proofs.lemmas.Bool.{le-leb, lt-leb, leb-true, leb-false}
 use Rattle.std.proofs.lemmas.Bool.Decides.{eqb_tells}
@@ -56,6 +58,17 @@ behind pairs more at within up = (subst (Ascends 0) (from_place pairs more at wi
 pub written : (b : Bool) (out : Pairs) (count : ℕ) (pair : ℕ × ℕ) → count < length out → take (count + bool_byte b) (set out count pair) ≡ take count out ++ one_if b pair
 written true out count pair room = take_more_set out count pair room
 written false out count pair room = ap (λ (n : ℕ). take n (set out count pair)) (add-zero count) ∙ take-set out count pair ∙ sym (append-nil (take count out))
+
+-- The pairs from a place on.
+from_here : (pairs : Pairs) (at : ℕ) → at < length pairs → drop at pairs ≡ get_or pairs at (0, 0) ∷ drop (at + 1) pairs
+from_here pairs at within = drop-cons pairs at (0, 0) within ∙ ap (λ (n : ℕ). get_or pairs at (0, 0) ∷ drop n pairs) (sym (add-one at))
+
+-- A pair that may come behind others.
+behind_front : (words low : ℕ) (out : Pairs) (b : Bool) (pair : ℕ × ℕ) → low ≤ pair.0 → (words ≡ 0 → pair.1 ≡ 0) → IsMap words 0 low out → IsMap words 0 (pair.0 + 1) (out ++ one_if b pair)
+behind_front words low out true pair above zero map =
+    map-append words 0 pair.0 (pair.0 + 1) out (pair ∷ []) (omega arith) (omega arith) (map-wider words 0 low 0 pair.0 out (omega arith) above map) (omega arith, omega arith, zero, tt)
+behind_front words low out false pair above zero map =
+    subst (IsMap words 0 (pair.0 + 1)) (sym (append-nil out)) (map-wider words 0 low 0 (pair.0 + 1) out (omega arith) (omega (arith, above)) map)
 
 module _ (one other : Pairs) (left right : ℕ) (in_one : left < length one) (in_other : right < length other) where
   -- ---- written
@@ -126,3 +139,76 @@ module _ (one other : Pairs) (left right : ℕ) (in_one : left < length one) (in
           IsMerged keep one other passed_left passed_right (take (count + bool_byte b) (set out count pair))
       put b first passed_left passed_right is merged = subst (IsMerged keep one other passed_left passed_right)
           (sym (written b out count first room) ∙ ap (λ (p : ℕ × ℕ). take (count + bool_byte b) (set out count p)) (sym is)) merged
+
+  -- ---- in order
+
+  module _ (words top : ℕ) (out : Pairs) (is : IsOrdered words top one other left right out) where
+    ours_on : IsMap words is.low top (get_or one left (0, 0) ∷ drop (left + 1) one)
+    ours_on = subst (IsMap words is.low top) (from_here one left in_one) is.left_up
+
+    theirs_on : IsMap words is.low top (get_or other right (0, 0) ∷ drop (right + 1) other)
+    theirs_on = subst (IsMap words is.low top) (from_here other right in_other) is.right_up
+
+    ordered_left : (b : Bool) → (get_or one left (0, 0)).0 < (get_or other right (0, 0)).0 → IsOrdered words top one other (left + 1) right (out ++ one_if b (get_or one left (0, 0)))
+    ordered_left b less =
+        let first = ours_on in
+        let below = first.1 in
+        record {
+          low = (get_or one left (0, 0)).0 + 1;
+          inside = omega (arith, below);
+          front = behind_front words is.low out b (get_or one left (0, 0)) first.0 first.2 is.front;
+          left_up = first.3;
+          right_up = subst (IsMap words ((get_or one left (0, 0)).0 + 1) top) (sym (from_here other right in_other)) (omega (arith, less), theirs_on.1, theirs_on.2, theirs_on.3);
+        }
+
+    ordered_right : (b : Bool) → (get_or other right (0, 0)).0 < (get_or one left (0, 0)).0 → IsOrdered words top one other left (right + 1) (out ++ one_if b (get_or other right (0, 0)))
+    ordered_right b more =
+        let first = theirs_on in
+        let below = first.1 in
+        record {
+          low = (get_or other right (0, 0)).0 + 1;
+          inside = omega (arith, below);
+          front = behind_front words is.low out b (get_or other right (0, 0)) first.0 first.2 is.front;
+          left_up = subst (IsMap words ((get_or other right (0, 0)).0 + 1) top) (sym (from_here one left in_one)) (omega (arith, more), ours_on.1, ours_on.2, ours_on.3);
+          right_up = first.3;
+        }
+
+    ordered_both : (b : Bool) → (get_or one left (0, 0)).0 ≡ (get_or other right (0, 0)).0 → IsOrdered words top one other (left + 1) (right + 1) (out ++ one_if b (get_or one left (0, 0)))
+    ordered_both b same =
+        let first = ours_on in
+        let below = first.1 in
+        record {
+          low = (get_or one left (0, 0)).0 + 1;
+          inside = omega (arith, below);
+          front = behind_front words is.low out b (get_or one left (0, 0)) first.0 first.2 is.front;
+          left_up = first.3;
+          right_up = subst (λ (n : ℕ). IsMap words (n + 1) top (drop (right + 1) other)) (sym same) theirs_on.3;
+        }
+
+  pub ordered_tested : (words top : ℕ) (keep : Keep) (out : Pairs) (count : ℕ) (pair : ℕ × ℕ) → count < length out
+      → pair ≡ cond (leb (get_or one left (0, 0)).0 (get_or other right (0, 0)).0) (get_or one left (0, 0)) (get_or other right (0, 0))
+      → IsOrdered words top one other left right (take count out)
+      → IsOrdered words top one other (left + bool_byte (leb (get_or one left (0, 0)).0 (get_or other right (0, 0)).0))
+      (right + bool_byte (leb (get_or other right (0, 0)).0 (get_or one left (0, 0)).0))
+      (take (count + bool_byte (cond (leb (get_or one left (0, 0)).0 (get_or other right (0, 0)).0)
+      (cond (leb (get_or other right (0, 0)).0 (get_or one left (0, 0)).0) keep.both keep.left) keep.right)) (set out count pair))
+  ordered_tested words top keep out count pair room is ordered = by_tests ours.0 theirs.0
+      (λ b c e. pair ≡ cond b ours theirs → IsOrdered words top one other (left + bool_byte b) (right + bool_byte c)
+      (take (count + bool_byte (cond b (cond c keep.both keep.left) keep.right)) (set out count pair)))
+      (λ less is. subst (λ (n : ℕ). IsOrdered words top one other (left + 1) n (take (count + bool_byte keep.left) (set out count pair))) (sym (add-zero right))
+      (put keep.left ours (left + 1) right is (ordered_left words top (take count out) ordered keep.left less)))
+      (λ more is. subst (λ (n : ℕ). IsOrdered words top one other n (right + 1) (take (count + bool_byte keep.right) (set out count pair))) (sym (add-zero left))
+      (put keep.right theirs left (right + 1) is (ordered_right words top (take count out) ordered keep.right more)))
+      (λ same is. put keep.both ours (left + 1) (right + 1) is (ordered_both words top (take count out) ordered keep.both same))
+      is
+    where
+      ours : ℕ × ℕ
+      ours = get_or one left (0, 0)
+
+      theirs : ℕ × ℕ
+      theirs = get_or other right (0, 0)
+
+      put : (b : Bool) (first : ℕ × ℕ) (passed_left passed_right : ℕ) → pair ≡ first → IsOrdered words top one other passed_left passed_right (take count out ++ one_if b first) →
+          IsOrdered words top one other passed_left passed_right (take (count + bool_byte b) (set out count pair))
+      put b first passed_left passed_right is ordered = subst (IsOrdered words top one other passed_left passed_right)
+          (sym (written b out count first room) ∙ ap (λ (p : ℕ × ℕ). take (count + bool_byte b) (set out count p)) (sym is)) ordered
