@@ -428,7 +428,7 @@ bool sellumaq_judysl_slot(const sellumaq_judysl *map, const uint8_t *key, size_t
  * hold a little memory, up to `free`. */
 bool sellumaq_judysl_del(sellumaq_judysl *map, const uint8_t *key, size_t length);
 
-/* The same, and where the key was there it tells the value that it had. */
+/* The same, and where the key was there it tells the value that it had. It takes no second way down the map. */
 bool sellumaq_judysl_remove(sellumaq_judysl *map, const uint8_t *key, size_t length, uint64_t *was);
 
 /* The nearest keys: the least from a string on, the least above it, the greatest up to it, the greatest below it.
@@ -522,9 +522,9 @@ uint64_t sellumaq_judysl_remove_range(sellumaq_judysl *map, const uint8_t *from,
 uint64_t sellumaq_judysl_remove_prefix(sellumaq_judysl *map, const uint8_t *prefix, size_t length);
 
 /* Moves keys together, so that memory which deletes left free within the map's pages goes back: one walk over the map,
- * of use after many deletes. It asks for no memory and can't fail; no key and no value changes, but slots that were
- * handed out are no longer theirs. An insert that is refused memory after many deletes does the same itself, and is
- * tried once more before it answers. */
+ * of use after many deletes. It asks for no more memory and can't fail; no key and no value changes, but slots that
+ * were handed out are no longer theirs. An insert that is refused memory after many deletes does the same itself, and
+ * is tried once more before it answers. */
 void sellumaq_judysl_shrink(sellumaq_judysl *map);
 
 /* Makes `made` a copy, in place of what it held: SELLUMAQ_ADDED. Else it is as it was: SELLUMAQ_NO_MEMORY. The two
@@ -573,7 +573,7 @@ uint32_t sellumaq_judyhs_ins(sellumaq_judyhs *map, const uint8_t *key, size_t le
  * there is never refused. */
 uint32_t sellumaq_judyhs_put(sellumaq_judyhs *map, const uint8_t *key, size_t length, uint64_t value);
 
-/* The same, and where the key was there it tells the value that it had. It takes no second way down the map. */
+/* The same, and where the key was there it tells the value that it had, at the same cost. */
 uint32_t sellumaq_judyhs_insert(sellumaq_judyhs *map, const uint8_t *key, size_t length, uint64_t value, uint64_t *was);
 
 /* The value of a key; false where the key is absent. */
@@ -586,7 +586,7 @@ bool sellumaq_judyhs_slot(const sellumaq_judyhs *map, const uint8_t *key, size_t
  * hold a little memory, up to `free`. */
 bool sellumaq_judyhs_del(sellumaq_judyhs *map, const uint8_t *key, size_t length);
 
-/* The same, and where the key was there it tells the value that it had. */
+/* The same, and where the key was there it tells the value that it had, at the same cost. */
 bool sellumaq_judyhs_remove(sellumaq_judyhs *map, const uint8_t *key, size_t length, uint64_t *was);
 
 /* The keys with their values, by the lengths of the keys, and those of one length by their bytes, but for the first

@@ -1,25 +1,19 @@
 -- What a handle that holds an array of strings, or none, stands for.
-use Rattle.std.proofs.Common.{◌≡◌, ℕ, Bool, true, false, true≢false, List, refl, sym, ap, ◌∙◌, Option, Some, None, IsFalse, not, ◌&&◌, ◌==◌}
+use Rattle.std.proofs.Common.{◌≡◌, ℕ, false, List, sym, ap, ◌∙◌, Option, None, IsFalse, not, ◌&&◌, ◌==◌}
 use Rattle.std.specs.Prelude.{is_some}
 use Rattle.std.specs.FinMap.{FinMap, get, contains_key, len, empty, get-empty, len-empty}
 use Rattle.judy_model.specs.Keys.{byte_order}
 use Rattle.judy_model.specs.Arrays.{ArrayOf, empty_array, with_map, del, is_full}
 use Rattle.judy_model.proofs.lemmas.maps.SortedMaps.{remove_absent}
 use Rattle.judy_model.proofs.lemmas.maps.TableLemmas.{byte_order_total, byte_order_same}
-use Rattle.judy_c.specs.Told.{IsTold}
 
 -- a key that is absent is taken out by no change
-pub absent_deleted : (array : ArrayOf byte_order) (key : List ℕ) → get array.map key ≡ None → array ≡ with_map array (del array.map key)
+absent_deleted : (array : ArrayOf byte_order) (key : List ℕ) → get array.map key ≡ None → array ≡ with_map array (del array.map key)
 absent_deleted array key absent = ap (with_map array) (sym (remove_absent byte_order_total byte_order_same array.map key absent))
 
 -- an empty array has no key to take out
 pub nothing_deleted : (array : ArrayOf byte_order) (key : List ℕ) → array ≡ empty_array 4294967295 → array ≡ with_map array (del array.map key)
 nothing_deleted array key is = absent_deleted array key (ap (λ (a : ArrayOf byte_order). get a.map key) is ∙ get-empty byte_order key)
-
--- what isn't told isn't there
-pub not_told : (found : Option ℕ) (told : Bool) (before after : ℕ) → IsTold found told before after → told ≡ false → found ≡ None
-not_told None told before after fact untold = refl
-not_told (Some value) told before after fact untold = absurd (true≢false (sym fact.0 ∙ untold))
 
 -- it doesn't have this key
 pub nothing_there : (array : ArrayOf byte_order) (key : List ℕ) → array ≡ empty_array 4294967295 → false ≡ contains_key array.map key

@@ -1,7 +1,7 @@
 -- How a walk of C over an array of strings, or of byte strings, fills the caller's two buffers: the bytes of the keys one behind the other, and the
 -- length and the value of each.
-use Rattle.std.specs.Prelude.{◌≡◌, ◌++◌, ◌+◌, ◌-◌, ℕ, zero, suc, Bool, true, if◌then◌else◌, nat_le, List, [], ◌∷◌, length, take, drop, map, flat_map, Option, Some, None}
-use Rattle.std.specs.FinMap.{FinMap, entries}
+use Rattle.std.specs.Prelude.{◌≡◌, ◌≤◌, ◌++◌, ◌+◌, ◌-◌, ℕ, zero, suc, Bool, true, false, if◌then◌else◌, nat_le, List, [], ◌∷◌, length, take, drop, map, flat_map, Option, Some, None}
+use Rattle.std.specs.FinMap.{FinMap, get, entries}
 use Rattle.judy_model.specs.Keys.{byte_order}
 use Rattle.judy_model.specs.Counts.{rank, count_up_to}
 use Rattle.judy_model.specs.Neighbours.{first, next}
@@ -73,3 +73,14 @@ pub record IsPutAt (pair : List ℕ × ℕ) (used : ℕ) (before : List ℕ) (en
 abbrev pub IsPut : Pairs → ℕ → List ℕ → Option KeyEntry → List ℕ → Type 0
 IsPut rest used before None after = (fitting (length before - used) 1 rest ≡ []) × (after ≡ before)
 IsPut rest used before (Some entry) after = (pair : List ℕ × ℕ) × (rest ≡ pair ∷ drop 1 rest) × IsPutAt pair used before entry after
+
+-- The last so many bytes.
+abbrev pub end_of : ℕ → List ℕ → List ℕ
+end_of count bytes = drop (length bytes - count) bytes
+
+-- They are the key before a place of a map.
+pub record EndsBytes (map : FinMap byte_order ℕ) (place : ℕ) (bytes : List ℕ) (count : ℕ) : Type 0 where
+  pub inside : count ≤ length bytes
+  pub value : ℕ
+  pub held : get map (end_of count bytes) ≡ Some value
+  pub behind : pairs_from map (end_of count bytes) false ≡ drop place (entries map)

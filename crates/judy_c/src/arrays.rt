@@ -1,6 +1,6 @@
 //! The arrays that C holds by handles, each with the one for which a null handle stands.
 
-ghost use Rattle.std.specs.Prelude.{◌≡◌, ℕ, List};
+ghost use Rattle.std.specs.Prelude.{◌≡◌, ◌≤◌, ℕ, List};
 ghost use Rattle.std.specs.Borrow.{sem};
 ghost use Rattle.std.specs.FinMap as map;
 ghost use Rattle.std.specs.Option.{option_copied_mut};
@@ -27,9 +27,16 @@ pub(crate) trait HeldArray: Drop {
     // The one without keys, for which a null handle stands.
     ghost without_keys: { Self };
 
+    // What is known of how many bytes of memory one takes beside its own place.
+    ghost TakesBytes: { Self → ℕ → Type 0 };
+
     // That one. It takes no memory.
     fn empty(alloc: Global) -> Self
         ensures { result ≡ without_keys };
+
+    // How many bytes it takes so. It goes over all nodes and pages.
+    fn bytes_inside(&self) -> u64
+        ensures { TakesBytes self.now result };
 }
 
 // One whose keys are bytes, all alike by their limits and maps.
@@ -74,24 +81,42 @@ pub(crate) trait KeyedArray: HeldArray {
 impl<V: Words + Drop> HeldArray for WordArray<V> {
     ghost without_keys = { unbounded };
 
+    ghost TakesBytes = { λ array bytes. map.len array.map ≤ 1 → bytes ≡ 0 };
+
     fn empty(alloc: Global) -> WordArray<V> {
         WordArray::unbounded(alloc)
+    }
+
+    fn bytes_inside(&self) -> u64 {
+        self.bytes()
     }
 }
 
 impl HeldArray for LongStrings {
     ghost without_keys = { empty_keyed };
 
+    ghost TakesBytes = { λ array bytes. Unit {0} };
+
     fn empty(alloc: Global) -> LongStrings {
         LongStrings::new(alloc, MOST_KEYS)
+    }
+
+    fn bytes_inside(&self) -> u64 {
+        self.bytes()
     }
 }
 
 impl HeldArray for JudyHs<Eights> {
     ghost without_keys = { empty_keyed };
 
+    ghost TakesBytes = { λ array bytes. Unit {0} };
+
     fn empty(alloc: Global) -> JudyHs<Eights> {
         JudyHs::new(alloc, MOST_KEYS, Eights)
+    }
+
+    fn bytes_inside(&self) -> u64 {
+        self.bytes()
     }
 }
 

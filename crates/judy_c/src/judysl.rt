@@ -183,9 +183,9 @@ pub extern "C" fn sellumaq_judysl_longest(handle: &mut Strings) -> usize
     }
 }
 
-/// Moves keys together, so that memory which deletes left free within the map's pages goes back. It asks for no memory
-/// and can't fail, and changes no key and no value; slots that were handed out are no longer theirs. (This project's
-/// own.)
+/// Moves keys together, so that memory which deletes left free within the map's pages goes back. It asks for no more
+/// memory and can't fail, and changes no key and no value; slots that were handed out are no longer theirs. (This
+/// project's own.)
 #[unsafe(no_mangle)]
 pub extern "C" fn sellumaq_judysl_shrink(handle: &mut Strings)
     ensures { handle.new ≡ handle.old }

@@ -1,7 +1,7 @@
 //! The calls of C that give a key of a map from strings, or from byte strings, a value or take it out, and tell the
 //! value that was there.
 //!
-//! An insert is one way down the map where a slot is; a removal is two, the look-up's and the delete's.
+//! An insert is one way down the map where a slot is, and a removal one where a delete is.
 
 ghost use Rattle.std.specs.Prelude.{◌≡◌};
 ghost use Rattle.std.specs.FinMap as map;
@@ -15,9 +15,9 @@ ghost use Rattle.judy_c.specs.Told.{IsTold};
 
 use crate::answers::answer_store;
 use crate::bytes::Bytes;
-use crate::judyhs::{sellumaq_judyhs_del, sellumaq_judyhs_get};
-use crate::judysl::{sellumaq_judysl_del, sellumaq_judysl_get};
+use crate::handles::Handle;
 use crate::strings::Strings;
+use crate::told::tell;
 use std::alloc::Global;
 
 /// Gives a key a value, and answers `PRESENT` or `ADDED`; or why it is refused: `BAD_KEY`, `FULL` or `NO_MEMORY`, in
@@ -67,11 +67,10 @@ pub extern "C" fn sellumaq_judysl_remove(
         ≡ array.with_map (strings.array_in handle.old)
         (array.del (strings.array_in handle.old).map key.now) }
 {
-    let found = sellumaq_judysl_get(handle, key, was);
-    if found {
-        sellumaq_judysl_del(alloc, handle, key);
+    match handle.array() {
+        Some(array) => tell(array.remove(key), was),
+        None => false,
     }
-    found
 }
 
 /// Gives a key a value, and answers `PRESENT` or `ADDED`; or why it is refused: `BAD_KEY`, `FULL` or `NO_MEMORY`, in
@@ -120,9 +119,8 @@ pub extern "C" fn sellumaq_judyhs_remove(
         ≡ array.with_map (bytes.array_in handle.old)
         (array.del (bytes.array_in handle.old).map key.now) }
 {
-    let found = sellumaq_judyhs_get(handle, key, was);
-    if found {
-        sellumaq_judyhs_del(alloc, handle, key);
+    match handle.array() {
+        Some(array) => tell(array.remove(key), was),
+        None => false,
     }
-    found
 }

@@ -28,7 +28,7 @@ pub struct KeyEntry {
 /// The keys of a map from a string on, or from above it, with their values, by ascending key, as many as fit; answers
 /// how many these are. None where the map can't hold the string. The first key is one way down the map, and each later
 /// one a step from the key before; but where a key that came in since the map was last empty, or the string, has more
-/// than 1,024 bytes, each key takes two ways down the map, some microseconds. It asks for no memory.
+/// than 1,024 bytes, each key takes two ways down the map. It asks for no memory.
 #[unsafe(no_mangle)]
 pub extern "C" fn sellumaq_judysl_walk(
     handle: &mut Strings,

@@ -45,7 +45,14 @@ impl Map {
             ≡ option_and_then (map.get (map_of self.old))
             (neighbours.first (map_of self.old) from) }
     {
-        slot_in!(self, first_slot(from, key))
+        match self.array() {
+            Some(array) => {
+                let found = array.first(from)?;
+                *key = found;
+                array.slot(found)
+            }
+            None => None,
+        }
     }
 
     // The slot of the least key above a word, which is told; `None` where there is none.
@@ -55,7 +62,14 @@ impl Map {
         ensures value { option_copied_mut result
             ≡ option_and_then (map.get (map_of self.old)) (neighbours.next (map_of self.old) from) }
     {
-        slot_in!(self, next_slot(from, key))
+        match self.array() {
+            Some(array) => {
+                let found = array.next(from)?;
+                *key = found;
+                array.slot(found)
+            }
+            None => None,
+        }
     }
 
     // The slot of the greatest key up to a word, which is told; `None` where there is none.

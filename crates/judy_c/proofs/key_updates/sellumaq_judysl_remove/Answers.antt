@@ -1,13 +1,12 @@
--- `sellumaq_judysl_remove`: what isn't there is taken out by no change.
-use Rattle.std.proofs.Common.{ap, ◌∙◌}
-use Rattle.std.specs.FinMap as map
+-- `sellumaq_judysl_remove`: a null handle has no key to take out.
+use Rattle.judy_model.specs.Keys.{byte_order}
 use Rattle.judy_c.specs.StringMaps.{array_in}
-use Rattle.judy_c.proofs.StringHandles.{absent_deleted, not_told}
+use Rattle.judy_c.proofs.PairLemmas.{none_told}
+use Rattle.judy_c.proofs.StringHandles.{nothing_deleted}
 use Rattle.judy_c.proofs.key_updates.sellumaq_judysl_remove.Goals as goal
 
-pub returns-else-found-clause-deleted : goal.returns-else-found-clause-deleted
-returns-else-found-clause-deleted c =
-    let found = c.sellumaq_judysl_get-found in
-    ap array_in found.ensures.same
-    ∙ absent_deleted (array_in c.args.handle.now) c.args.key.now (not_told (map.get (array_in c.args.handle.now).map c.args.key.now) found.result c.args.was.now
-    found.new.value found.ensures.told c.if-found.false)
+pub returns-in-None-clause-told : goal.returns-in-None-clause-told
+returns-in-None-clause-told c = none_told byte_order (array_in c.args.handle.now) 4294967295 c.args.key.now c.args.was.now c.in-None.ensures.null
+
+pub returns-in-None-clause-deleted : goal.returns-in-None-clause-deleted
+returns-in-None-clause-deleted c = nothing_deleted _ c.args.key.now c.in-None.ensures.null
