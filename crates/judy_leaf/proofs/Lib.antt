@@ -33,3 +33,4 @@ pub mod NextKeys
 pub mod Fills
 pub mod NextBits
 pub mod BitsMet
+pub mod BitSets

@@ -2,6 +2,7 @@
 
 ghost use Rattle.std.specs.Prelude.{◌≡◌, ◌+◌, ◌*◌, ◌<◌, ◌≤◌, ℕ, length, slice_index, IfOk, OnOk, OnErr, IsFalse};
 ghost use Rattle.std.specs.List.{remove, AllByRecursion};
+ghost use Rattle.judy_model.specs.Ranges.{zeroed};
 ghost use Rattle.judy_bits.specs.ByteSets as set;
 ghost use Rattle.judy_leaf.specs.Packing.{IsWidth};
 ghost use Rattle.judy_leaf.specs.KeyLists.{keys_of, values_of, with_pair, with_value_at, low_pairs, IsKeyList};
@@ -10,8 +11,9 @@ ghost use Rattle.judy_leaf.specs.BitLeaves.{IsBitParts, bit_list};
 use crate::bit_edit;
 use crate::bit_ref::BitRef;
 use crate::in_place::put_in_bit_leaf;
-use crate::layout::{BIT_WORDS, set_bit_width};
+use crate::layout::{BIT_WORDS, bit_tag, set_bit_width};
 use crate::words::{ValueWords, Words};
+use judy_bits::Bits256;
 use judy_block::Block;
 use std::alloc::{AllocError, Global};
 use std::marker::{Model, PhantomData};
@@ -92,6 +94,22 @@ impl<V: Words + Drop> BitLeafOf<V> {
     {
         let key = self.reading().key_at(at);
         bit_edit::take::<V>(&mut self.block, at, key as u8);
+    }
+
+    /// The bitmap leaf of a set of bytes without values, in a node whose keys have `width` bytes, 1 to 8. The words are
+    /// copied, and no key is asked for. The error is want of memory; nothing is kept then.
+    pub fn of_bits(alloc: Global, width: u8, bits: &Bits256) -> Result<BitLeafOf<V>, AllocError>
+        requires none { V.WORDS ≡ 0 }
+        requires width { IsWidth width }
+        ensures { IfOk result
+            (λ leaf. leaf ≡ record { width = width; pairs = zeroed bits.now }) }
+    {
+        let tag = bit_tag(bits.len(), width);
+        let block = Block::of_words(alloc, BIT_WORDS, tag, &bits.words())?;
+        Ok(BitLeafOf {
+            block,
+            words: PhantomData,
+        })
     }
 
     /// The bitmap leaf of pairs, in a node whose keys have `width` bytes, 1 to 8. Of each key the lowest byte counts;

@@ -67,6 +67,14 @@ impl<'a, V: Words + Drop> BitRef<'a, V> {
         &self.block.words()[..BIT_WORDS]
     }
 
+    /// The keys as a set of bytes of its own: the four words are copied.
+    pub fn to_bits(&self) -> Bits256
+        ensures { result ≡ keys_of self.now.pairs }
+    {
+        let words = self.bit_words();
+        Bits256::of_words([words[0], words[1], words[2], words[3]])
+    }
+
     /// A law, told by a call that does nothing: the keys are a set of bytes.
     pub fn law(&self)
         ensures { IsByteSet (keys_of self.now.pairs) }

@@ -30,6 +30,16 @@ pub fn bit_width(block: &Block) -> u32
     block.tag() / BYTE
 }
 
+// The tag of a bitmap leaf that has so many keys, in a node whose keys have `width` bytes, at most 8.
+#[inline(always)]
+pub(crate) fn bit_tag(count: usize, width: u8) -> u32
+    requires count { count ≤ 256 }
+    requires width { width ≤ 8 }
+    ensures { result ≡ count + 65536 * width }
+{
+    count as u32 + BYTE * u32::from(width)
+}
+
 /// Tells that they have `width` bytes, at most 8.
 #[inline(always)]
 pub fn set_bit_width(block: &mut Block, width: u32)
