@@ -15,3 +15,5 @@ pub mod PadLemmas
 pub mod BackLemmas
 pub mod ChunkLemmas
 pub mod TurnLemmas
+pub mod TurnOrders
+pub mod PagesTrim

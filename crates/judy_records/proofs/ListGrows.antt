@@ -1,10 +1,10 @@
 -- One more record in a list of records.
-use Rattle.std.proofs.Common.{◌≡◌, ◌≢◌, ℕ, ◌+◌, ◌*◌, ◌<◌, ◌≤◌, ◌^◌, ◌⊎◌, List, length, get_or, set, Option, None, Some, inl, inr, refl, sym, ap, subst, ◌∙◌, arith}
+use Rattle.std.proofs.Common.{◌≡◌, ◌≢◌, ℕ, ◌+◌, ◌*◌, ◌<◌, ◌≤◌, ◌⊎◌, List, length, get_or, set, None, Some, inl, inr, refl, sym, ap, subst, ◌∙◌, arith}
 use Rattle.std.specs.Global.{Global}
 use Rattle.std.specs.declared.vec.Vec.{Vec}
 use Rattle.std.proofs.lemmas.Bool.{cases_lt}
 use Rattle.std.proofs.lemmas.Nat.{mul-le}
-use Rattle.std.proofs.lemmas.List.{get_or_read, set-set, set-get_or, length-set}
+use Rattle.std.proofs.lemmas.List.{get_or_read, set-set, set-get_or}
 use Rattle.judy_records.specs.declared.records.Records.TheInside.{Inside}
 use Rattle.judy_records.specs.Kinds.{full, roomy, gone, Kinds, kind_of, first_of, IsMoved}
 use Rattle.judy_records.specs.Pages.{size_of, start_of, page_of, rest_of, places_of}
@@ -14,10 +14,11 @@ use Rattle.judy_records.specs.PageSteps.{IsFilled, IsReopened, IsBegun}
 use Rattle.judy_records.specs.Inside.{page_at, spots_to, spot_of, next_by, list_of, ArePages, AreRecords}
 use Rattle.judy_records.specs.Memory.{HasFree}
 use Rattle.judy_records.proofs.PageOf.{per-is, page-most, place-in}
-use Rattle.judy_records.proofs.PagesHold.{start-in, places-are, of-kind, some-roomy}
+use Rattle.judy_records.proofs.PagesHold.{start-in, places-are, of-kind, some-roomy, end-none}
+use Rattle.judy_records.proofs.SpotsTo.{length-to}
 use Rattle.judy_records.proofs.PagesChange.{IsFillable, roomy-fillable, put-are, put-spots, moved-twice, gone-empty, gone-size, gone-next, reopened-fillable, reopened-within, reopened-same}
 use Rattle.judy_records.proofs.PagesChange.{IsReady, begun-ready, pushed-are, pushed-spots}
-use Rattle.judy_records.proofs.ListHolds.{per, some, start-fits}
+use Rattle.judy_records.proofs.ListHolds.{per, some}
 
 pub fillable-room : (size places : ℕ) (page : PageList) → IsFillable size places page → HasRoom page
 fillable-room size places page can = elim (cases_lt page.next (length page.spots)) [
@@ -167,9 +168,24 @@ module _ (list : Inside) (are : AreRecords list) {seen : RecordList} (view_is : 
 
   -- ---- at the end
 
-  module _ (no_roomy : list.turns.next_roomy ≡ None) (no_gone : list.turns.next_gone ≡ None) where
+  -- Where no page has a free place and none has gone, the next place is the end.
+  pub end-last : list.turns.next_roomy ≡ None → list.turns.next_gone ≡ None → seen.next ≡ length seen.spots
+  end-last no_roomy no_gone =
+      subst (λ (seen : RecordList). seen.next ≡ length seen.spots) view_is
+      ((λ i. next_by (first_of (no_roomy i) (no_gone i)) (per list are) list.end pages) ∙ sym (length-to list.end (spot_of (per list are) pages)))
+
+  module _ (at_end : seen.next ≡ length seen.spots) where
+    next-is : (list_of list).next ≡ list.end
+    next-is = subst (λ (seen : RecordList). seen.next ≡ length seen.spots) (sym view_is) at_end ∙ length-to list.end (spot_of (per list are) pages)
+
+    pub no_roomy : list.turns.next_roomy ≡ None
+    no_roomy = (end-none list.size (per list are) list.end (some list are) pages list.turns are.pages next-is).0
+
+    pub no_gone : list.turns.next_gone ≡ None
+    no_gone = (end-none list.size (per list are) list.end (some list are) pages list.turns are.pages next-is).1
+
     pub end-next : list.end ≡ seen.next
-    end-next = (λ i. next_by (first_of (sym no_roomy i) (sym no_gone i)) (per list are) list.end pages) ∙ ap (λ (seen : RecordList). seen.next) view_is
+    end-next = sym next-is ∙ ap (λ (seen : RecordList). seen.next) view_is
 
     pub end-number : page_of (per list are) list.end ≤ length pages
     end-number = page-most (per list are) (some list are) list.end (length pages) are.pages.enough

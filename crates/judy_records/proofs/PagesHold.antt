@@ -1,15 +1,15 @@
 -- What a list of records holds by its pages.
-use Rattle.std.proofs.Common.{◌≡◌, ◌≢◌, ℕ, ◌+◌, ◌-◌, ◌*◌, ◌<◌, ◌≤◌, ◌⊎◌, if◌then◌else◌, nat_lt, List, [], length, get_or, set, map, Option, None, Some, inl, inr, refl, sym, ap, subst, ◌∙◌}
+use Rattle.std.proofs.Common.{◌≡◌, ◌≢◌, ℕ, ◌+◌, ◌-◌, ◌*◌, ◌<◌, ◌≤◌, ◌⊎◌, if◌then◌else◌, List, length, get_or, set, map, Option, None, Some, inl, inr, refl, sym, ap, subst, ◌∙◌}
 use Rattle.std.proofs.Common.{arith, lt-ltb, le-ltb}
 use Rattle.std.proofs.lemmas.Bool.{cases_lt, cases_eq}
 use Rattle.std.proofs.lemmas.Option.{none-some, same_Some}
 use Rattle.std.proofs.lemmas.List.{length-set, length-map, get_or-map, get_or_past, get_or-set_same, get_or-set_other}
 use Rattle.judy_records.specs.Kinds.{Kind, full, roomy, gone, Kinds, kind_of, first_of, IsMoved}
 use Rattle.judy_records.specs.Pages.{size_of, start_of, page_of, rest_of, places_of, IsAt}
-use Rattle.judy_records.specs.Spots.{Spot, free, held, IsHeld, IsNext}
-use Rattle.judy_records.specs.PageSpots.{PageList, spot_in, empty_page, IsFull}
-use Rattle.judy_records.specs.Inside.{page_at, spots_to, spot_of, next_by, capacity_of, IsOfKind, IsPageOf, ArePages}
-use Rattle.judy_records.proofs.PageOf.{place-in, start-next, start-least, page-less, place-less, only-at}
+use Rattle.judy_records.specs.Spots.{Spot, free, IsHeld, IsNext}
+use Rattle.judy_records.specs.PageSpots.{PageList, spot_in, empty_page}
+use Rattle.judy_records.specs.Inside.{page_at, spots_to, spot_of, next_by, capacity_of, IsPageOf, ArePages}
+use Rattle.judy_records.proofs.PageOf.{place-in, start-least, page-less, only-at}
 use Rattle.judy_records.proofs.SpotsTo.{length-to, get-to, set-to, held-to}
 
 -- How many places of a page a list has.
@@ -122,23 +122,25 @@ module _ (size per end : ℕ) (some : 0 < per) (pages : List PageList) (kinds : 
         last = λ e. (let before = at.1 in absurd (omega (arith, before, long, e)));
       }
 
-  next-roomy : (number : ℕ) → kinds.next_roomy ≡ Some number → IsNext spots (start_of per number + (page number).next)
-  next-roomy number is =
+  -- The next place of a page that is taken next is before the end.
+  roomy-place : (number : ℕ) → kinds.next_roomy ≡ Some number → (number < length pages) × ((page number).next < places_of per end number)
+  roomy-place number is =
       let known = are.known.next_roomy.some number is in
       let counted = are.counted in
       let inside : number < length pages = omega (arith, known.0, counted) in
-      let of = of-kind number inside roomy known.1 in
-      next-page number inside of.known.1 of.next.is_free
+      (inside, (of-kind number inside roomy known.1).known.1)
 
-  next-gone : (number : ℕ) → kinds.next_gone ≡ Some number → IsNext spots (start_of per number + (page number).next)
-  next-gone number is =
+  gone-place : (number : ℕ) → kinds.next_gone ≡ Some number → (number < length pages) × ((page number).next < places_of per end number)
+  gone-place number is =
       let known = are.known.next_gone.some number is in
       let counted = are.counted in
       let inside : number < length pages = omega (arith, known.0, counted) in
       let of = of-kind number inside gone known.1 in
-      let empty = of.known.0 in
-      let zero = ap (λ (page : PageList). page.next) empty in
-      next-page number inside (let some = of.known.1 in omega (arith, zero, some)) of.next.is_free
+      let zero = ap (λ (page : PageList). page.next) of.known.0 in
+      (inside, let some = of.known.1 in omega (arith, zero, some))
+
+  next-first : (number : ℕ) → (number < length pages) × ((page number).next < places_of per end number) → IsNext spots (start_of per number + (page number).next)
+  next-first number at = next-page number at.0 at.1 (are.each number at.0).next.is_free
 
   next-end : kinds.next_roomy ≡ None → kinds.next_gone ≡ None → IsNext spots end
   next-end no_roomy no_gone = (let long = length-to end (spot_of per pages) in record {
@@ -155,9 +157,21 @@ module _ (size per end : ℕ) (some : 0 < per) (pages : List PageList) (kinds : 
   pages-next = by kinds.next_roomy kinds.next_gone refl refl
     where
       by : (one two : Option ℕ) → kinds.next_roomy ≡ one → kinds.next_gone ≡ two → IsNext spots (next_by (first_of one two) per end pages)
-      by (Some number) two is also = next-roomy number is
-      by None (Some number) is also = next-gone number also
+      by (Some number) two is also = next-first number (roomy-place number is)
+      by None (Some number) is also = next-first number (gone-place number also)
       by None None is also = next-end is also
+
+  -- Where the next place is the end, none is roomy or gone.
+  pub end-none : next_by (first_of kinds.next_roomy kinds.next_gone) per end pages ≡ end → (kinds.next_roomy ≡ None) × (kinds.next_gone ≡ None)
+  end-none = by kinds.next_roomy kinds.next_gone refl refl
+    where
+      past : (number : ℕ) → (number < length pages) × ((page number).next < places_of per end number) → start_of per number + (page number).next ≡ end → ⊥
+      past number at e = (let before = (place-at number (page number).next at.0 at.1).1 in omega (arith, before, e))
+
+      by : (one two : Option ℕ) → kinds.next_roomy ≡ one → kinds.next_gone ≡ two → next_by (first_of one two) per end pages ≡ end → (one ≡ None) × (two ≡ None)
+      by (Some number) two is also e = absurd (past number (roomy-place number is) e)
+      by None (Some number) is also e = absurd (past number (gone-place number also) e)
+      by None None is also e = (refl, refl)
 
   -- ---- memory
 

@@ -1,5 +1,5 @@
 -- How the kinds of pages stand in a row: by turns, the full pages first, then the roomy ones, and the gone ones last.
-use Rattle.std.specs.Prelude.{◌≡◌, ◌<◌, ◌≤◌, ℕ, nat_lt, if◌then◌else◌, List, length, get_or, map, Option, None, Some}
+use Rattle.std.specs.Prelude.{◌≡◌, ◌<◌, ◌≤◌, ◌⊎◌, ℕ, nat_lt, if◌then◌else◌, List, length, get_or, map, Option, None, Some}
 use Rattle.judy_records.specs.declared.turns.Turn.{Turn}
 use Rattle.judy_records.specs.declared.turns.Turns.TheInside.{Inside}
 use Rattle.judy_records.specs.Kinds.{Kind, full, roomy, gone, Kinds}
@@ -20,6 +20,12 @@ pub record AreTurned (row : List Turn) : Type 0 where
   pub turned : (page : ℕ) → page < length row → page_at row (turn_of row page) ≡ page
   pub page_in : (turn : ℕ) → turn < length row → page_at row turn < length row
   pub paged : (turn : ℕ) → turn < length row → turn_of row (page_at row turn) ≡ turn
+
+-- Only turns from one on up to an end have gone to other pages.
+pub record AreExchanged (start end : ℕ) (before after : List Turn) : Type 0 where
+  pub long : length after ≡ length before
+  pub each : (page : ℕ) → (turn_of after page ≡ turn_of before page) ⊎
+      ((start ≤ turn_of before page) × (turn_of before page < end) × (start ≤ turn_of after page) × (turn_of after page < end))
 
 -- The kind of a page by its turn.
 abbrev pub kind_at : ℕ → ℕ → ℕ → Kind

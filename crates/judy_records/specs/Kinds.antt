@@ -48,6 +48,19 @@ pub record IsLonger (before after : Kinds) : Type 0 where
   pub here : kind_of after (length before.kinds) ≡ full
   pub elsewhere : (other : ℕ) → other < length before.kinds → kind_of after other ≡ kind_of before other
 
+-- The last page, one that had gone, is no longer there.
+pub record IsShorter (before after : Kinds) : Type 0 where
+  pub known : AreKnown after
+  pub long : length before.kinds ≡ length after.kinds + 1
+  pub last : kind_of before (length after.kinds) ≡ gone
+  pub elsewhere : (other : ℕ) → other < length after.kinds → kind_of after other ≡ kind_of before other
+
+-- Each page is of its kind, whichever is next.
+pub record AreAlike (before after : Kinds) : Type 0 where
+  pub known : AreKnown after
+  pub long : length after.kinds ≡ length before.kinds
+  pub each : (number : ℕ) → kind_of after number ≡ kind_of before number
+
 -- Which page is taken next: a roomy one, or else a gone one.
 abbrev pub first_of : Option ℕ → Option ℕ → Option ℕ
 first_of None other = other

@@ -35,3 +35,8 @@ pub record IsRemoved (before after : RecordList) (place : ℕ) : Type 0 where
   pub here : IsHeld (spot_at after place) → ⊥
   pub elsewhere : (other : ℕ) → other ≢ place → spot_at after other ≡ spot_at before other
   pub long : length after.spots ≤ length before.spots
+
+-- The same stands at each place, whichever is next.
+pub record HoldsSame (before after : RecordList) : Type 0 where
+  pub size : after.size ≡ before.size
+  pub spots : (place : ℕ) → spot_at after place ≡ spot_at before place

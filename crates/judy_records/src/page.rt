@@ -87,6 +87,11 @@ impl Page {
         }
     }
 
+    // How many records it has.
+    pub fn records(&self) -> usize {
+        self.count.saturating_sub(self.spare)
+    }
+
     // How many bytes it has asked for: those of the words that it has room for.
     pub fn bytes(&self) -> u64 {
         (self.words.capacity() as u64).wrapping_mul(8)

@@ -5,7 +5,7 @@ ghost use Rattle.std.specs.Borrow.{sem};
 ghost use Rattle.judy_model.specs.Keys.{IsWord};
 ghost use Rattle.judy_records.specs.Texts.{words_of, words_for, bytes_in};
 ghost use Rattle.judy_records.specs.Spots.{free, held, spot_at, IsHeld, IsNext, value_of, text_of, empty_list, with_spot, put_at};
-ghost use Rattle.judy_records.specs.Memory.{IsTight, HasFree, IsSpare, IsRemoved};
+ghost use Rattle.judy_records.specs.Memory.{IsTight, HasFree, IsSpare, IsRemoved, HoldsSame};
 
 use crate::page::Page;
 use crate::page_steps::{begin, put_in, reopen, take_out_of};
@@ -206,21 +206,36 @@ impl Records {
                     );
                     Ok(start_of(self.shift, number) + rest)
                 }
-                None => {
-                    let place = self.end;
-                    if place >= MOST {
-                        return Err(AllocError);
-                    }
-                    let (number, _) = locate(self.shift, place);
-                    begin(&mut self.pages, &mut self.turns, number, self.size)?;
-                    let page = &mut self.pages[number];
-                    page.widen(words_more(self.shift, place, self.size))?;
-                    page.put(value, bytes);
-                    self.end = place + 1;
-                    Ok(place)
-                }
+                None => self.put_at_end(value, bytes),
             },
         }
+    }
+
+    // The same at the end of the list, where no page has a free place and none has gone: in the last page, which grows
+    // where it has no memory for one more, or in one that is begun.
+    // Within its caller, whose answer it makes.
+    #[inline(always)]
+    fn put_at_end(&mut self, value: u64, bytes: &[u8]) -> Result<usize, AllocError>
+        requires at_end { self.old.next ≡ length self.old.spots }
+        requires fits { words_for (length bytes.now) ≡ self.old.size }
+        ensures place { IfOk result (λ place. place ≡ self.old.next) }
+        ensures size { self.new.size ≡ self.old.size }
+        ensures put { OnOk result (self.new.spots
+            ≡ put_at self.old.spots self.old.next (held value (words_of bytes.now))) }
+        ensures same { OnErr result (self.new.spots ≡ self.old.spots) }
+        ensures next { OnErr result (self.new.next ≡ self.old.next) }
+    {
+        let place = self.end;
+        if place >= MOST {
+            return Err(AllocError);
+        }
+        let (number, _) = locate(self.shift, place);
+        begin(&mut self.pages, &mut self.turns, number, self.size)?;
+        let page = &mut self.pages[number];
+        page.widen(words_more(self.shift, place, self.size))?;
+        page.put(value, bytes);
+        self.end = place + 1;
+        Ok(place)
     }
 
     /// Whether the page of the record at a place is spare: it has a free place, and isn't the one that is filled next.
@@ -270,5 +285,72 @@ impl Records {
         let (number, rest) = locate(self.shift, place);
         let places = places_of(self.shift, self.end, number);
         take_out_of(&mut self.pages, &mut self.turns, number, rest, places);
+    }
+    /// Lets the pages with a free place be filled by their numbers, and answers the first place behind those of them
+    /// that have places for all their records. Where each record of a spare page from there on goes to another page, by
+    /// `put` and `take_out`, the pages behind go. It asks for no memory.
+    pub fn line_up(&mut self) -> usize
+        ensures { HoldsSame self.old self.new }
+    {
+        self.turns.sort();
+        self.end_of_needed()
+    }
+
+    // The first place behind the pages that have places for all records of pages with a free place.
+    fn end_of_needed(&self) -> usize {
+        let mut left = self.in_roomy();
+        for number in 0..self.pages.len() {
+            if left == 0 {
+                return start_of(self.shift, number);
+            }
+            if self.turns.is_roomy(number) {
+                left = left.saturating_sub(size_of(self.shift, number));
+            }
+        }
+        self.end
+    }
+
+    // How many records stand in pages with a free place.
+    fn in_roomy(&self) -> usize {
+        let mut records: usize = 0;
+        for number in 0..self.pages.len() {
+            if self.turns.is_roomy(number) {
+                records = records.saturating_add(self.pages[number].records());
+            }
+        }
+        records
+    }
+
+    /// Gives the places back of pages behind the last one that stands. That the lists of pages be made smaller is all
+    /// that is asked of memory; where this is refused they keep their room.
+    pub fn trim(&mut self)
+        ensures { HoldsSame self.old self.new }
+    {
+        self.drop_gone();
+        self.pages.shrink_to_fit();
+        self.turns.fit();
+    }
+
+    // The same, where the lists keep their room.
+    fn drop_gone(&mut self)
+        ensures { HoldsSame self.old self.new }
+    {
+        for _ in 0..self.pages.len() {
+            if !self.drop_last() {
+                return;
+            }
+        }
+    }
+
+    // The same for the last page, where it has gone. It says whether it was.
+    fn drop_last(&mut self) -> bool
+        ensures { HoldsSame self.old self.new }
+    {
+        if !self.turns.pop() {
+            return false;
+        }
+        self.pages.pop();
+        self.end = start_of(self.shift, self.pages.len());
+        true
     }
 }

@@ -2,8 +2,8 @@
 //! first and the gone ones last: a page that changes its kind moves to the border of two of these parts, where it takes
 //! the turn of the page that stands there. So each change is a few steps, and only a page that comes asks for memory.
 
-ghost use Rattle.std.specs.Prelude.{ℕ, ◌≡◌, ◌≢◌, ◌<◌, ◌≤◌, ◌+◌, None, Some, IsTrue, OnOk, OnErr, length, ◌↔◌};
-ghost use Rattle.judy_records.specs.Kinds.{full, roomy, gone, kind_of, first_of, no_kinds, AreKnown, IsSpare, IsMoved, IsLonger};
+ghost use Rattle.std.specs.Prelude.{ℕ, ◌≡◌, ◌≢◌, ◌<◌, ◌≤◌, ◌+◌, None, Some, IsTrue, IsFalse, OnOk, OnErr, length, ◌↔◌};
+ghost use Rattle.judy_records.specs.Kinds.{full, roomy, gone, kind_of, first_of, no_kinds, AreKnown, IsSpare, IsMoved, IsLonger, IsShorter, AreAlike};
 
 use std::alloc::{AllocError, Global};
 use std::marker::Model;
@@ -36,7 +36,7 @@ impl Model for Turns {
     ghost invariant = { AreTurns };
 }
 
-ghost use Rattle.judy_records.specs.InTurns.{AreTurned, turn_of, page_at};
+ghost use Rattle.judy_records.specs.InTurns.{AreTurned, AreExchanged, turn_of, page_at};
 
 // Gives a page the turn of another one, which gets its own.
 fn exchange_in(row: &mut [Turn], page: usize, turn: usize)
@@ -72,6 +72,23 @@ fn exchange(row: &mut Vec<Turn>, page: usize, turn: usize)
         → turn_of row.new.items at ≡ turn_of row.old.items at }
 {
     exchange_in(row, page, turn);
+}
+
+// Gives the pages with turns from one on up to an end these turns by their numbers.
+fn sort_in(row: &mut [Turn], start: usize, end: usize)
+    requires turned { AreTurned row.old }
+    requires end { end ≤ length row.old }
+    ensures turned { AreTurned row.new }
+    ensures exchanged { AreExchanged start end row.old row.new }
+{
+    let mut turn = start;
+    for page in 0..row.len() {
+        let was = row[page].turn;
+        if turn <= was && was < end {
+            exchange_in(row, page, turn);
+            turn += 1;
+        }
+    }
 }
 
 impl Turns {
@@ -130,6 +147,44 @@ impl Turns {
     {
         let turn = self.row[page].turn;
         self.full < turn && turn < self.standing
+    }
+
+    // Whether a page is roomy.
+    pub fn is_roomy(&self, page: usize) -> bool
+        requires { page < length self.now.kinds }
+    {
+        let turn = self.row[page].turn;
+        self.full <= turn && turn < self.standing
+    }
+
+    // Lets the roomy pages be filled by their numbers.
+    pub fn sort(&mut self)
+        ensures { AreAlike self.old self.new }
+    {
+        sort_in(&mut self.row, self.full, self.standing);
+    }
+
+    // Takes the last page out where it has gone, and says whether it was.
+    pub fn pop(&mut self) -> bool
+        ensures popped { IsTrue result → IsShorter self.old self.new }
+        ensures same { IsFalse result → self.new ≡ self.old }
+    {
+        let Some(last) = self.row.len().checked_sub(1) else {
+            return false;
+        };
+        if self.row[last].turn < self.standing {
+            return false;
+        }
+        exchange(&mut self.row, last, last);
+        self.row.pop();
+        true
+    }
+
+    // Gives the room of pages back that were taken out, where a shorter list isn't refused.
+    pub fn fit(&mut self)
+        ensures { self.new ≡ self.old }
+    {
+        self.row.shrink_to_fit();
     }
 
     // A roomy page has become full.
