@@ -1,4 +1,5 @@
 pub mod PairLemmas
+pub mod GroupLemmas
 pub mod RowLemmas
 pub mod ChunkLemmas
 pub mod SpotLemmas

@@ -1,14 +1,15 @@
 -- The sums of chunks in a row, as they stand beside the chunks.
-use Rattle.std.proofs.Common.{◌≡◌, ℕ, zero, suc, ◌+◌, ◌-◌, ◌<◌, ◌≤◌, List, [], ◌∷◌, ◌++◌, length, take, drop, map, get_or, set, insert, remove, refl, sym, ap, ◌∙◌, arith}
-use Rattle.std.specs.List.{sum_by}
-use Rattle.std.proofs.lemmas.List.{map-set, take-append-drop, get_or_read}
-use Rattle.std.proofs.lemmas.List.Sums.{sum_by-cons, sum_by-append}
+use Rattle.std.proofs.Common.{◌≡◌, ℕ, zero, suc, ◌+◌, ◌<◌, ◌≤◌, List, [], ◌∷◌, length, take, drop, get_or, set, insert, remove, refl, sym, ap, ◌∙◌, subst, arith}
+use Rattle.std.specs.List.{sum}
+use Rattle.std.proofs.lemmas.List.{map-set, take-append-drop, get_or_read, length-map}
+use Rattle.std.proofs.lemmas.List.Sums.{sum_by-cons, sum_by-append, sum_by-set}
+use Rattle.judy_sums.specs.Groups.{AreGroups}
 use Rattle.judy_sums.specs.Pairs.{Pairs, sum_of}
-use Rattle.judy_sums.specs.Chunks.{joined, totals_of}
+use Rattle.judy_sums.specs.Chunks.{AreTotals, joined, totals_of}
 use Rattle.judy_sums.proofs.ChunkLemmas.{joined_append}
 
 -- The totals of the first chunks add up to what these have.
-pub sum_before : (chunks : List Pairs) (at : ℕ) → sum_by (λ (total : ℕ). total) (take at (totals_of chunks)) ≡ sum_of (joined (take at chunks))
+pub sum_before : (chunks : List Pairs) (at : ℕ) → sum (take at (totals_of chunks)) ≡ sum_of (joined (take at chunks))
 sum_before [] zero = refl
 sum_before [] (suc at) = refl
 sum_before (chunk ∷ rest) zero = refl
@@ -16,6 +17,15 @@ sum_before (chunk ∷ rest) (suc at) =
     let first = sum_by-cons (λ (total : ℕ). total) (sum_of chunk) (take at (totals_of rest)) in
     let parts = sum_by-append (λ (pair : ℕ × ℕ). pair.1) chunk (joined (take at rest)) in
     let later = sum_before rest at in
+    omega arith
+
+-- All totals add up to what all chunks have.
+sum_totals : (chunks : List Pairs) → sum (totals_of chunks) ≡ sum_of (joined chunks)
+sum_totals [] = refl
+sum_totals (chunk ∷ rest) =
+    let first = sum_by-cons (λ (total : ℕ). total) (sum_of chunk) (totals_of rest) in
+    let parts = sum_by-append (λ (pair : ℕ × ℕ). pair.1) chunk (joined rest) in
+    let later = sum_totals rest in
     omega arith
 
 -- The total at a place is its chunk's.
@@ -84,18 +94,40 @@ sum_first chunks at =
     let sums = sum_by-append (λ (pair : ℕ × ℕ). pair.1) (joined (take at chunks)) (joined (drop at chunks)) in
     omega arith
 
+-- What stands beside chunks stands beside the same ones.
+pub totals_along : (chunks old : List Pairs) (totals before groups sums : List ℕ) → chunks ≡ old → totals ≡ before → groups ≡ sums → AreTotals old before sums → AreTotals chunks totals groups
+totals_along chunks old totals before groups sums same each grouped are = record {
+  each = each ∙ are.each ∙ ap totals_of (sym same);
+  grouped = subst (λ (all : List ℕ). AreGroups all groups) (sym each) (subst (λ (all : List ℕ). AreGroups before all) (sym grouped) are.grouped);
+}
+
 -- A chunk is lent, and its total beside it.
-module _ (chunks now : List Pairs) (totals : List ℕ) (view : chunks ≡ now) (are : totals ≡ totals_of chunks) (at : ℕ) (within : at < length now) where
-  inside : at < length chunks
-  inside = let long = ap length view in omega arith
+module _ (chunks now : List Pairs) (totals groups : List ℕ) (view : chunks ≡ now) (are : AreTotals chunks totals groups) where
+  pub all_totals : sum totals ≡ sum_of (joined now)
+  all_totals = ap sum are.each ∙ sum_totals chunks ∙ ap (λ (all : List Pairs). sum_of (joined all)) view
 
-  pub set_total : (new : Pairs) (total : ℕ) → total ≡ sum_of new → set totals at total ≡ totals_of (set chunks at new)
-  set_total new total is = ap (λ (all : List ℕ). set all at total) are ∙ ap (λ (n : ℕ). set (totals_of chunks) at n) is ∙ sym (totals_set chunks at new)
+  module _ (at : ℕ) (within : at < length now) where
+    inside : at < length chunks
+    inside = let long = ap length view in omega arith
 
-  module _ (lent : Pairs) (lends : lent ≡ get_or chunks at lent) where
-    pub is_lent : lent ≡ get_or now at []
-    is_lent = get_or_read chunks at lent inside lends [] ∙ ap (λ (all : List Pairs). get_or all at []) view
+    beside : at < length totals
+    beside = let long = ap length are.each in let as_long = length-map chunks sum_of in let here = inside in omega arith
 
-    pub its_total : (total : ℕ) → total ≡ get_or totals at total → total ≡ sum_of lent
-    its_total total read =
-        read ∙ ap (λ (all : List ℕ). get_or all at total) are ∙ total_at chunks at total inside ∙ sym (ap sum_of (get_or_read chunks at lent inside lends []))
+    -- A total that changes changes the sum of all.
+    pub all_set : (new : List ℕ) (total : ℕ) → new ≡ set totals at total → sum new + get_or totals at 0 ≡ sum_of (joined now) + total
+    all_set new total is =
+        let one = sum_by-set (λ (one : ℕ). one) totals at total 0 beside in
+        let whole = all_totals in
+        let same = ap sum is in
+        omega arith
+
+    pub each_set : (pairs : Pairs) (new : List ℕ) (total : ℕ) → new ≡ set totals at total → total ≡ sum_of pairs → new ≡ totals_of (set chunks at pairs)
+    each_set pairs new total is has =
+        is ∙ ap (λ (all : List ℕ). set all at total) are.each ∙ ap (λ (n : ℕ). set (totals_of chunks) at n) has ∙ sym (totals_set chunks at pairs)
+
+    module _ (lent : Pairs) (lends : lent ≡ get_or chunks at lent) where
+      pub is_lent : lent ≡ get_or now at []
+      is_lent = get_or_read chunks at lent inside lends [] ∙ ap (λ (all : List Pairs). get_or all at []) view
+
+      pub its_total : get_or totals at 0 ≡ sum_of lent
+      its_total = ap (λ (all : List ℕ). get_or all at 0) are.each ∙ total_at chunks at 0 inside ∙ sym (ap sum_of (get_or_read chunks at lent inside lends []))

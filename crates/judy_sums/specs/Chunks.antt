@@ -3,6 +3,7 @@ use Rattle.std.specs.Prelude.{◌≡◌, ◌<◌, ◌≤◌, ◌^◌, ℕ, suc, 
 use Rattle.std.specs.List.{flat_map, remove}
 use Rattle.std.specs.FinMap.{is_sorted}
 use Rattle.judy_model.specs.Keys.{word_order}
+use Rattle.judy_sums.specs.Groups.{AreGroups}
 use Rattle.judy_sums.specs.Pairs.{Pairs, sum_of}
 
 -- A chunk begins at the word or below it; one without pairs does so by any.
@@ -47,6 +48,11 @@ joined chunks = flat_map (λ chunk. chunk) chunks
 -- The sum of each chunk.
 abbrev pub totals_of : List Pairs → List ℕ
 totals_of chunks = map sum_of chunks
+
+-- What stands beside chunks: the sum of each, and the sums of groups of these.
+pub record AreTotals (chunks : List Pairs) (totals groups : List ℕ) : Type 0 where
+  pub each : totals ≡ totals_of chunks
+  pub grouped : AreGroups totals groups
 
 -- The chunks with another in the place of one, or without it where the other has no pair.
 abbrev pub with_left : List Pairs → ℕ → Pairs → List Pairs

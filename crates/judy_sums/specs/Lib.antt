@@ -1,4 +1,5 @@
 pub mod Pairs
+pub mod Groups
 pub mod Chunks
 pub mod Levels
 pub mod Laws

@@ -17,6 +17,8 @@ use std::mem::size_of;
 #[derive(Drop)]
 pub struct LevelSums {
     lists: Vec<Option<Sums>>,
+    // How many times a list was missed, less those for which one was due.
+    missed: u64,
 }
 
 impl Model for LevelSums {
@@ -71,6 +73,7 @@ impl LevelSums {
     {
         LevelSums {
             lists: Vec::new(alloc),
+            missed: 0,
         }
     }
 
@@ -82,6 +85,19 @@ impl LevelSums {
             Some(Some(list)) => Some(list),
             _ => None,
         }
+    }
+
+    /// Counts that an index misses its list, and answers whether one is due, since lists were missed so many times by
+    /// now; these then count no more. So a list that is made again is paid for by as many calls. All lists stay.
+    pub fn miss(&mut self, times: u64) -> bool
+        ensures { self.new ≡ self.old }
+    {
+        self.missed = self.missed.saturating_add(1);
+        if self.missed < times {
+            return false;
+        }
+        self.missed -= times;
+        true
     }
 
     /// How many bytes of memory the row has asked for: those of its places and of the lists. It goes over all lists.

@@ -5,9 +5,9 @@
 //! is refused. A [`LevelSums`] has lists under indices. The crate stands on judy_model alone.
 //!
 //! sums.rt has the list and its calls, level_sums.rt lists under indices, row.rt a list's chunks with their sums,
-//! chunks.rt where a word belongs among them, chunk.rt one of them, and entry.rt a word with its number. comings.rt has
-//! how words come in, steps.rt one more and one less at a word, changes.rt what changes at a place, and laws.rt laws of
-//! counts over a level of an array of strings.
+//! groups.rt these sums and those of groups of them, chunks.rt where a word belongs, chunk.rt one chunk, and entry.rt a
+//! word with its number. comings.rt has how words come in, steps.rt one more and one less at a word, changes.rt what
+//! changes at a place, and laws.rt laws of counts over a level of an array of strings.
 #![tactic(auto)]
 
 mod changes;
@@ -15,6 +15,7 @@ mod chunk;
 mod chunks;
 mod comings;
 mod entry;
+mod groups;
 pub mod laws;
 mod level_sums;
 mod row;

@@ -1,6 +1,7 @@
 //! The chunks of a list in a row, with the sum of each one's numbers.
 //!
-//! The sums stand side by side, so that those of the chunks before a place are added up over few lines of memory.
+//! The sums stand side by side, with those of groups of them, so that those of the chunks before a place are added up
+//! over few lines of memory.
 
 ghost use Rattle.std.specs.Prelude.{◌≡◌, ◌<◌, ◌≤◌, ◌+◌, ◌-◌, ◌/◌, ◌^◌, ◌∷◌, [], length, take, drop, get_or, slice_set, OnOk, OnErr};
 ghost use Rattle.std.specs.List.{insert, remove, sum_by};
@@ -10,6 +11,7 @@ ghost use Rattle.judy_sums.specs.Chunks.{joined, pair_at, with_left};
 use crate::chunk::Chunk;
 use crate::chunks::Spot;
 use crate::entry::Entry;
+use crate::groups::{add, put_in, subtract, sum_before, take_out};
 use std::alloc::{AllocError, Global};
 use std::marker::Model;
 use std::mem::size_of;
@@ -19,30 +21,20 @@ use std::mem::size_of;
 pub struct Chunks {
     list: Vec<Chunk>,
     totals: Vec<u64>,
+    groups: Vec<u64>,
 }
 
 impl Model for Chunks {
-    ghost use Rattle.std.specs.Prelude.{◌≡◌, List};
+    ghost use Rattle.std.specs.Prelude.{List};
     ghost use Rattle.judy_sums.specs.Pairs.{Pairs};
-    ghost use Rattle.judy_sums.specs.Chunks.{totals_of};
+    ghost use Rattle.judy_sums.specs.Chunks.{AreTotals};
 
     ghost Value = { List Pairs };
 
     ghost view = { λ chunks. chunks.list.items };
 
-    ghost invariant = { λ chunks. chunks.totals.items ≡ totals_of chunks.list.items };
-}
-
-// The sum of some totals.
-fn sum(totals: &[u64]) -> u64
-    requires { sum_by (λ total. total) totals.now < 2 ^ 64 }
-    ensures { result ≡ sum_by (λ total. total) totals.now }
-{
-    let mut sum = 0;
-    for total in totals {
-        sum += *total;
-    }
-    sum
+    ghost invariant = { λ chunks.
+        AreTotals chunks.list.items chunks.totals.items chunks.groups.items };
 }
 
 impl Chunks {
@@ -53,14 +45,15 @@ impl Chunks {
         Chunks {
             list: Vec::new(alloc),
             totals: Vec::new(alloc),
+            groups: Vec::new(alloc),
         }
     }
 
     // How many bytes of memory they have asked for. It goes over the chunks.
     pub fn bytes(&self) -> u64 {
         let places = (self.list.capacity() as u64).wrapping_mul(size_of::<Chunk>() as u64);
-        let sums = (self.totals.capacity() as u64).wrapping_mul(size_of::<u64>() as u64);
-        let mut total = places.wrapping_add(sums);
+        let sums = (self.totals.capacity() as u64).wrapping_add(self.groups.capacity() as u64);
+        let mut total = places.wrapping_add(sums.wrapping_mul(size_of::<u64>() as u64));
         for chunk in &self.list {
             total = total.wrapping_add(chunk.bytes());
         }
@@ -80,7 +73,7 @@ impl Chunks {
         requires fits { sum_of (joined self.now) < 2 ^ 64 }
         ensures { result ≡ sum_of (joined (take at self.now)) }
     {
-        sum(&self.totals[..at])
+        sum_before(&self.totals, &self.groups, at)
     }
 
     // The chunk of one entry comes in as the first. The error is want of memory, and nothing is in then.
@@ -90,12 +83,11 @@ impl Chunks {
         ensures unchanged { OnErr result (self.new ≡ []) }
     {
         self.totals.reserve(1)?;
+        self.groups.reserve(1)?;
         let total = entry.number();
         let chunk = Chunk::of(*self.list.allocator(), entry)?;
         self.list.push(chunk)?;
-        let Ok(()) = self.totals.push(total) else {
-            unreachable!()
-        };
+        put_in(&mut self.totals, &mut self.groups, 0, total);
         Ok(())
     }
 
@@ -103,13 +95,13 @@ impl Chunks {
     pub fn raise(&mut self, spot: Spot)
         requires chunk { spot.chunk < length self.old }
         requires place { spot.at < length (get_or self.old spot.chunk []) }
-        requires fits { sum_of (get_or self.old spot.chunk []) + 1 < 2 ^ 64 }
+        requires fits { sum_of (joined self.old) + 1 < 2 ^ 64 }
         ensures { let pair = pair_at self.old spot.chunk spot.at in
             self.new ≡ slice_set self.old spot.chunk
             (slice_set (get_or self.old spot.chunk []) spot.at (pair.0, pair.1 + 1)) }
     {
         self.list[spot.chunk].raise(spot.at);
-        self.totals[spot.chunk] += 1;
+        add(&mut self.totals, &mut self.groups, spot.chunk, 1);
     }
 
     // Takes one from the number at a place.
@@ -122,21 +114,21 @@ impl Chunks {
             (slice_set (get_or self.old spot.chunk []) spot.at (pair.0, pair.1 - 1)) }
     {
         self.list[spot.chunk].lower(spot.at);
-        self.totals[spot.chunk] -= 1;
+        subtract(&mut self.totals, &mut self.groups, spot.chunk, 1);
     }
 
     // Puts an entry in at a place. The error is want of memory.
     pub fn insert(&mut self, spot: Spot, entry: Entry) -> Result<(), AllocError>
         requires chunk { spot.chunk < length self.old }
         requires place { spot.at ≤ length (get_or self.old spot.chunk []) }
-        requires fits { sum_of (get_or self.old spot.chunk []) + entry.1 < 2 ^ 64 }
+        requires fits { sum_of (joined self.old) + entry.1 < 2 ^ 64 }
         ensures inserted { OnOk result (self.new ≡ slice_set self.old spot.chunk
             (insert (get_or self.old spot.chunk []) spot.at entry)) }
         ensures unchanged { OnErr result (self.new ≡ self.old) }
     {
         let number = entry.number();
         self.list[spot.chunk].insert(spot.at, entry)?;
-        self.totals[spot.chunk] += number;
+        add(&mut self.totals, &mut self.groups, spot.chunk, number);
         Ok(())
     }
 
@@ -144,22 +136,24 @@ impl Chunks {
     pub fn remove(&mut self, spot: Spot)
         requires chunk { spot.chunk < length self.old }
         requires place { spot.at < length (get_or self.old spot.chunk []) }
+        requires fits { sum_of (joined self.old) < 2 ^ 64 }
         ensures { self.new ≡ with_left self.old spot.chunk
             (remove (get_or self.old spot.chunk []) spot.at) }
     {
         let chunk = &mut self.list[spot.chunk];
         let number = chunk.remove(spot.at);
         let left = chunk.len();
-        self.totals[spot.chunk] -= number;
+        subtract(&mut self.totals, &mut self.groups, spot.chunk, number);
         if left == 0 {
             self.list.remove(spot.chunk);
-            self.totals.remove(spot.chunk);
+            take_out(&mut self.totals, &mut self.groups, spot.chunk);
         }
     }
+
     // Parts a chunk into its two halves. The error is want of memory, and nothing is parted then.
     pub fn part(&mut self, at: usize) -> Result<(), AllocError>
         requires within { at < length self.old }
-        requires fits { sum_of (get_or self.old at []) < 2 ^ 64 }
+        requires fits { sum_of (joined self.old) < 2 ^ 64 }
         ensures parted { let chunk = get_or self.old at [] in let half = length chunk / 2 in
             OnOk result (self.new ≡ insert
             (slice_set self.old at (take half chunk)) (at + 1) (drop half chunk)) }
@@ -167,15 +161,14 @@ impl Chunks {
     {
         self.list.reserve(1)?;
         self.totals.reserve(1)?;
+        self.groups.reserve(1)?;
         let upper = self.list[at].cut_half()?;
         let total = upper.total();
-        self.totals[at] -= total;
         let Ok(()) = self.list.insert(at + 1, upper) else {
             unreachable!()
         };
-        let Ok(()) = self.totals.insert(at + 1, total) else {
-            unreachable!()
-        };
+        subtract(&mut self.totals, &mut self.groups, at, total);
+        put_in(&mut self.totals, &mut self.groups, at + 1, total);
         Ok(())
     }
 }

@@ -1,18 +1,11 @@
-use Rattle.std.proofs.Common.{[], get_or, insert, refl, ap, ◌∙◌, subst, sym, arith}
+use Rattle.std.proofs.Common.{[], get_or, insert, refl, ap, ◌∙◌, subst, sym}
 use Rattle.judy_sums.specs.Chunks.{AreChunks, joined}
-use Rattle.judy_sums.proofs.ChunkLemmas.{sum_within}
 use Rattle.judy_sums.proofs.RowLemmas.{lent_self}
 use Rattle.judy_sums.proofs.SpotLemmas.{put_is_new, put_are_new}
 use Rattle.judy_sums.proofs.changes.insert.Goals as goal
 
 pub insert-requires-clause-place : goal.insert-requires-clause-place
 insert-requires-clause-place c = c.requires.place.place.within
-
-pub insert-requires-clause-fits : goal.insert-requires-clause-fits
-insert-requires-clause-fits c =
-    let most = sum_within c.args.chunks.now c.args.spot.chunk c.requires.place.belongs.within in
-    let fits = c.requires.fits in
-    omega arith
 
 pub returns-clause-are : goal.returns-clause-are
 returns-clause-are c =

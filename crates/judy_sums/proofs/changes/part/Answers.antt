@@ -1,15 +1,9 @@
 use Rattle.std.proofs.Common.{[], ◌/◌, List, refl, ap, arith, length, get_or, take, drop, sym, subst, ◌∙◌}
 use Rattle.judy_sums.specs.Pairs.{Pairs}
 use Rattle.judy_sums.specs.Chunks.{AreChunks, joined}
-use Rattle.judy_sums.proofs.ChunkLemmas.{sum_within, parted_all, parted_joined, parted_are}
+use Rattle.judy_sums.proofs.ChunkLemmas.{parted_all, parted_joined, parted_are}
 use Rattle.judy_sums.proofs.RowLemmas.{lent_self}
 use Rattle.judy_sums.proofs.changes.part.Goals as goal
-
-pub part-requires-clause-fits : goal.part-requires-clause-fits
-part-requires-clause-fits c =
-    let most = sum_within c.args.chunks.now c.args.at c.requires.within in
-    let fits = c.requires.are.fits in
-    omega arith
 
 pub returns-clause-are : goal.returns-clause-are
 returns-clause-are c =

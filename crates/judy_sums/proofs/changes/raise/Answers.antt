@@ -1,15 +1,8 @@
 use Rattle.std.proofs.Common.{[], ◌+◌, get_or, set, refl, ap, ◌∙◌, subst, sym, arith}
 use Rattle.judy_sums.specs.Chunks.{AreChunks, joined, pair_at}
-use Rattle.judy_sums.proofs.ChunkLemmas.{sum_within}
 use Rattle.judy_sums.proofs.RowLemmas.{lent_self}
 use Rattle.judy_sums.proofs.SpotLemmas.{changed_is, changed_are}
 use Rattle.judy_sums.proofs.changes.raise.Goals as goal
-
-pub raise-requires-clause-fits : goal.raise-requires-clause-fits
-raise-requires-clause-fits c =
-    let most = sum_within c.args.chunks.now c.args.spot.chunk c.requires.chunk in
-    let fits = c.requires.fits in
-    omega arith
 
 pub returns-clause-are : goal.returns-clause-are
 returns-clause-are c =
