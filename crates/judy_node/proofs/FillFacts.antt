@@ -6,10 +6,14 @@ use Rattle.std.proofs.lemmas.List.{append_assoc}
 use Rattle.std.proofs.lemmas.Option.{same_Some, slice_get-get_or}
 use Rattle.judy_model.specs.WordBytes.{number_of}
 use Rattle.judy_model.proofs.lemmas.orders.ByteLemmas.{number_of-lt, unit_pos}
+use Rattle.judy_bits.specs.ByteSets.{rank, next_from}
+use Rattle.judy_bits.proofs.SetLemmas.{next_from-rank}
 use Rattle.judy_leaf.specs.KeyLists.{shift}
+use Rattle.judy_leaf.proofs.NextKeys.{rank_behind}
 use Rattle.judy_node.specs.Trees.{Pairs, Tree, join, IsChild, AreChildren, IsBranch}
 use Rattle.judy_node.specs.Populations.{population}
 use Rattle.judy_node.proofs.Maps.{children-length}
+use Rattle.judy_node.proofs.StepFacts.{children-IsByteSet}
 use Rattle.judy_node.proofs.Counts.{population-within, branch_population}
 
 child_at : (words width low : ℕ) (bytes : List ℕ) (kids : List Tree) (at : ℕ) (kid : Tree) → AreChildren words width low bytes kids → at < length kids →
@@ -19,6 +23,17 @@ child_at words width low [] (k ∷ kids) at kid are inside is = absurd are
 child_at words width low (byte ∷ bytes) [] at kid are inside is = absurd are
 child_at words width low (byte ∷ bytes) (k ∷ kids) zero kid are inside is = (are.1, subst (IsChild words width) (sym is) are.2)
 child_at words width low (byte ∷ bytes) (k ∷ kids) (suc at) kid are inside is = child_at words width (byte + 1) bytes kids at kid are.3 (omega arith) is
+
+-- One child's byte is below another's, and so not the greatest.
+byte_before : (words width low : ℕ) (bytes : List ℕ) (kids : List Tree) (at : ℕ) → AreChildren words width low bytes kids → suc at < length kids → get_or bytes at 0 < 255
+byte_before words width low [] [] at are more = let never : ⊥ = omega arith in absurd never
+byte_before words width low [] (k ∷ kids) at are more = absurd are
+byte_before words width low (byte ∷ bytes) [] at are more = absurd are
+byte_before words width low (byte ∷ []) (k ∷ []) zero are more = let never : ⊥ = omega arith in absurd never
+byte_before words width low (byte ∷ []) (k ∷ l ∷ kids) zero are more = absurd are.3
+byte_before words width low (byte ∷ next ∷ bytes) (k ∷ []) zero are more = absurd are.3
+byte_before words width low (byte ∷ next ∷ bytes) (k ∷ l ∷ kids) zero are more = omega (arith, are.3.0, are.3.1)
+byte_before words width low (byte ∷ bytes) (k ∷ kids) (suc at) are more = byte_before words width (byte + 1) bytes kids at are.3 (omega arith)
 
 join_more : (words width low unit block : ℕ) (bytes : List ℕ) (kids : List Tree) (at : ℕ) (kid : Tree) → AreChildren words width low bytes kids → at < length kids → kid ≡ get_or kids at kid
     → join unit block (take (suc at) bytes) (take (suc at) kids) ≡ join unit block (take at bytes) (take at kids) ++ shift ((block + get_or bytes at 0) * unit) kid.pairs
@@ -58,12 +73,18 @@ pub record IsKid (words width : ℕ) (skipped bytes : List ℕ) (kids : List Tre
   pub there : kid ≡ get_or kids at kid
   pub told : Some byte ≡ slice_get bytes at
 
--- It as it is read: the children are lent, and a call tells the byte.
-pub kid_here : {words width : ℕ} {skipped bytes : List ℕ} {kids lent : List Tree} {count at : ℕ} {kid : Tree} {byte : ℕ} {found : Option ℕ}
-    → IsBranch words width skipped bytes kids count → lent ≡ kids → at < length lent → kid ≡ get_or lent at kid → found ≡ Some byte → found ≡ slice_get bytes at →
-    IsKid words width skipped bytes lent count at kid byte
-kid_here {words} {width} {skipped} {bytes} {count = count} level same inside there is found =
-    record { level = subst (λ ks. IsBranch words width skipped bytes ks count) (sym same) level; inside = inside; there = there; told = sym is ∙ found }
+-- A search from behind the bytes of the children so far finds the next one's.
+pub next_told : {words width : ℕ} {skipped bytes : List ℕ} {kids : List Tree} {count at : ℕ} {found : Option ℕ} (from : ℕ)
+    → IsBranch words width skipped bytes kids count → rank bytes from ≡ at → found ≡ next_from bytes from → found ≡ slice_get bytes at
+next_told {words} {width} {bytes = bytes} {kids = kids} from level behind found =
+    found ∙ next_from-rank bytes (children-IsByteSet words width 0 bytes kids level.parts.children).ascending from ∙ ap (slice_get bytes) behind
+
+-- It as it is read: the children are lent, and a search tells the byte.
+pub kid_here : {words width : ℕ} {skipped bytes : List ℕ} {kids lent : List Tree} {count at : ℕ} {kid : Tree} {byte : ℕ} {found : Option ℕ} (from : ℕ)
+    → IsBranch words width skipped bytes kids count → lent ≡ kids → at < length lent → kid ≡ get_or lent at kid → (at < length lent → rank bytes from ≡ at) → found ≡ Some byte
+    → found ≡ next_from bytes from → IsKid words width skipped bytes lent count at kid byte
+kid_here {words} {width} {skipped} {bytes} {count = count} from level same inside there behind is found =
+    record { level = subst (λ ks. IsBranch words width skipped bytes ks count) (sym same) level; inside = inside; there = there; told = sym is ∙ next_told from level (behind inside) found }
 
 module _ {words width : ℕ} {skipped bytes : List ℕ} {kids : List Tree} {count at : ℕ} {kid : Tree} {byte : ℕ} (here : IsKid words width skipped bytes kids count at kid byte) where
   byte_is : byte ≡ get_or bytes at 0
@@ -84,6 +105,14 @@ module _ {words width : ℕ} {skipped bytes : List ℕ} {kids : List Tree} {coun
       let step : suc block * 256 ^ width ≡ block * 256 ^ width + 256 ^ width = ap (λ n. n * 256 ^ width) (let e : suc block ≡ block + 1 = omega arith in e) ∙
       add-mul block 1 (256 ^ width) ∙ (let e : block * 256 ^ width + 1 * 256 ^ width ≡ block * 256 ^ width + 256 ^ width = omega arith in e) in
       omega arith
+
+  -- The next child's byte is sought from behind this one's.
+  pub next_behind : (from : ℕ) → (byte < 255 → from ≡ byte + 1) → at + 1 < length kids → rank bytes from ≡ at + 1
+  next_behind from behind more =
+      let less = byte_before words width 0 bytes kids at here.level.parts.children (omega arith) in
+      let same = byte_is in
+      let set = children-IsByteSet words width 0 bytes kids here.level.parts.children in
+      ap (rank bytes) (behind (omega arith)) ∙ rank_behind bytes at byte set.ascending (sym here.told)
 
   pub kids_within : population (take at kids) + length kid.pairs ≤ count
   kids_within = let all = branch_population words width skipped bytes kids count here.level in let most = population-within kids at kid here.inside here.there in omega arith

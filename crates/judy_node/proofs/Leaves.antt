@@ -53,7 +53,8 @@ least_zero (key ∷ keys) = (omega arith, least_zero keys)
 -- ---- pairs of keys and values
 
 -- Keys with values are a map where they ascend, and where there are no values for keys that have none.
-pairs_map : (words top : ℕ) (keys values : List ℕ) → IsStrictlySortedBy word_order keys → AllByRecursion (λ key. key < top) keys → (words ≡ 0 → values ≡ []) → IsMap words 0 top (pairs_of keys values)
+pub pairs_map : (words top : ℕ) (keys values : List ℕ) → IsStrictlySortedBy word_order keys → AllByRecursion (λ key. key < top) keys → (words ≡ 0 → values ≡ [])
+    → IsMap words 0 top (pairs_of keys values)
 pairs_map words top keys values ascending below none =
     let are = keys_of-pairs_of keys values in
     map_from words 0 top (pairs_of keys values) (least_zero (keys_of (pairs_of keys values))) (subst (IsStrictlySortedBy word_order) (sym are) ascending)

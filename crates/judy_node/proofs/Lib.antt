@@ -11,6 +11,7 @@ pub mod Counts
 pub mod Groups
 pub mod ShapeFacts
 pub mod BuiltFacts
+pub mod BitFacts
 pub mod Behind
 pub mod MadeFacts
 pub mod SlotFacts
@@ -19,4 +20,3 @@ pub mod Loans
 pub mod RootFacts
 pub mod SumFacts
 pub mod PresentFacts
-pub mod NearestFacts

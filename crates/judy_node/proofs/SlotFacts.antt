@@ -142,7 +142,7 @@ place-there words low top at key pairs map found =
 -- ---- children
 
 -- A child's keys lie below those of a later byte, and above those of an earlier one.
-pub ends_before : (block byte later unit rest : ℕ) → byte < later → (block + byte) * unit + unit ≤ (block + later) * unit + rest
+ends_before : (block byte later unit rest : ℕ) → byte < later → (block + byte) * unit + unit ≤ (block + later) * unit + rest
 ends_before block byte later unit rest below =
     let one = add-mul (block + byte) 1 unit in
     let whole = mul-le (block + byte + 1) unit (block + later) unit (omega arith) (omega arith) in

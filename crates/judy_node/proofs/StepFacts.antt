@@ -1,5 +1,5 @@
 -- Where a key goes at a branch.
-use Rattle.std.proofs.Common.{◌≡◌, ℕ, zero, suc, ◌+◌, ◌-◌, ◌*◌, ◌/◌, ◌%◌, ◌^◌, ◌<◌, ◌≤◌, true, false, cond, IsFalse, List, [], ◌∷◌, length, Some, None, slice_get, get_or, Less}
+use Rattle.std.proofs.Common.{◌≡◌, ℕ, zero, suc, ◌+◌, ◌-◌, ◌*◌, ◌/◌, ◌%◌, ◌^◌, ◌<◌, ◌≤◌, true, false, cond, IsFalse, List, [], ◌∷◌, length, Some, None, slice_get, get_or, Less, is_lt}
 use Rattle.std.proofs.Common.{sym, refl, ap, ◌∙◌, subst, arith}
 use Rattle.std.proofs.Math.Nat.{add-mul, pow-le-pow_right}
 use Rattle.std.proofs.lemmas.Nat.{div-add-mod', mod_below, mul-le}
@@ -11,8 +11,11 @@ use Rattle.judy_model.specs.Keys.{IsByteString, word_order}
 use Rattle.judy_model.specs.WordBytes.{number_of}
 use Rattle.judy_model.proofs.lemmas.orders.ByteLemmas.{unit_pos, number_of-lt}
 use Rattle.judy_model.proofs.lemmas.orders.WordOrder.{less_word}
+use Rattle.judy_model.proofs.lemmas.maps.Ascending.{all_from_among}
+use Rattle.judy_model.proofs.lemmas.queries.Places.{filter_none}
 use Rattle.judy_bits.specs.ByteSets.{IsByteSet, place, has, rank}
 use Rattle.judy_bits.proofs.SetLaws.{place-nth}
+use Rattle.judy_bits.proofs.SetLemmas.{not_below}
 use Rattle.judy_node.specs.Trees.{Tree, AreChildren, IsBranch}
 use Rattle.judy_node.specs.Steps.{IsKeyOf}
 use Rattle.judy_node.proofs.Maps.{children-few, children-length}
@@ -41,6 +44,11 @@ children-IsByteString words width low (byte ∷ bytes) (kid ∷ kids) are = All-
 -- The bytes of children are a set.
 pub children-IsByteSet : (words width low : ℕ) (bytes : List ℕ) (kids : List Tree) → AreChildren words width low bytes kids → IsByteSet bytes
 children-IsByteSet words width low bytes kids are = record { ascending = children-ascend words width low bytes kids are; bytes = children-IsByteString words width low bytes kids are }
+
+-- No byte is below 0.
+pub rank_zero : (bytes : List ℕ) → rank bytes 0 ≡ 0
+rank_zero bytes =
+    ap length (filter_none (λ byte. is_lt (word_order byte 0)) bytes (all_from_among (λ byte. is_lt (word_order byte 0) ≡ false) bytes (λ byte here. not_below byte 0 (omega arith))))
 
 -- Where a child stands for each byte from one on, a byte is its place.
 every_byte : (words width low : ℕ) (bytes : List ℕ) (kids : List Tree) (at : ℕ) → AreChildren words width low bytes kids → low + length bytes ≡ 256 → at < length bytes →

@@ -10,5 +10,4 @@ pub mod Built
 pub mod ShapeSums
 pub mod Slots
 pub mod Seats
-pub mod Nearest
 pub mod Branches

@@ -51,10 +51,12 @@ fn fill_branch<V: Words + Drop>(
     let width = branch.width;
     let total = out.len();
     let mut at = 0;
+    let mut from = 0;
     for (place, child) in branch.children.iter().enumerate() {
-        let Some(byte) = branch.bytes.nth(place) else {
+        let Some(byte) = branch.bytes.next_from(from) else {
             unreachable!()
         };
+        from = byte.saturating_add(1);
         let start = moved_up(front + u64::from(byte), usize::from(width));
         let end = at + child.pop() as usize;
         prove!(end <= total);

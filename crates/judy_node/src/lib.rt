@@ -14,14 +14,16 @@
 //! the root, and view.rt what a node shows to those who enter it. branch.rt has what is asked of a branch, step.rt
 //! where a key goes there, populations.rt how many keys its children have, and sums.rt the same by sixteens, where all
 //! 256 stand. shape.rt, memory.rt, fill.rt and clone.rt go over a whole tree, build.rt makes the tight tree of sorted
-//! pairs, room.rt makes room for a child, seat.rt finds where a value stands, slot.rt lends its slot, and nearest.rt
-//! that of the nearest key. The parts for writing ([`KindOf`], [`RootOf`], [`BranchOf`], [`Sums`]) are for
-//! judy_change. Which nodes there are and how they lie is this project's own.
+//! pairs, bits.rt makes a set of bytes of a node whose keys have one byte, and a node of such a set, room.rt makes room
+//! for a child, seat.rt finds where a value stands, and slot.rt lends its slot. The parts for writing ([`KindOf`],
+//! [`RootOf`], [`BranchOf`], [`Sums`]) are for judy_change. Which nodes there are and how they lie is this project's
+//! own.
 //!
 //! The crate stands on judy_model, judy_bits, judy_block and judy_leaf; judy_query, judy_change and judy_word stand on
 //! it.
 #![tactic(auto)]
 
+mod bits;
 mod branch;
 mod build;
 mod bundle;
@@ -31,7 +33,6 @@ mod fill;
 mod head;
 pub mod laws;
 mod memory;
-mod nearest;
 mod node;
 mod populations;
 mod room;
@@ -42,6 +43,7 @@ mod step;
 mod sums;
 mod view;
 
+pub use bits::child_of_bits;
 pub use build::{
     child_of_sorted, immediate_of_one, immediate_of_sorted, kind_of_sorted, leaf_of_two,
     most_in_immediate,

@@ -67,7 +67,7 @@ impl<V: Words + Drop> BranchOf<V> {
 
     // The child at a place.
     #[inline(always)]
-    pub(crate) fn child_at(&mut self, at: usize) -> &mut ChildOf<V>
+    fn child_at(&mut self, at: usize) -> &mut ChildOf<V>
         requires { at < length self.old.children.items }
         ensures* changes { sem 𝓛
             (Lends (the_row V.row V.Words) (child V.row V.Words) self.entry result
@@ -217,7 +217,7 @@ impl<D: Depth> Depth for Above<D> {
 }
 
 // The depth of the branches whose keys have eight bytes.
-pub type Deepest = Above<Above<Above<Above<Above<Above<Bottom>>>>>>;
+type Deepest = Above<Above<Above<Above<Above<Above<Bottom>>>>>>;
 
 impl<V: Words + Drop> RootOf<V> {
     ghost use Rattle.std.specs.Borrow.{sem, LendsIf, u64 as word};

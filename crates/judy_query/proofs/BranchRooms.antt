@@ -22,7 +22,7 @@ use Rattle.judy_node.specs.Steps.{IsStep}
 use Rattle.judy_node.specs.declared.step.Step.{Step}
 use Rattle.judy_node.specs.declared.step.Step.TheVariants.{Missing, Below, Above}
 use Rattle.judy_node.proofs.Maps.{children-length, map-length}
-use Rattle.judy_node.proofs.StepFacts.{children-IsByteSet}
+use Rattle.judy_node.proofs.StepFacts.{children-IsByteSet, rank_zero}
 use Rattle.judy_query.specs.Parts.{IsBeside}
 use Rattle.judy_query.specs.Rooms.{IsRun, IsWindow, HasRoom}
 use Rattle.judy_query.proofs.Splits.{split-at, next_unit, units}
@@ -74,9 +74,6 @@ pub missing_first : (xs : List ℕ) (byte : ℕ) → IsStrictlySortedBy word_ord
 missing_first xs byte ascending none = false_from_ne_true (has xs byte) (λ held.
     let one = sym (up_to-rank xs byte) ∙ up_to-member xs ascending byte held in
     let never : ⊥ = omega arith in absurd never)
-
-pub rank_zero : (xs : List ℕ) → rank xs 0 ≡ 0
-rank_zero xs = ap length (filter_none (λ x. is_lt (word_order x 0)) xs (all_from_among (λ x. is_lt (word_order x 0) ≡ false) xs (λ x here. not_below x 0 (omega arith))))
 
 -- All bytes are below 256.
 pub rank_all : (words width : ℕ) (skipped bytes : List ℕ) (kids : List Tree) (count : ℕ) → IsBranch words width skipped bytes kids count → rank bytes 256 ≡ length bytes

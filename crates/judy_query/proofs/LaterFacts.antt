@@ -12,8 +12,9 @@ use Rattle.judy_node.specs.Trees.{Tree, IsBranch}
 use Rattle.judy_node.specs.Steps.{IsStep}
 use Rattle.judy_node.specs.declared.step.Step.{Step}
 use Rattle.judy_node.specs.declared.step.Step.TheVariants.{Child, Missing, Below, Above}
+use Rattle.judy_node.proofs.StepFacts.{rank_zero}
 use Rattle.judy_query.specs.Parts.{passed, reached, byte_passed, byte_behind}
-use Rattle.judy_query.proofs.BranchRooms.{rank_zero, rank_all, bytes_ascend, as_many}
+use Rattle.judy_query.proofs.BranchRooms.{rank_all, bytes_ascend, as_many}
 use Rattle.judy_leaf.proofs.NextKeys.{rank_behind}
 
 module _ (words width : ℕ) (skipped bytes : List ℕ) (kids : List Tree) (count : ℕ) (is : IsBranch words width skipped bytes kids count) where

@@ -11,8 +11,8 @@ use Rattle.judy_node.specs.Kinds.{tree_of}
 use Rattle.judy_node.specs.Populations.{population}
 use Rattle.judy_node.proofs.Maps.{length-shift, shift-shift, shift-append, children-length}
 use Rattle.judy_node.proofs.Counts.{population-step}
-use Rattle.judy_node.proofs.StepFacts.{block_fits}
-use Rattle.judy_node.proofs.FillFacts.{kid_here, kid_is, front_fits, start_word, word_below, kids_within, next_pairs, branch_long}
+use Rattle.judy_node.proofs.StepFacts.{block_fits, rank_zero}
+use Rattle.judy_node.proofs.FillFacts.{kid_here, next_told, next_behind, kid_is, front_fits, start_word, word_below, kids_within, next_pairs, branch_long}
 use Rattle.judy_node.proofs.+fill.Goals as goal
 
 pub child::ChildOf::fill-fill-requires-in-Bit-clause-room :
@@ -46,11 +46,12 @@ fill::fill_branch-unreachable-requires g t c =
     let long = children-length g.V.Words.WORDS branch.width 0 branch.bytes branch.children.items c.requires.level.parts.children in
     let same = ap length c.deref-child-items.ensures.value in
     let inside = c.loop-place-test.true in
-    c.in_default.not-Some (get_or branch.bytes c.loop-place.place 0) (c.nth.ensures ∙ slice_get-get_or branch.bytes c.loop-place.place 0 (omega arith))
+    c.in_default.not-Some (get_or branch.bytes c.loop-place.place 0)
+    (next_told c.loop-place.from c.requires.level (c.loop-place.invariant.2 inside) c.next_from.ensures ∙ slice_get-get_or branch.bytes c.loop-place.place 0 (omega arith))
 
 pub fill::fill_branch-overflow_add-front : goal.fill::fill_branch-overflow_add-front
 fill::fill_branch-overflow_add-front g t c =
-    let here = kid_here c.requires.level c.deref-child-items.ensures.value c.loop-place-test.true c.child-item.is c.in-Some.is c.nth.ensures in
+    let here = kid_here c.loop-place.from c.requires.level c.deref-child-items.ensures.value c.loop-place-test.true c.child-item.is c.loop-place.invariant.2 c.in-Some.is c.next_from.ensures in
     let front = front_fits here c.requires.level.parts.within in
     let same = c.number-front.ensures in
     let byte = c.from.ensures in
@@ -60,13 +61,13 @@ pub fill::fill_branch-moved_up-start-requires-clause-within :
     goal.fill::fill_branch-moved_up-start-requires-clause-within
 fill::fill_branch-moved_up-start-requires-clause-within g t c =
     let branch = c.args.branch.now in
-    let here = kid_here c.requires.level c.deref-child-items.ensures.value c.loop-place-test.true c.child-item.is c.in-Some.is c.nth.ensures in
+    let here = kid_here c.loop-place.from c.requires.level c.deref-child-items.ensures.value c.loop-place-test.true c.child-item.is c.loop-place.invariant.2 c.in-Some.is c.next_from.ensures in
     let word = start_word here c.args.base c.requires.fits in
     subst (λ n. n < 2 ^ 64) (sym (λ j. (c.number-front.ensures j * 256 + c.from.ensures j) * 256 ^ c.from-in-loop-place.ensures j)) (word_below c.args.base _ branch.width word)
 
 pub fill::fill_branch-overflow_add-end : goal.fill::fill_branch-overflow_add-end
 fill::fill_branch-overflow_add-end g t c =
-    let here = kid_here c.requires.level c.deref-child-items.ensures.value c.loop-place-test.true c.child-item.is c.in-Some.is c.nth.ensures in
+    let here = kid_here c.loop-place.from c.requires.level c.deref-child-items.ensures.value c.loop-place-test.true c.child-item.is c.loop-place.invariant.2 c.in-Some.is c.next_from.ensures in
     let within = kids_within here in
     let so_far = c.loop-place.invariant.0 in
     let count = c.pop.ensures in
@@ -76,7 +77,7 @@ fill::fill_branch-overflow_add-end g t c =
 pub fill::fill_branch-prove-unreachable-requires :
     goal.fill::fill_branch-prove-unreachable-requires
 fill::fill_branch-prove-unreachable-requires g t c =
-    let here = kid_here c.requires.level c.deref-child-items.ensures.value c.loop-place-test.true c.child-item.is c.in-Some.is c.nth.ensures in
+    let here = kid_here c.loop-place.from c.requires.level c.deref-child-items.ensures.value c.loop-place-test.true c.child-item.is c.loop-place.invariant.2 c.in-Some.is c.next_from.ensures in
     let within = kids_within here in
     let so_far = c.loop-place.invariant.0 in
     let count = c.pop.ensures in
@@ -87,7 +88,7 @@ fill::fill_branch-prove-unreachable-requires g t c =
 pub fill::fill_branch-overflow_add-base : goal.fill::fill_branch-overflow_add-base
 fill::fill_branch-overflow_add-base g t c =
     let branch = c.args.branch.now in
-    let here = kid_here c.requires.level c.deref-child-items.ensures.value c.loop-place-test.true c.child-item.is c.in-Some.is c.nth.ensures in
+    let here = kid_here c.loop-place.from c.requires.level c.deref-child-items.ensures.value c.loop-place-test.true c.child-item.is c.loop-place.invariant.2 c.in-Some.is c.next_from.ensures in
     let word = start_word here c.args.base c.requires.fits in
     let some = unit_pos branch.width in
     let start = c.moved_up-start.ensures ∙ (λ j. (c.number-front.ensures j * 256 + c.from.ensures j) * 256 ^ c.from-in-loop-place.ensures j) in
@@ -95,7 +96,7 @@ fill::fill_branch-overflow_add-base g t c =
 
 pub fill::fill_branch-fill-requires : goal.fill::fill_branch-fill-requires
 fill::fill_branch-fill-requires g t c κs within =
-    let here = kid_here c.requires.level c.deref-child-items.ensures.value c.loop-place-test.true c.child-item.is c.in-Some.is c.nth.ensures in
+    let here = kid_here c.loop-place.from c.requires.level c.deref-child-items.ensures.value c.loop-place-test.true c.child-item.is c.loop-place.invariant.2 c.in-Some.is c.next_from.ensures in
     let word = start_word here c.args.base c.requires.fits in
     let start = c.moved_up-start.ensures ∙ (λ j. (c.number-front.ensures j * 256 + c.from.ensures j) * 256 ^ c.from-in-loop-place.ensures j) in
     let falls = c.decreases in
@@ -108,11 +109,14 @@ fill::fill_branch-fill-requires g t c κs within =
     let part = length-take-le (c.loop-place.at + c.pop.result - c.loop-place.at) (drop c.loop-place.at c.loop-place.out) (omega arith) in
     (omega arith, (within, (omega arith, (kid_is here, (omega arith, omega arith)))))
 
+pub fill::fill_branch-loop-place-init : goal.fill::fill_branch-loop-place-init
+fill::fill_branch-loop-place-init g t c = (refl, refl, λ more. rank_zero c.args.branch.now.bytes)
+
 pub fill::fill_branch-loop-place-preserved : goal.fill::fill_branch-loop-place-preserved
 fill::fill_branch-loop-place-preserved g t c =
     let branch = c.args.branch.now in
     let kids = c.deref-child-items.result.now in
-    let here = kid_here c.requires.level c.deref-child-items.ensures.value c.loop-place-test.true c.child-item.is c.in-Some.is c.nth.ensures in
+    let here = kid_here c.loop-place.from c.requires.level c.deref-child-items.ensures.value c.loop-place-test.true c.child-item.is c.loop-place.invariant.2 c.in-Some.is c.next_from.ensures in
     let place = c.loop-place.place in
     let at = c.loop-place.at in
     let so_far = c.loop-place.invariant in
@@ -134,6 +138,7 @@ fill::fill_branch-loop-place-preserved g t c =
           ∙ sym (shift-append c.args.base (join (256 ^ branch.width) (number_of branch.skip * 256) (take place branch.bytes) (take place kids))
           (shift ((number_of branch.skip * 256 + c.in-Some.byte) * 256 ^ branch.width) c.child-item.result.pairs))
           ∙ ap (shift c.args.base) (next_pairs here (place + 1) refl),
+      λ more. next_behind here c.saturating_add-from.result (λ less. omega (arith, c.saturating_add-from.ensures)) more,
     )
 
 pub fill::fill_branch-returns : goal.fill::fill_branch-returns

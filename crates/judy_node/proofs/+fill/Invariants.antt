@@ -1,5 +1,6 @@
-use Rattle.std.proofs.Common.{◌≡◌, ◌+◌, ◌*◌, ◌^◌, take}
+use Rattle.std.proofs.Common.{◌≡◌, ◌+◌, ◌*◌, ◌^◌, ◌<◌, length, take}
 use Rattle.judy_model.specs.WordBytes.{number_of}
+use Rattle.judy_bits.specs.ByteSets.{rank}
 use Rattle.judy_leaf.specs.KeyLists.{shift}
 use Rattle.judy_node.specs.Trees.{join}
 use Rattle.judy_node.specs.Populations.{population}
@@ -15,3 +16,4 @@ abbrev pub invariant-fill::fill_branch-loop-place : goal.invariant-fill::fill_br
 invariant-fill::fill_branch-loop-place g l =
     (l.at ≡ population (take l.place l.child-items))
     × (take l.at l.out ≡ shift l.base (join (256 ^ l.width) (number_of l.branch.skip * 256) (take l.place l.branch.bytes) (take l.place l.child-items)))
+    × (l.place < length l.child-items → rank l.branch.bytes l.from ≡ l.place)

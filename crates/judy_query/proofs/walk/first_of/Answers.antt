@@ -5,9 +5,10 @@ use Rattle.judy_bits.specs.ByteSets.{rank}
 use Rattle.judy_leaf.specs.KeyLists.{shift}
 use Rattle.judy_node.specs.Views.{view_pairs}
 use Rattle.judy_node.proofs.Maps.{length-shift}
+use Rattle.judy_node.proofs.StepFacts.{rank_zero}
 use Rattle.judy_query.specs.Parts.{IsStart, width_of}
 use Rattle.judy_query.specs.Walks.{waiting}
-use Rattle.judy_query.proofs.BranchRooms.{bytes_ascend, rank_zero}
+use Rattle.judy_query.proofs.BranchRooms.{bytes_ascend}
 use Rattle.judy_leaf.proofs.NextKeys.{rank_behind}
 use Rattle.judy_query.proofs.Downs.{start_room}
 use Rattle.judy_query.proofs.WalkFacts.{IsWalked, first_inside, entered_of, entered_width, walked_child}

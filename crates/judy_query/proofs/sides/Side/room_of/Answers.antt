@@ -4,10 +4,11 @@ use Rattle.judy_model.proofs.lemmas.orders.ByteLemmas.{unit_pos, number_of-lt}
 use Rattle.judy_leaf.specs.KeyLists.{shift}
 use Rattle.judy_node.specs.Trees.{branch_pairs}
 use Rattle.judy_node.specs.declared.step.Step.TheVariants.{Below, Above}
+use Rattle.judy_node.proofs.StepFacts.{rank_zero}
 use Rattle.judy_query.specs.Rooms.{IsFirstAbsent, IsLastAbsent, IsRoomUpTo}
 use Rattle.judy_query.proofs.Blocks.{block_word}
 use Rattle.judy_query.proofs.Runs.{run-none}
-use Rattle.judy_query.proofs.BranchRooms.{rank_zero, rank_all, as_many, least_top, words_behind, none_behind, raised_beside}
+use Rattle.judy_query.proofs.BranchRooms.{rank_all, as_many, least_top, words_behind, none_behind, raised_beside}
 use Rattle.judy_query.proofs.SideRooms.{room_told}
 use Rattle.judy_query.proofs.sides.Side.room_of.Goals as goal
 
