@@ -1,9 +1,7 @@
 -- Keys that are found with their values.
 use Rattle.std.proofs.Common.{◌≡◌, ℕ, zero, suc, ◌+◌, ◌≤◌, ◌^◌, Bool, true, false, cond, [], ◌∷◌, slice_get, find, reverse, Option, Some, None, IfSome, refl, sym, ap, ◌∙◌, subst, arith}
-use Rattle.std.specs.FinMap.{FinMap, get}
+use Rattle.std.specs.FinMap.{get}
 use Rattle.std.specs.Option.{option_or, option_map}
-use Rattle.std.specs.Prelude.{option_and_then}
-use Rattle.judy_model.specs.Keys.{word_order}
 use Rattle.std.proofs.lemmas.Option.{same_Some}
 use Rattle.judy_model.proofs.lemmas.maps.Ascending.{find_last, find-reverse}
 use Rattle.judy_node.specs.Trees.{Pairs, IsMap}
@@ -77,13 +75,3 @@ key_alone was is = sym (ap (option_map (λ pair. pair.0)) was) ∙ is
 
 pub key_none : {found : Option (ℕ × ℕ)} {sought result : Option ℕ} → found ≡ None → option_map (λ pair. pair.0) found ≡ sought → result ≡ None → result ≡ sought
 key_none was is none = none ∙ sym (ap (option_map (λ pair. pair.0)) was) ∙ is
-
--- The value of a pair that was found is that of its key.
-pub value_alone : (map : FinMap word_order ℕ) (result : Option (ℕ × ℕ)) {sought : Option ℕ} → IfSome result (λ entry. get map entry.0 ≡ Some entry.1)
-    → sought ≡ option_map (λ pair. pair.0) result → option_map (λ pair. pair.1) result ≡ option_and_then (get map) sought
-value_alone map result holds is = there result holds ∙ ap (option_and_then (get map)) (sym is)
-  where
-    there : (pair : Option (ℕ × ℕ)) → IfSome pair (λ entry. get map entry.0 ≡ Some entry.1)
-        → option_map (λ entry. entry.1) pair ≡ option_and_then (get map) (option_map (λ entry. entry.0) pair)
-    there None holds = refl
-    there (Some entry) holds = sym holds

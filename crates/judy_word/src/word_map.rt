@@ -111,6 +111,15 @@ impl WordMap {
         self.array.del(i)
     }
 
+    /// Takes a key out, and answers the value that it had; `None` where it was absent, and then nothing changes.
+    pub fn remove(&mut self, i: u64) -> Option<u64>
+        ensures answer { result ≡ map.get self.old.map i }
+        ensures removed { self.new ≡ array.with_map self.old (array.del self.old.map i) }
+        ensures absent { result ≡ None → self.new ≡ self.old }
+    {
+        self.array.remove(i)
+    }
+
     /// How many keys there are.
     pub fn len(&self) -> u64
         ensures count { result ≡ map.len self.now.map }
@@ -124,6 +133,16 @@ impl WordMap {
         ensures { IsTrue result ↔ (self.now.map ≡ map.empty) }
     {
         self.array.is_empty()
+    }
+
+    /// Puts a copy in the map's place, whose nodes take no more memory than the keys need. Where there is no memory for
+    /// it, the map stays as it is.
+    pub fn shrink(&mut self)
+        ensures { self.new ≡ self.old }
+    {
+        if let Ok(copy) = self.array.try_clone() {
+            self.array = copy;
+        }
     }
 
     /// A law of every map: its limit, keys and values are words. It reads each key and value.

@@ -1,9 +1,8 @@
 //! Slots: where a value is read and written.
 
-ghost use Rattle.std.specs.Prelude.{◌≡◌, Some, IsTrue, unwrap_or, option_and_then};
+ghost use Rattle.std.specs.Prelude.{◌≡◌, Some, IsTrue};
 ghost use Rattle.std.specs.FinMap as map;
 ghost use Rattle.std.specs.Option.{option_copied_mut};
-ghost use Rattle.judy_model.specs.Neighbours as neighbours;
 ghost use Rattle.judy_word.specs.Held.{map_in, IsHeld};
 
 use crate::tree_array::TreeArray;
@@ -43,44 +42,5 @@ impl<V: Words + Drop> TreeArray<V> {
     {
         self.root.law();
         self.root.slot_of(key)
-    }
-
-    /// Lends the value of the least key that isn't below a word, in one way down the tree; `key` becomes that key.
-    /// `None` where there is none, and then `key` stays. Else as `slot`.
-    #[inline(always)]
-    pub(crate) fn first_slot(&mut self, from: u64, key: &mut u64) -> Option<&mut u64>
-        requires words { V.WORDS ≡ 1 }
-        ensures* changes { sem 𝓛
-            (LendsIf (the_row V.row V.Words) word self.entry result
-            (with_value self.entry.now key.new) self.entry.now) }
-        ensures key { key.new ≡ unwrap_or (neighbours.first (map_in self.old) from) key.old }
-        ensures value { option_copied_mut result
-            ≡ option_and_then (map.get (map_in self.old))
-            (neighbours.first (map_in self.old) from) }
-        ensures held { IsHeld V.WORDS self.old }
-    {
-        self.root.law();
-        self.root.slot_from(from, key)
-    }
-
-    /// The same of the least key above it.
-    #[inline(always)]
-    pub(crate) fn next_slot(&mut self, from: u64, key: &mut u64) -> Option<&mut u64>
-        requires words { V.WORDS ≡ 1 }
-        ensures* changes { sem 𝓛
-            (LendsIf (the_row V.row V.Words) word self.entry result
-            (with_value self.entry.now key.new) self.entry.now) }
-        ensures key { key.new ≡ unwrap_or (neighbours.next (map_in self.old) from) key.old }
-        ensures value { option_copied_mut result
-            ≡ option_and_then (map.get (map_in self.old))
-            (neighbours.next (map_in self.old) from) }
-        ensures held { IsHeld V.WORDS self.old }
-    {
-        self.law();
-        if from == u64::MAX {
-            None
-        } else {
-            self.first_slot(from + 1, key)
-        }
     }
 }

@@ -27,7 +27,7 @@ impl JudyL {
         ensures value { option_copied_mut result
             ≡ option_and_then (map.get self.old.map) (neighbours.first self.old.map i) }
     {
-        self.tree.first_slot(i, key)
+        slot_found!(self, first_entry(i), key)
     }
 
     /// The slot of the least key above `i`; `key` becomes that key. `None` where no key is above it, and then `key`
@@ -38,7 +38,7 @@ impl JudyL {
         ensures value { option_copied_mut result
             ≡ option_and_then (map.get self.old.map) (neighbours.next self.old.map i) }
     {
-        self.tree.next_slot(i, key)
+        slot_found!(self, next_entry(i), key)
     }
 
     /// The slot of the greatest key up to `i`; `key` becomes that key. `None` where each key is above it, and then
