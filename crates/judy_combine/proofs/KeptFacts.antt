@@ -6,7 +6,7 @@ use Rattle.std.proofs.lemmas.Bool.{cases_lt}
 use Rattle.std.proofs.lemmas.Option.{same_Some, slice_get_within}
 use Rattle.std.specs.Option.{option_or}
 use Rattle.std.specs.List.Sorted.{IsStrictlySortedBy}
-use Rattle.judy_model.specs.Forms.{Form, branch, loose_in}
+use Rattle.judy_model.specs.Forms.{branch, loose_in}
 use Rattle.judy_model.specs.Keys.{word_order}
 use Rattle.judy_model.proofs.lemmas.forms.FormLemmas.{loose_in-append}
 use Rattle.judy_model.specs.Shapes.{AllBelow}
@@ -16,7 +16,7 @@ use Rattle.judy_bits.proofs.SetLemmas.{slice_get-rank}
 use Rattle.judy_leaf.specs.KeyLists.{shift}
 use Rattle.judy_node.specs.Trees.{Tree, IsTight, IsMap, IsBranch, IsChild, AreChildren, join, forms_in, branch_pairs}
 use Rattle.judy_node.specs.Populations.{population}
-use Rattle.judy_node.specs.Views.{IsView, IsPlace, view_pairs, view_form}
+use Rattle.judy_node.specs.Views.{IsView, IsPlace, view_form}
 use Rattle.judy_node.specs.declared.child.BranchOf.{BranchOf}
 use Rattle.judy_node.specs.declared.step.Step.TheVariants.{Missing}
 use Rattle.judy_node.specs.declared.view.ViewOf.{ViewOf}
@@ -30,8 +30,8 @@ use Rattle.judy_query.proofs.Downs.{child_part, gap_part, blocks_within}
 use Rattle.judy_query.proofs.Finds.{later, value-above, value-shift, part-value}
 use Rattle.judy_query.proofs.Splits.{next_unit, units}
 use Rattle.judy_combine.specs.declared.keep.Keep.{Keep}
-use Rattle.judy_combine.specs.Merges.{Pairs, taken, pick}
-use Rattle.judy_combine.specs.Kept.{AreKept, IsKept, IsKeptAt, AreKeptTo, IsCountable, IsBelowTight, AreLevel, pairs_of, width_of}
+use Rattle.judy_combine.specs.Merges.{Pairs, pick}
+use Rattle.judy_combine.specs.Kept.{AreKept, IsKept, IsKeptAt, AreKeptTo, IsCountable, IsBelowTight, AreLevel, IsGap, pairs_of, width_of}
 use Rattle.judy_combine.proofs.Ends.{only_left, only_right, or_none}
 use Rattle.judy_combine.proofs.Finds.{find-join}
 
@@ -210,6 +210,22 @@ module _ (words width block : ℕ) (keep : Keep) (one other : Pairs) where
               ∙ (λ t. pick keep (value_of one (sym same t)) (value_of other (sym same t))));
         }
 
+  -- Bytes for which nothing is kept are passed.
+  pub kept_past : (bytes : List ℕ) (kids : List Tree) (from many : ℕ) → from + many ≤ 256
+      → ((byte : ℕ) → from ≤ byte → byte < from + many → IsKeptAt words width block keep one other byte None)
+      → AreKeptTo words width block keep one other bytes kids from → AreKeptTo words width block keep one other bytes kids (from + many)
+  kept_past bytes kids from zero inside none is = subst (AreKeptTo words width block keep one other bytes kids) (let e : from ≡ from + zero = omega arith in e) is
+  kept_past bytes kids from (suc many) inside none is =
+      subst (AreKeptTo words width block keep one other bytes kids) (let e : from + many + 1 ≡ from + suc many = omega arith in e)
+      (kept_skip bytes kids (from + many) (omega arith) (kept_past bytes kids from many (omega arith) (λ byte above before. none byte above (omega arith)) is)
+      (none (from + many) (omega arith) (omega arith)))
+
+  pub kept_as : {bytes other_bytes : List ℕ} {kids other_kids : List Tree} {next other_next : ℕ} → other_bytes ≡ bytes → other_kids ≡ kids → next ≡ other_next
+      → AreKeptTo words width block keep one other bytes kids next → AreKeptTo words width block keep one other other_bytes other_kids other_next
+  kept_as {bytes} {other_bytes} {kids} {other_kids} {next} {other_next} same same_kids same_next is =
+      subst (λ bs. AreKeptTo words width block keep one other bs other_kids other_next) (sym same)
+      (subst (λ ks. AreKeptTo words width block keep one other bytes ks other_next) (sym same_kids) (subst (AreKeptTo words width block keep one other bytes kids) same_next is))
+
   -- Behind the last byte nothing stands.
   pub kept_all : (bytes : List ℕ) (kids : List Tree) → IsMap words ((block + 0) * 256 ^ width) ((block + 256) * 256 ^ width) one
       → IsMap words ((block + 0) * 256 ^ width) ((block + 256) * 256 ^ width) other → AreKeptTo words width block keep one other bytes kids 256
@@ -315,6 +331,23 @@ module _ {V : _} (words : ℕ) (keep : Keep) (one other : BranchOf V) (below : I
       (join-map words one.width 0 (number_of one.skip * 256) one.bytes one.children.items (omega arith) below.level.parts.children)
       (other_as words one.width other.width (number_of one.skip) (number_of other.skip) (pairs_of other) level.width level.number
       (join-map words other.width 0 (number_of other.skip * 256) other.bytes other.children.items (omega arith) other_below.level.parts.children))
+
+  -- Nothing is kept for a byte for which neither has a child.
+  pub kept_nowhere : (byte : ℕ) → byte < 256 → has one.bytes byte ≡ false → has other.bytes byte ≡ false
+      → IsKeptAt words one.width (number_of one.skip * 256) keep (pairs_of one) (pairs_of other) byte None
+  kept_nowhere byte small absent other_absent =
+      at_none words one.width (number_of one.skip * 256) keep (pairs_of one) (pairs_of other) byte
+      (λ rest low. gap_value words one.width one.skip one.bytes one.children.items one.population below.level byte rest small low absent)
+      (λ rest low. value_as one.width other.width (number_of one.skip) (number_of other.skip) byte rest (pairs_of other) None level.width level.number
+      (gap_value words other.width other.skip other.bytes other.children.items other.population other_below.level byte rest small (subst (λ w. rest < 256 ^ w) level.width low) other_absent))
+
+  pub kept_gap : (bytes : List ℕ) (kids : List Tree) (from to : ℕ) → from ≤ to → to ≤ 256 → IsGap one.bytes other.bytes from to
+      → AreKeptTo words one.width (number_of one.skip * 256) keep (pairs_of one) (pairs_of other) bytes kids from
+      → AreKeptTo words one.width (number_of one.skip * 256) keep (pairs_of one) (pairs_of other) bytes kids to
+  kept_gap bytes kids from to up inside gap is =
+      subst (AreKeptTo words one.width (number_of one.skip * 256) keep (pairs_of one) (pairs_of other) bytes kids) (let e : from + (to - from) ≡ to = omega arith in e)
+      (kept_past words one.width (number_of one.skip * 256) keep (pairs_of one) (pairs_of other) bytes kids from (to - from) (omega arith)
+      (λ byte above before. let none = gap byte above (omega arith) in kept_nowhere byte (omega arith) none.0 none.1) is)
 
   pub kept_end : (bytes : List ℕ) (kids : List Tree) → AreKeptTo words one.width (number_of one.skip * 256) keep (pairs_of one) (pairs_of other) bytes kids 256
       → AreKept keep (pairs_of one) (pairs_of other) (branch_pairs one.width one.skip bytes kids)

@@ -3,4 +3,7 @@ pub mod Merging
 pub mod SliceSteps
 pub mod Ends
 pub mod KeptFacts
+pub mod NextBytes
 pub mod SmallFacts
+pub mod BitFacts
+pub mod SetFacts

@@ -1,8 +1,9 @@
 -- What is kept of two nodes.
-use Rattle.std.specs.Prelude.{◌≡◌, ℕ, ◌+◌, ◌*◌, ◌^◌, ◌<◌, List, [], length, Option, Some, None}
+use Rattle.std.specs.Prelude.{◌≡◌, ℕ, ◌+◌, ◌*◌, ◌^◌, ◌<◌, ◌≤◌, ◌||◌, false, IsTrue, List, [], length, Option, Some, None}
 use Rattle.judy_model.specs.Forms.{loose_in}
 use Rattle.judy_model.specs.Shapes.{AllBelow}
 use Rattle.judy_model.specs.WordBytes.{number_of}
+use Rattle.judy_bits.specs.ByteSets.{has}
 use Rattle.judy_node.specs.Trees.{Tree, IsTight, IsMap, IsChild, AreChildren, join, forms_in, branch_pairs}
 use Rattle.judy_node.specs.Branches.{IsWholeBranch}
 use Rattle.judy_node.specs.Populations.{AreSums}
@@ -54,6 +55,15 @@ IsKeptAt words width block keep one other byte (Some kid) =
     IsChild words width kid × IsTight kid ×
     ((rest : ℕ) → rest < 256 ^ width →
     value_of kid.pairs rest ≡ pick keep (value_of one ((block + byte) * 256 ^ width + rest)) (value_of other ((block + byte) * 256 ^ width + rest)))
+
+-- Neither of two sets of bytes has one from a byte on, below another.
+abbrev pub IsGap : List ℕ → List ℕ → ℕ → ℕ → Type 0
+IsGap one other from to = (byte : ℕ) → from ≤ byte → byte < to → (has one byte ≡ false) × (has other byte ≡ false)
+
+-- The least byte from one on that either set has; none where neither has one there.
+abbrev pub IsNextByte : List ℕ → List ℕ → ℕ → Option ℕ → Type 0
+IsNextByte one other from None = IsGap one other from 256
+IsNextByte one other from (Some byte) = (from ≤ byte) × IsTrue (has one byte || has other byte) × IsGap one other from byte
 
 -- The children of the bytes below one are made, and so many keys they have, by what a word tells.
 pub record AreKeptTo (words width block : ℕ) (keep : Keep) (one other : Pairs) (bytes : List ℕ) (kids : List Tree) (next : ℕ) : Type 0 where

@@ -1,2 +1,3 @@
 pub mod Merges
+pub mod KeptBits
 pub mod Kept

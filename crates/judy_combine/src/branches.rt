@@ -3,9 +3,11 @@
 ghost use Rattle.std.specs.Prelude.{◌≡◌, ◌+◌, ◌*◌, ◌%◌, ◌^◌, ◌<◌, ◌≤◌, ℕ, [], length, Some, None, IfOk, OnOk, IsTrue, if◌then◌else◌};
 ghost use Rattle.judy_model.specs.WordBytes.{number_of};
 ghost use Rattle.judy_node.specs.Trees.{IsTight, IsChild};
+ghost use Rattle.judy_node.specs.Branches.{IsWholeBranch};
 ghost use Rattle.judy_node.specs.Populations.{population};
-ghost use Rattle.judy_combine.specs.Kept.{IsKept, pairs_of, width_of, IsBelowTight, AreLevel, IsKeptAt, AreKeptTo, IsCountable, IsBranchKept};
+ghost use Rattle.judy_combine.specs.Kept.{IsKept, pairs_of, width_of, IsBelowTight, AreLevel, IsKeptAt, AreKeptTo, IsCountable, IsBranchKept, IsNextByte};
 
+use crate::bits::bits_kept;
 use crate::keep::Keep;
 use crate::small::small_kept;
 use judy_bits::{Bits256, ByteSet, Meter};
@@ -17,14 +19,24 @@ use std::alloc::{AllocError, Global};
 use std::marker::PhantomData;
 
 // Whether the keys of two branches begin with the same bytes, which their children leave out.
-pub fn are_level<V: Words + Drop>(one: &BranchOf<V>, other: &BranchOf<V>) -> bool
+fn are_level<V: Words + Drop>(one: &BranchOf<V>, other: &BranchOf<V>) -> bool
     ensures { IsTrue result → AreLevel one.now other.now }
 {
     one.width == other.width && one.skip.number() == other.skip.number()
 }
 
-// Two branches are gone through byte by byte where one has so many keys: that asks each of 256 bytes.
-const MANY: u64 = 512;
+// Whether a branch's children hold many keys on average, or have one byte and their keys no value.
+fn is_dense<V: Words + Drop>(branch: &BranchOf<V>) -> bool {
+    branch.width == 1 && V::WORDS == 0 || branch.population / 16 >= branch.children.len() as u64
+}
+
+/// Whether two branches are gone through byte by byte: their keys begin with the same bytes, and one is dense. Children
+/// of a key or two are sooner written out once than met one by one.
+pub fn go_by_bytes<V: Words + Drop>(one: &BranchOf<V>, other: &BranchOf<V>) -> bool
+    ensures { IsTrue result → AreLevel one.now other.now }
+{
+    are_level(one, other) && (is_dense(one) || is_dense(other))
+}
 
 // What is kept of two nodes whose keys have `width` bytes; none where that is nothing. Nodes that the one alone has are
 // copied. The error is want of memory; nothing is kept then.
@@ -44,14 +56,14 @@ fn node_kept<V: Words + Drop>(
     requires other_tight { IsTight other.now }
     ensures { IfOk result (IsKept V.WORDS width keep one.now.pairs other.now.pairs) }
 {
-    if one.pop() < MANY && other.pop() < MANY {
-        return small_kept(alloc, keep, width, one, other);
+    if width == 1 && V::WORDS == 0 {
+        return bits_kept(alloc, keep, one, other);
     }
     let ours = one.enter(width, &mut Meter::new(UNMETERED));
     let theirs = other.enter(width, &mut Meter::new(UNMETERED));
     if let ViewOf::Branch(left) = ours {
         if let ViewOf::Branch(right) = theirs {
-            if are_level(left, right) {
+            if go_by_bytes(left, right) {
                 return settled_kept(alloc, keep, width, left, right);
             }
         }
@@ -142,14 +154,33 @@ fn add_all<V: Words + Drop>(
     ensures count { IfOk result (λ count. count ≡ population children.new.items % 2 ^ 64) }
 {
     let mut count = 0u64;
-    'bytes: for byte in 0..256u16 {
-        if let Some(child) = kept_at(alloc, keep, one, other, byte as u8)? {
+    let mut from = 0u16;
+    'bytes: while let Some(byte) = next_byte(one, other, from) {
+        if let Some(child) = kept_at(alloc, keep, one, other, byte)? {
             count = count.wrapping_add(child.pop());
             children.push(child)?;
-            bytes.add(byte as u8);
+            bytes.add(byte);
         }
+        from = u16::from(byte) + 1;
     }
     Ok(count)
+}
+
+// The least byte from one on for which either of two branches has a child; none where neither has one there.
+fn next_byte<V: Words + Drop>(one: &BranchOf<V>, other: &BranchOf<V>, from: u16) -> Option<u8>
+    requires one { IsWholeBranch V.WORDS one.now }
+    requires other { IsWholeBranch V.WORDS other.now }
+    ensures { IsNextByte one.now.bytes other.now.bytes from result }
+{
+    if from > 255 {
+        return None;
+    }
+    let byte = from as u8;
+    match (one.bytes.next_from(byte), other.bytes.next_from(byte)) {
+        (Some(ours), Some(theirs)) => Some(ours.min(theirs)),
+        (Some(ours), None) => Some(ours),
+        (None, theirs) => theirs,
+    }
 }
 
 // The child that is kept of those that two branches have for a byte; none where none is.

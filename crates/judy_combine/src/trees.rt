@@ -7,7 +7,7 @@ ghost use Rattle.judy_node.specs.Branches.{IsWholeBranch};
 ghost use Rattle.judy_node.specs.Populations.{AreSums};
 ghost use Rattle.judy_combine.specs.Kept.{pairs_of, width_of, AreKept, AreLevel, IsBelowTight, IsCountable};
 
-use crate::branches::{are_level, branch_kept};
+use crate::branches::{branch_kept, go_by_bytes};
 use crate::keep::Keep;
 use judy_bits::Meter;
 use judy_change::settled;
@@ -17,7 +17,8 @@ use judy_unmetered::UNMETERED;
 use std::alloc::{AllocError, Global};
 
 /// The tree of what is kept of two trees, each node as small as its keys allow; none where their roots aren't branches
-/// whose keys begin with the same bytes. The error is want of memory; nothing is kept then.
+/// whose keys begin with the same bytes, or the children of both hold few keys. The error is want of memory; nothing is
+/// kept then.
 ///
 /// Nodes that one alone has are copied. It counts no visit, which takes leave.
 pub fn combined_tree<V: Words + Drop>(
@@ -37,7 +38,7 @@ pub fn combined_tree<V: Words + Drop>(
     let theirs = other.enter(&mut Meter::new(UNMETERED));
     if let ViewOf::Branch(left) = ours {
         if let ViewOf::Branch(right) = theirs {
-            if are_level(left, right) {
+            if go_by_bytes(left, right) {
                 let tree = tree_kept(alloc, keep, left, right)?;
                 return Ok(Some(tree));
             }

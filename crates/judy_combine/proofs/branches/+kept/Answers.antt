@@ -1,19 +1,19 @@
-use Rattle.std.proofs.Common.{◌≡◌, ◌≢◌, ℕ, ◌+◌, ◌*◌, ◌%◌, ◌^◌, ◌<◌, ◌≤◌, cond, List, [], ◌∷◌, ◌++◌, length, Option, Some, None, IfOk, slice_get, refl, sym, ap, ◌∙◌, subst, arith, eqb-true}
+use Rattle.std.proofs.Common.{◌≡◌, ◌+◌, ◌*◌, ◌%◌, ◌^◌, ◌<◌, cond, [], ◌∷◌, ◌++◌, Some, None, refl, sym, ap, ◌∙◌, subst, arith, eqb-true}
 use Rattle.std.proofs.lemmas.Bool.{eqb-false}
 use Rattle.std.proofs.lemmas.Option.{slice_get-get_or}
 use Rattle.std.proofs.lemmas.Result.{IfOk-weaker}
 use Rattle.judy_model.specs.WordBytes.{number_of}
-use Rattle.judy_node.specs.Trees.{Tree, IsBranch, IsTight, IsChild, branch_pairs}
+use Rattle.judy_node.specs.Trees.{IsBranch, IsChild, branch_pairs}
 use Rattle.judy_node.specs.Populations.{population}
 use Rattle.judy_node.proofs.Counts.{population-append}
 use Rattle.judy_node.proofs.Groups.{with_byte-push}
 use Rattle.judy_query.proofs.BranchRooms.{bytes_ascend}
 use Rattle.judy_query.proofs.Downs.{kid_is}
 use Rattle.judy_combine.specs.Kept.{AreKept, IsKept, pairs_of, width_of, IsKeptAt, AreKeptTo}
-use Rattle.judy_combine.proofs.KeptFacts.{stands, missing, kid_value, gap_value, at_both, at_left, at_right, at_none, value_as, place_inside, kid_tight, shown_below, shown_width}
-use Rattle.judy_combine.proofs.KeptFacts.{kept_start, kept_end, kept_skip, kept_more, made_none, made_branch, countable_low}
+use Rattle.judy_combine.proofs.KeptFacts.{stands, missing, kid_value, gap_value, at_both, at_left, at_right, value_as, place_inside, kid_tight, shown_below, shown_width}
+use Rattle.judy_combine.proofs.KeptFacts.{kept_start, kept_gap, kept_nowhere, kept_end, kept_skip, kept_more, kept_as, made_none, made_branch, countable_low}
 use Rattle.judy_combine.proofs.branches.+kept.Goals as goal
-use Rattle.judy_combine.proofs.branches.+kept.Goals.{add_all-in-Some+in_ok-push, add_all-in_default}
+use Rattle.judy_combine.proofs.branches.+kept.Goals.{add_all-in-Some-2+in_ok-push, add_all-in_default-2}
 
 -- ---- a branch
 
@@ -71,56 +71,71 @@ add_all-bytes-init g t c =
     let o = c.args.other.now in
     let block = number_of b.skip * 256 in
     record {
+      inside = omega arith;
       to = subst (λ bs. AreKeptTo words b.width block c.args.keep (pairs_of b) (pairs_of o) bs c.args.children.now.items 0) (sym c.requires.none)
           (subst (λ ks. AreKeptTo words b.width block c.args.keep (pairs_of b) (pairs_of o) [] ks 0) (sym c.requires.no_children)
           (kept_start words c.args.keep b o c.requires.below c.requires.other_below c.requires.level));
       counted = (let none = ap population c.requires.no_children in omega arith);
     }
 
+pub add_all-bytes-smaller : goal.add_all-bytes-smaller
+add_all-bytes-smaller g t c = let from = c.in-Some.ensures.0 in let inside = c.bytes.invariant.inside in let next = c.from-from.ensures in omega arith
+
 pub add_all-bytes-preserved : goal.add_all-bytes-preserved
 add_all-bytes-preserved g t c = elim c.match-branch-2.branch [
-  | add_all-in-Some+in_ok-push w ↦
+  | add_all-in-Some-2+in_ok-push w ↦
       let words = g.V.Words.WORDS in
       let b = c.args.one.now in
       let o = c.args.other.now in
       let block = number_of b.skip * 256 in
       let bytes = c.bytes.bytes in
       let kids = c.bytes.children.items in
-      let byte = c.bytes.byte in
-      let kid = w.in-Some.child in
-      let small : byte < 256 = c.bytes-test.true in
-      let made = subst (IsKeptAt words b.width block c.args.keep (pairs_of b) (pairs_of o) byte) w.in-Some.is c.in_ok-child.ensures in
-      let to = kept_more words b.width block c.args.keep (pairs_of b) (pairs_of o) bytes kids byte small c.bytes.invariant.to kid made in
-      let bytes_is : c.match-branch-2.bytes ≡ bytes ++ byte ∷ [] = w.bytes-is ∙ w.add.ensures ∙ with_byte-push byte bytes c.bytes.invariant.to.before in
+      let byte = c.in-Some.byte in
+      let kid = w.in-Some-2.child in
+      let small : byte < 256 = omega arith in
+      let passed = kept_gap words c.args.keep b o c.requires.below c.requires.other_below c.requires.level bytes kids c.bytes.from byte c.in-Some.ensures.0 (omega arith) c.in-Some.ensures.2
+      c.bytes.invariant.to in
+      let made = subst (IsKeptAt words b.width block c.args.keep (pairs_of b) (pairs_of o) byte) w.in-Some-2.is c.in_ok-child.ensures in
+      let to = kept_more words b.width block c.args.keep (pairs_of b) (pairs_of o) bytes kids byte small passed kid made in
+      let bytes_is : c.match-branch-2.bytes ≡ bytes ++ byte ∷ [] = w.bytes-is ∙ w.add.ensures ∙ with_byte-push byte bytes passed.before in
       let items : c.match-branch-2.children.items ≡ w.push.new.self.items = (λ t. (w.children-is t).items) in
       let items_is : c.match-branch-2.children.items ≡ kids ++ kid ∷ [] = items ∙ w.in_ok-push.ensures.items in
       let all = ap population items_is ∙ population-append kids (kid ∷ []) in
       let count = w.count-is in
       let pop = w.pop-count.ensures in
       let before = c.bytes.invariant.counted in
+      let next : byte + 1 ≡ c.from-from.result + 1 = ap (λ n. n + 1) (sym c.from-from.ensures) in
       record {
-        to = subst (λ bs. AreKeptTo words b.width block c.args.keep (pairs_of b) (pairs_of o) bs c.match-branch-2.children.items (byte + 1)) (sym bytes_is)
-            (subst (λ ks. AreKeptTo words b.width block c.args.keep (pairs_of b) (pairs_of o) (bytes ++ byte ∷ []) ks (byte + 1)) (sym items_is) to);
+        inside = omega arith;
+        to = kept_as words b.width block c.args.keep (pairs_of b) (pairs_of o) bytes_is items_is next to;
         counted = omega (arith, count, pop, before, all);
       }
-  | add_all-in_default w ↦
+  | add_all-in_default-2 w ↦
       let words = g.V.Words.WORDS in
       let b = c.args.one.now in
       let o = c.args.other.now in
       let block = number_of b.skip * 256 in
       let bytes = c.bytes.bytes in
       let kids = c.bytes.children.items in
-      let byte = c.bytes.byte in
-      let small : byte < 256 = c.bytes-test.true in
-      let made = subst (IsKeptAt words b.width block c.args.keep (pairs_of b) (pairs_of o) byte) w.in_default.is c.in_ok-child.ensures in
-      let to = kept_skip words b.width block c.args.keep (pairs_of b) (pairs_of o) bytes kids byte small c.bytes.invariant.to made in
+      let byte = c.in-Some.byte in
+      let small : byte < 256 = omega arith in
+      let passed = kept_gap words c.args.keep b o c.requires.below c.requires.other_below c.requires.level bytes kids c.bytes.from byte c.in-Some.ensures.0 (omega arith) c.in-Some.ensures.2
+      c.bytes.invariant.to in
+      let made = subst (IsKeptAt words b.width block c.args.keep (pairs_of b) (pairs_of o) byte) w.in_default-2.is c.in_ok-child.ensures in
+      let to = kept_skip words b.width block c.args.keep (pairs_of b) (pairs_of o) bytes kids byte small passed made in
       let items : c.match-branch-2.children.items ≡ kids = (λ t. (w.children-is t).items) in
+      let next : byte + 1 ≡ c.from-from.result + 1 = ap (λ n. n + 1) (sym c.from-from.ensures) in
       record {
-        to = subst (λ bs. AreKeptTo words b.width block c.args.keep (pairs_of b) (pairs_of o) bs c.match-branch-2.children.items (byte + 1)) (sym w.bytes-is)
-            (subst (λ ks. AreKeptTo words b.width block c.args.keep (pairs_of b) (pairs_of o) bytes ks (byte + 1)) (sym items) to);
+        inside = omega arith;
+        to = kept_as words b.width block c.args.keep (pairs_of b) (pairs_of o) w.bytes-is items next to;
         counted = w.count-is ∙ c.bytes.invariant.counted ∙ ap (λ ks. population ks % 2 ^ 64) (sym items);
       }
 ]
+
+pub add_all-returns-clause-kept : goal.add_all-returns-clause-kept
+add_all-returns-clause-kept g t c =
+    kept_gap g.V.Words.WORDS c.args.keep c.args.one.now c.args.other.now c.requires.below c.requires.other_below c.requires.level c.bytes.bytes c.bytes.children.items c.bytes.from 256
+    c.bytes.invariant.inside (omega arith) c.in_default.ensures c.bytes.invariant.to
 
 -- ---- the child of a byte
 
@@ -282,17 +297,10 @@ kept_at-returns-in-None-Some g t c =
 
 pub kept_at-returns-in-None-None : goal.kept_at-returns-in-None-None
 kept_at-returns-in-None-None g t c =
-    let words = g.V.Words.WORDS in
     let b = c.args.one.now in
     let o = c.args.other.now in
-    let byte = c.args.byte in
-    let small : byte < 256 = omega (arith, c.ranges.byte.fits) in
-    let level = c.requires.level in
-    at_none words b.width (number_of b.skip * 256) c.args.keep (pairs_of b) (pairs_of o) byte
-    (λ rest low. gap_value words b.width b.skip b.bytes b.children.items b.population c.requires.below.level byte rest small low (missing b.bytes byte (sym c.place.ensures ∙ c.in-None-None.is-0)))
-    (λ rest low. value_as b.width o.width (number_of b.skip) (number_of o.skip) byte rest (pairs_of o) None level.width level.number
-    (gap_value words o.width o.skip o.bytes o.children.items o.population c.requires.other_below.level byte rest small (subst (λ w. rest < 256 ^ w) level.width low)
-    (missing o.bytes byte (sym c.place-2.ensures ∙ c.in-None-None.is-1))))
+    kept_nowhere g.V.Words.WORDS c.args.keep b o c.requires.below c.requires.other_below c.requires.level c.args.byte (omega (arith, c.ranges.byte.fits))
+    (missing b.bytes c.args.byte (sym c.place.ensures ∙ c.in-None-None.is-0)) (missing o.bytes c.args.byte (sym c.place-2.ensures ∙ c.in-None-None.is-1))
 
 -- ---- two nodes
 
@@ -314,7 +322,7 @@ node_kept-settled_kept-requires g t c κs within =
                 shown_below words width c.args.one.now c.enter-ours.result c.in-Branch.left c.in-Branch.is c.enter-ours.ensures.view c.requires.tight,
                 (
                   shown_below words width c.args.other.now c.enter-theirs.result c.in-Branch-theirs.right c.in-Branch-theirs.is c.enter-theirs.ensures.view c.requires.other_tight,
-                  (c.are_level.ensures c.if-are_level.true, shown_width words width c.args.one.now c.enter-ours.result c.in-Branch.left c.in-Branch.is c.enter-ours.ensures.view),
+                  (c.go_by_bytes.ensures c.if-go_by_bytes.true, shown_width words width c.args.one.now c.enter-ours.result c.in-Branch.left c.in-Branch.is c.enter-ours.ensures.view),
                 ),
               ),
             ),

@@ -1,4 +1,4 @@
-use Rattle.std.proofs.Common.{◌≡◌, ◌+◌, ◌-◌, ◌*◌, ◌%◌, ◌^◌}
+use Rattle.std.proofs.Common.{◌≡◌, ◌+◌, ◌-◌, ◌*◌, ◌%◌, ◌^◌, ◌≤◌}
 use Rattle.judy_model.specs.WordBytes.{number_of}
 use Rattle.judy_node.specs.Populations.{population}
 use Rattle.judy_combine.specs.Kept.{pairs_of, width_of, AreKeptTo}
@@ -22,6 +22,10 @@ decreases-kept_at g l = 8 * width_of l.one.now
 
 abbrev pub invariant-add_all-bytes : goal.invariant-add_all-bytes
 invariant-add_all-bytes g l = record {
-  to : AreKeptTo g.V.Words.WORDS l.one.width (number_of l.one.skip * 256) l.keep (pairs_of l.one) (pairs_of l.other) l.bytes l.children.items l.byte;
+  inside : l.from ≤ 256;
+  to : AreKeptTo g.V.Words.WORDS l.one.width (number_of l.one.skip * 256) l.keep (pairs_of l.one) (pairs_of l.other) l.bytes l.children.items l.from;
   counted : l.count ≡ population l.children.items % 2 ^ 64;
 }
+
+abbrev pub decreases-add_all-bytes : goal.decreases-add_all-bytes
+decreases-add_all-bytes g l = 256 - l.from

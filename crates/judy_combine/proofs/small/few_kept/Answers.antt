@@ -1,4 +1,4 @@
-use Rattle.std.proofs.Common.{◌≡◌, ◌≤◌, IfOk, length, take, sym, ◌∙◌, subst, arith}
+use Rattle.std.proofs.Common.{◌≤◌, IfOk, sym, ◌∙◌, subst, arith}
 use Rattle.std.proofs.lemmas.List.{length-take-le}
 use Rattle.judy_change.proofs.SettleFacts.{word_fits, filled}
 use Rattle.judy_combine.specs.Kept.{IsKept}

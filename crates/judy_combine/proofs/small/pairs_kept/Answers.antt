@@ -1,4 +1,4 @@
-use Rattle.std.proofs.Common.{◌<◌, length, take, sym, subst, arith}
+use Rattle.std.proofs.Common.{take, sym, subst, arith}
 use Rattle.std.proofs.lemmas.List.{length-take-le}
 use Rattle.judy_change.proofs.SettleFacts.{low_map, tight_of}
 use Rattle.judy_combine.specs.Kept.{AreKept}

@@ -1,4 +1,4 @@
-use Rattle.std.proofs.Common.{◌+◌, ◌≤◌, length, ap, ◌∙◌, subst, arith}
+use Rattle.std.proofs.Common.{length, ap, ◌∙◌, subst, arith}
 use Rattle.judy_combine.specs.Kept.{IsKept}
 use Rattle.judy_combine.specs.Merges.{Pairs}
 use Rattle.judy_combine.proofs.SmallFacts.{both_ready}
