@@ -1,15 +1,16 @@
 //! Ranges of keys: copied, taken out, and split off.
 
-ghost use Rattle.std.specs.Prelude.{◌≡◌, ◌≤◌, ◌-◌, false, IfOk, OnOk, OnErr};
+ghost use Rattle.std.specs.Prelude.{◌≡◌, ◌≤◌, ◌-◌, false, IfOk, IfSome, OnOk, OnErr};
 ghost use Rattle.std.specs.FinMap as map;
 ghost use Rattle.judy_model.specs.Arrays as arrays;
 ghost use Rattle.judy_model.specs.Counts as counts;
 ghost use Rattle.judy_model.specs.Ranges as ranges;
 ghost use Rattle.judy_word.specs.WordArrays.{array_of};
-ghost use Rattle.judy_sets.specs.Fills.{IsMade};
+ghost use Rattle.judy_sets.specs.Fills.{IsMade, IsNew};
 
 use crate::range_puts::{keys_law, part_filled};
 use judy_leaf::Words;
+use judy_unmetered::UNMETERED;
 use judy_word::{InsertError, WordArray};
 use std::alloc::{AllocError, Global};
 
@@ -17,7 +18,7 @@ use std::alloc::{AllocError, Global};
 /// where the first is above the second.
 ///
 /// `Full` where they are more than the limit, which is told before memory is asked for; `NoMemory` where there is none.
-/// It takes one way through the range.
+/// A large part is cut out of a copy of all nodes; else it takes one way through the range.
 ///
 ///     let teens = copy_range(alloc, 100, &ages, 13, 19)?;
 pub fn copy_range<V: Words + Drop>(
@@ -31,11 +32,47 @@ pub fn copy_range<V: Words + Drop>(
     requires some { 1 ≤ limit }
     ensures { IsMade limit (ranges.within array.now.map from to) result }
 {
+    if let Ok(Some(part)) = cut_out(alloc, limit, array, from, to) {
+        return Ok(part);
+    }
     let filling = part_filled(alloc, limit, array, from, to)?;
     match filling.into_array() {
         Ok(part) => Ok(part),
         Err(_) => Err(InsertError::NoMemory),
     }
+}
+
+// A part is cut out of a copy of the array where it has so large a share of the keys, or a larger one: to copy nodes
+// and free those beside takes a fraction of the time in which keys are put into new ones.
+const SHARE: u64 = 4;
+
+// The part of an array from one word to another, cut out of a copy; none where it is small, where the array isn't
+// within the limit, or where a node would stay larger than its keys need. The error is want of memory.
+fn cut_out<V: Words + Drop>(
+    alloc: Global,
+    limit: u64,
+    array: &WordArray<V>,
+    from: u64,
+    to: u64,
+) -> Result<Option<WordArray<V>>, AllocError>
+    requires one { V.WORDS ≤ 1 }
+    requires some { 1 ≤ limit }
+    ensures { IfOk result
+        (λ made. IfSome made (IsNew limit (ranges.within array.now.map from to))) }
+{
+    let len = array.len();
+    if array.is_loose() || len > limit || array.count(from, to) < len / SHARE {
+        return Ok(None);
+    }
+    let root = array.root().try_clone(UNMETERED, alloc)?;
+    root.law();
+    let mut part = WordArray::of_root(alloc, limit, root);
+    remove_below(&mut part, from);
+    remove_above(&mut part, to);
+    if part.is_loose() {
+        return Ok(None);
+    }
+    Ok(Some(part))
 }
 
 /// Takes the keys from one word to another out, both included, and answers how many they were: none where the first is

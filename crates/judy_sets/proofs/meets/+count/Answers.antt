@@ -7,8 +7,9 @@ use Rattle.judy_leaf.proofs.NextKeys.{rank_behind}
 use Rattle.judy_node.specs.Trees.{branch_pairs}
 use Rattle.judy_node.specs.Views.{view_pairs}
 use Rattle.judy_node.proofs.Counts.{branch_population}
+use Rattle.judy_node.proofs.StepFacts.{rank_zero}
 use Rattle.judy_query.specs.Parts.{IsStart, width_of}
-use Rattle.judy_query.proofs.BranchRooms.{bytes_ascend, rank_zero}
+use Rattle.judy_query.proofs.BranchRooms.{bytes_ascend}
 use Rattle.judy_query.proofs.Downs.{kid_is, start_room}
 use Rattle.judy_sets.specs.Meets.{found, IsCounted}
 use Rattle.judy_sets.proofs.LotFacts.{lot_inside, shown_branch, part_shown, found_there, found_full, found_free, found_next, found_behind}
