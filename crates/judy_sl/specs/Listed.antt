@@ -1,9 +1,9 @@
 -- Lists of how many keys begin with each piece behind levels below the first.
 use Rattle.std.specs.Prelude.{◌≡◌, ℕ, suc, ◌+◌, ◌*◌, ◌/◌, ◌-◌, ◌<◌, ◌≤◌, Bool, true, false, nat_lt, if◌then◌else◌, List, [], ◌∷◌, ◌++◌, length, take, drop, Option, None, Some}
-use Rattle.std.specs.FinMap.{FinMap, get, insert, find, len}
+use Rattle.std.specs.FinMap.{FinMap, entries, get, insert, find, len}
 use Rattle.judy_model.specs.Keys.{word_order, byte_order}
 use Rattle.judy_model.specs.Arrays.{ArrayOf}
-use Rattle.judy_sums.specs.Pairs.{Pairs, number_at}
+use Rattle.judy_sums.specs.Pairs.{Pairs, number_at, sum_of}
 use Rattle.judy_sums.specs.Levels.{part_of}
 use Rattle.judy_sums.specs.Listed.{list_at}
 use Rattle.judy_sl.specs.Children.{Child, Free, Tail, Level, IsLevelChild}
@@ -14,7 +14,7 @@ use Rattle.judy_sl.specs.Arenas.{world_of, child_at}
 use Rattle.judy_sl.specs.Ways.{levels_passed}
 use Rattle.judy_sl.specs.Noted.{AreFirstPassed}
 use Rattle.judy_sl.specs.Behind.{map_behind, entry_keys}
-use Rattle.judy_sl.specs.Counted.{keys_behind, IsAmong, AreOnce}
+use Rattle.judy_sl.specs.Counted.{keys_behind, keys_behind_all, IsAmong, AreOnce}
 use Rattle.judy_sl.specs.Firsts.{beginning, AreFirsts}
 
 -- The place of the level at an index.
@@ -42,6 +42,12 @@ IsListOf world words found = (list : FinMap word_order ℕ) → found ≡ Some l
 pub record IsPageList (world : World) (page : Pairs) (list : FinMap word_order ℕ) : Type 0 where
   pub numbers : (piece : ℕ) → number_at list piece ≡ length (part_of (entry_keys world) piece (find word_order piece page)) - 1
   pub some : (piece number : ℕ) → get list piece ≡ Some number → 1 ≤ number
+
+-- So far these entries are read for a list.
+pub record IsListing (world : World) (page : Pairs) (list : FinMap word_order ℕ) : Type 0 where
+  pub listed : IsPageList world page list
+  pub sum : sum_of (entries list) ≤ keys_behind_all world page
+  pub few : len list ≤ length page
 
 -- A list with the number of an entry behind which so many keys stand.
 abbrev pub with_entry : FinMap word_order ℕ → ℕ → ℕ → FinMap word_order ℕ

@@ -12,3 +12,10 @@ abbrev pub IsRefusal : (List ℕ → Type 0) → ArrayOf byte_order → List ℕ
 IsRefusal IsKey array key BadKey = IsKey key → ⊥
 IsRefusal IsKey array key Full = IsKey key × IsTrue (is_full array key)
 IsRefusal IsKey array key NoMemory = IsKey key × (get array.map key ≡ None) × IsFalse (is_full array key)
+
+-- Why bytes that an array doesn't have can't become a key of it, where it has so many keys. BadKey: they are no key. Full:
+-- they are one, and it has as many keys as its limit.
+abbrev pub IsUnfit : (List ℕ → Type 0) → ℕ → ℕ → List ℕ → SlError → Type 0
+IsUnfit IsKey count limit key BadKey = IsKey key → ⊥
+IsUnfit IsKey count limit key Full = IsKey key × (count ≡ limit)
+IsUnfit IsKey count limit key NoMemory = ⊥

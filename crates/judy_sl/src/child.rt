@@ -1,6 +1,6 @@
 //! What stands behind a piece that isn't final: a tail or a level.
 
-ghost use Rattle.std.specs.Prelude.{◌≡◌, OnOk, OnErr};
+ghost use Rattle.std.specs.Prelude.{◌≡◌, ◌≢◌, ◌-◌, Some, length, slice_get, IfSome, IsNone, OnOk, OnErr};
 ghost use Rattle.judy_word.specs.Writes.{with_value};
 ghost use Rattle.judy_sl.specs.Children.{is_level};
 
@@ -24,6 +24,21 @@ pub fn is_level(place: u64) -> bool
     ensures { result ≡ is_level place }
 {
     place % 256 == LEVEL
+}
+
+// The value of a tail that is these bytes, of which the last isn't zero; `None` where it is others.
+// Within its caller, a way down of which it is the end.
+#[inline(always)]
+pub fn value_of(tail: &Tail, bytes: &[u8]) -> Option<u64>
+    requires { slice_get bytes.now (length bytes.now - 1) ≢ Some 0 }
+    ensures same { IfSome result (λ value. (tail.now.0 ≡ bytes.now) × (value ≡ tail.now.1)) }
+    ensures other { IsNone result → tail.now.0 ≢ bytes.now }
+{
+    if tail.is(bytes) {
+        Some(tail.value())
+    } else {
+        None
+    }
 }
 
 // Gives a piece of a level a value, whether it is there or not.

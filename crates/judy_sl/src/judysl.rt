@@ -1,11 +1,12 @@
 //! The array that maps keys without zero bytes to words.
 
-ghost use Rattle.std.specs.Prelude.{◌≡◌, ◌+◌, ◌*◌, ◌<◌, ◌≤◌, ◌↔◌, max, length, Some, IfOk, OnOk, IfErr, IsTrue, IsFalse};
+ghost use Rattle.std.specs.Prelude.{◌≡◌, ◌≢◌, ◌||◌, ◌+◌, ◌*◌, ◌<◌, ◌≤◌, ◌↔◌, max, length, Some, IfOk, OnOk, IfErr, IsTrue, IsFalse};
 ghost use Rattle.std.specs.Borrow.{sem};
 ghost use Rattle.std.specs.FinMap as map;
 ghost use Rattle.std.specs.Option.{option_copied_mut};
 ghost use Rattle.judy_model.specs.Arrays as array;
 ghost use Rattle.judy_sl.specs.Pieces.{EndsWell};
+ghost use Rattle.judy_sl.specs.Refusals.{IsUnfit};
 
 use crate::arena::{Arena, Way};
 use crate::error::SlError;
@@ -76,6 +77,34 @@ fn lengthen(longest: &mut usize, len: usize)
     if len > *longest {
         *longest = len;
     }
+}
+
+// Takes note of an insert: whether it put a key in whose first piece led nowhere. The next one is then expected to be
+// such a one, and so it is where the insert before was one.
+#[inline(always)]
+fn remember(expects_new: &mut bool, added: &mut bool, first: bool)
+    ensures expects_new { expects_new.new ≡ (first || added.old) }
+    ensures added { added.new ≡ first }
+{
+    *expects_new = first | *added;
+    *added = first;
+}
+
+// Whether bytes that aren't there may become a key of an array with so many keys: `BadKey` where they are no key, and
+// else `Full` where it has as many as its limit.
+// Within its callers, of which there is one for each kind of notes.
+#[inline(always)]
+fn accept<L: KeyLength>(key: &[u8], count: u64, limit: u64) -> Result<(), SlError>
+    ensures accepted { OnOk result (L.IsKey key.now × (count ≢ limit)) }
+    ensures refused { IfErr result (IsUnfit L.IsKey count limit key.now) }
+{
+    if !is_key_of::<L>(key) {
+        return Err(SlError::BadKey);
+    }
+    if count == limit {
+        return Err(SlError::Full);
+    }
+    Ok(())
 }
 
 impl<L: KeyLength> StringsOf<L> {
@@ -184,17 +213,11 @@ impl<L: KeyLength> StringsOf<L> {
         let mut passed = N::none();
         match self.arena.walk(key, &mut passed) {
             Way::At(place) => {
-                self.expects_new = self.added;
-                self.added = false;
+                remember(&mut self.expects_new, &mut self.added, false);
                 Ok(self.arena.lend(place))
             }
             way => {
-                if !is_key_of::<L>(key) {
-                    return Err(SlError::BadKey);
-                }
-                if self.count == self.limit {
-                    return Err(SlError::Full);
-                }
+                accept::<L>(key, self.count, self.limit)?;
                 let passed = passed.noted();
                 let made = firsts::insert(
                     &mut self.arena,
@@ -208,9 +231,7 @@ impl<L: KeyLength> StringsOf<L> {
                 )?;
                 self.count += 1;
                 lengthen(&mut self.longest, key.len());
-                let first = way.ends_first();
-                self.expects_new = first | self.added;
-                self.added = first;
+                remember(&mut self.expects_new, &mut self.added, way.ends_first());
                 Ok(self.arena.lend(made))
             }
         }

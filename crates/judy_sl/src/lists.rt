@@ -1,12 +1,12 @@
 //! How many keys begin with each piece behind wide levels below the first, kept in a list for each as firsts.rt keeps
-//! it of the first level. A level gets its list with the entry that makes it wide, and loses it with most of its keys.
+//! it of the first level. A level gets its list with the entry that makes it wide, and loses it with most of its keys,
+//! and where memory is refused until some more have come.
 
-ghost use Rattle.std.specs.Prelude.{◌≡◌, ◌+◌, ◌<◌, ◌≤◌, ◌^◌, ◌/◌, ◌↔◌, ℕ, suc, true, false, List, Some, None, OnOk, IfOk, IsSome, IsTrue, All, length, take};
+ghost use Rattle.std.specs.Prelude.{◌≡◌, ◌+◌, ◌<◌, ◌≤◌, ◌^◌, ◌/◌, ℕ, suc, true, false, List, Some, None, OnOk, IfOk, IsSome, IsTrue, All, length, take, drop};
 ghost use Rattle.std.specs.FinMap as map;
 ghost use Rattle.std.specs.FinMap.{FinMap};
 ghost use Rattle.judy_model.specs.Keys.{word_order};
 ghost use Rattle.judy_sums.specs.Pairs.{sum_of};
-ghost use Rattle.judy_sums.specs.Chunks.{Ascends};
 ghost use Rattle.judy_sums.specs.Listed.{list_at, AreOthers};
 ghost use Rattle.judy_sl.specs.Children.{Level as LevelChild, keys_told, IsLevelChild};
 ghost use Rattle.judy_sl.specs.World as world;
@@ -16,10 +16,11 @@ ghost use Rattle.judy_sl.specs.Counted.{LeadsOn, keys_behind, keys_behind_all, A
 ghost use Rattle.judy_sl.specs.Firsts.{AreFirsts};
 ghost use Rattle.judy_sl.specs.Ways.{levels_passed};
 ghost use Rattle.judy_sl.specs.Noted.{AreNoted, AreFirstPassed};
-ghost use Rattle.judy_sl.specs.Listed.{with_entry, others_begin, IsPageList, IsListed, AreListed, IsOff, AreListedBut, IsBegun, AreBegun, GetsList};
+ghost use Rattle.judy_sl.specs.Listed.{with_entry, others_begin, IsPageList, IsListing, IsListed, AreListed, IsOff, AreListedBut, IsBegun, AreBegun, GetsList};
 
 use crate::arena::Arena;
 use crate::child::ChildRef;
+use crate::nth::entries_at;
 use crate::passed::Noted;
 use crate::pieces::first_piece;
 use judy_sums::{LevelSums, Sums};
@@ -29,17 +30,22 @@ use std::alloc::AllocError;
 // A level behind which no more keys stand has no list.
 const FEW: u32 = 32;
 
-// A level gets a list where it has more entries than this,
+// A level has a list where it has more entries than this.
 const NARROW: u64 = 64;
 
-// and no more than this, which are read for it.
+// So many entries are read at a time for a list. A level with no more of them that lacks its list gets one with the
+// next key,
 const READ: u64 = 128;
 
-// Whether a level with so many entries gets a list.
-fn is_wide(entries: u64) -> bool
-    ensures { IsTrue result ↔ ((64 < entries) × (entries ≤ 128)) }
+// and a larger one, whose list was refused memory, when a key has come for each so many of its entries.
+const PAID: u64 = 8;
+
+// Whether a level with so many entries and no list gets one.
+fn gets_list(lists: &mut LevelSums, entries: u64) -> bool
+    ensures wide { 64 < entries → entries ≤ 128 → IsTrue result }
+    ensures same { lists.new ≡ lists.old }
 {
-    entries > NARROW && entries <= READ
+    entries > NARROW && (entries <= READ || lists.miss(entries / PAID))
 }
 
 // Whether others begin with the next piece of a key that has come in, behind a level on its way: they do where the way
@@ -76,27 +82,40 @@ impl Arena {
         }
     }
 
-    // The list of some entries of a level. The error is want of memory.
-    fn list_page(&self, page: &[(u64, u64)]) -> Result<Sums, AllocError>
+    // Brings as many entries of a level from a place on as a page has places into the list of those behind them. The
+    // error is want of memory.
+    fn list_page(
+        &self,
+        list: &mut Sums,
+        level: &WordMap,
+        start: u64,
+        page: &mut [(u64, u64)],
+    ) -> Result<(), AllocError>
         requires is_arena { IsArena self.now }
         requires counted { AreCounted self.now }
-        requires leads { All (LeadsOn (world_of self.now)) page.now }
-        requires ascends { Ascends page.now }
-        requires few { length page.now < 2 ^ 60 }
-        requires fits { keys_behind_all (world_of self.now) page.now < 2 ^ 64 }
-        ensures { IfOk result (IsPageList (world_of self.now) page.now) }
+        requires leads { All (LeadsOn (world_of self.now)) (map.entries level.now.map) }
+        requires some { 1 ≤ length page.old }
+        requires places { length page.old < 2 ^ 60 }
+        requires within { start + length page.old ≤ map.len level.now.map }
+        requires few { map.len level.now.map < 2 ^ 64 }
+        requires fits { keys_behind_all (world_of self.now) (map.entries level.now.map) < 2 ^ 64 }
+        requires behind { IsListing (world_of self.now)
+            (drop (start + length page.old) (map.entries level.now.map)) list.old }
+        ensures { OnOk result (IsListing (world_of self.now)
+            (drop start (map.entries level.now.map)) list.new) }
     {
-        let mut list = Sums::new(self.alloc);
+        entries_at(level, start).fill(page);
         let mut left = page.len();
         'entries: while left > 0 {
             left -= 1;
             let (piece, value) = page[left];
-            list_entry(&mut list, piece, self.keys_at(piece, value))?;
+            list_entry(list, piece, self.keys_at(piece, value))?;
         }
-        Ok(list)
+        Ok(())
     }
 
-    // The list of a level with so many entries, which are read. The error is want of memory. Its page is no caller's.
+    // The list of a level with so many entries, which are read from the last one on. The error is want of memory. Its
+    // page is no caller's.
     #[inline(never)]
     fn read_list(&self, level: &WordMap, entries: u64) -> Result<Sums, AllocError>
         requires is_arena { IsArena self.now }
@@ -104,17 +123,23 @@ impl Arena {
         requires stands { (seat : ℕ) × (world_of self.now seat ≡ world.level level.now.map)
             × (keys_behind (world_of self.now) seat < 2 ^ 64) }
         requires entries { entries ≡ map.len level.now.map }
-        requires few { entries ≤ 128 }
         ensures { IfOk result
             (IsPageList (world_of self.now) (map.entries level.now.map)) }
     {
+        let mut list = Sums::new(self.alloc);
         let mut page = [(0, 0); READ as usize];
-        let next = &mut page[..entries as usize];
-        level.iter().fill(next);
-        self.list_page(next)
+        let mut end = entries;
+        'pages: while end > 0 {
+            let start = end.saturating_sub(READ);
+            let next = &mut page[..(end - start) as usize];
+            self.list_page(&mut list, level, start, next)?;
+            end = start;
+        }
+        Ok(list)
     }
 
-    // Gives the level at a place, which has no list, one where it is wide. The error is want of memory.
+    // Gives the level at a place, which has no list, one where it is wide and that is due. The error is want of memory.
+    #[inline(always)]
     fn list_wide(&self, lists: &mut LevelSums, at: u64) -> Result<(), AllocError>
         requires is_arena { IsArena self.now }
         requires counted { AreCounted self.now }
@@ -129,7 +154,7 @@ impl Arena {
     {
         let level = self.level_at(at);
         let entries = level.len();
-        if !is_wide(entries) {
+        if !gets_list(lists, entries) {
             return Ok(());
         }
         let list = self.read_list(level, entries)?;
@@ -137,8 +162,8 @@ impl Arena {
     }
 
     // Counts a key that has come in behind the level at a place in the level's list. Where others begin with its next
-    // piece the list is raised there; else that is a new entry, and a level without a list may get it. The error is
-    // want of memory, and then the level has none.
+    // piece the list is raised there; else that is a new entry. A level without a list may get it. The error is want of
+    // memory, and then the level has none.
     #[inline(always)]
     fn list_more(
         &self,
@@ -153,7 +178,7 @@ impl Arena {
         requires begun { IsBegun (world_of self.now) at rest.now beside }
         ensures here { (list : FinMap word_order ℕ) → list_at lists.new (at / 256) ≡ Some list
             → IsListed (world_of self.now) at list }
-        ensures wide { OnOk result (beside ≡ false → 32 < keys_told (child_at self.now at)
+        ensures wide { OnOk result (32 < keys_told (child_at self.now at)
             → GetsList (child_at self.now at) → IsSome (list_at lists.new (at / 256))) }
         ensures others { AreOthers (at / 256) lists.old lists.new }
     {
@@ -162,13 +187,13 @@ impl Arena {
             return Ok(());
         }
         let index = (at / 256) as usize;
+        if lists.get(index).is_none() {
+            return self.list_wide(lists, at);
+        }
         if beside {
             return lists.raise(index, first_piece(rest));
         }
-        if lists.get(index).is_some() {
-            return Ok(());
-        }
-        self.list_wide(lists, at)
+        Ok(())
     }
 
     // Counts a key that has gone no more. Where few keys are left, the list goes too.
@@ -193,8 +218,8 @@ impl Arena {
     }
 
     // Counts a key in at the list of a level on its way, or out. Where memory is refused the level has no list. Of a
-    // key that comes it is told whether others begin with its next piece. It is told to be inlined, with the two above:
-    // most levels have no list, and a call that finds that out is dear for each of them.
+    // key that comes it is told whether others begin with its next piece. It is told to be inlined, with the three
+    // above: most levels have no list, and a call that finds that out is dear for each of them.
     #[inline(always)]
     fn list_key(&self, lists: &mut LevelSums, at: u64, rest: &[u8], comes: bool, beside: bool)
         requires is_arena { IsArena self.now }

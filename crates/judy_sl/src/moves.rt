@@ -146,4 +146,10 @@ impl<L: KeyLength> StringsOf<L> {
         self.arena.settle_all();
         self.arena.trim_levels();
     }
+
+    /// Whether, since its keys were last moved together, a quarter as many have gone as are left: then a copy of the
+    /// array takes far less memory than the array. No answer of the array depends on it. (This project's own.)
+    pub fn lost_many(&self) -> bool {
+        self.gone >= self.len() / 4
+    }
 }

@@ -203,7 +203,7 @@ fn listed_spot(level: &WordMap, list: &Sums, place: u64) -> EntryPlace
 }
 
 // The entries of a level from a place on.
-fn entries_at(level: &WordMap, place: u64) -> Entries<'_>
+pub fn entries_at(level: &WordMap, place: u64) -> Entries<'_>
     requires within { place < map.len level.now.map }
     requires fits { place + 1 < 2 ^ 64 }
     ensures { result ≡ drop place (map.entries level.now.map) }

@@ -16,7 +16,7 @@ ghost use Rattle.judy_sl.specs.Shrunk.{place_without, value_removed, IsVacated, 
 ghost use Rattle.judy_sl.specs.Strings.{IsString};
 
 use crate::arena::{Arena, Place, place_in};
-use crate::child::{ChildRef, is_level};
+use crate::child::{ChildRef, is_level, value_of};
 use crate::passed::{LevelNotes, Notes};
 use crate::pieces::first_piece;
 use judy_word::WordMap;
@@ -84,13 +84,7 @@ impl Arena {
                     level = next;
                     child = Some(at);
                 }
-                ChildRef::Tail(tail) => {
-                    return if tail.is(rest) {
-                        Some((last, tail.value()))
-                    } else {
-                        None
-                    };
-                }
+                ChildRef::Tail(tail) => return Some((last, value_of(&tail, rest)?)),
             }
         }
         let piece = first_piece(rest);

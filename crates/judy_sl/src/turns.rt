@@ -258,12 +258,7 @@ impl Arena {
                 ChildRef::Tail(tail) => {
                     let met = look.meets(&tail, rest);
                     return if met {
-                        Some(Turn {
-                            child,
-                            piece,
-                            value: at,
-                            depth,
-                        })
+                        nearer(child, Some((piece, at)), depth, turn)
                     } else {
                         turn
                     };

@@ -7,7 +7,7 @@ use Rattle.std.specs.Cmp.{nat_cmp_total, tied_itself}
 use Rattle.std.specs.FinMap.{FinMap, nat_cmp-IsAntisymmetric, empty, entries, entries_sorted, entries-insert, find, get, get-entries, get-empty, insert, len, len-entries, len-insert, len-empty}
 use Rattle.std.proofs.lemmas.Bool.{cases_eq, cases_lt, lt-ltb, le-ltb, false_from_ne_true}
 use Rattle.std.proofs.Math.Seq.{drop-cons}
-use Rattle.std.proofs.lemmas.List.{length-append, take-append-drop}
+use Rattle.std.proofs.lemmas.List.{get_or-drop, get_or-take, length-append, length-drop, take-append-drop}
 use Rattle.std.proofs.lemmas.List.Concat.{flat_map-cons}
 use Rattle.std.proofs.lemmas.Option.{none-some, same_Some}
 use Rattle.judy_model.specs.Keys.{word_order}
@@ -20,7 +20,7 @@ use Rattle.judy_sums.proofs.ChunkLemmas.{sum_put}
 use Rattle.judy_sl.specs.World.{World}
 use Rattle.judy_sl.specs.Behind.{entry_keys}
 use Rattle.judy_sl.specs.Counted.{keys_behind_all}
-use Rattle.judy_sl.specs.Listed.{with_entry, IsPageList}
+use Rattle.judy_sl.specs.Listed.{with_entry, IsListing}
 use Rattle.judy_sl.proofs.lemmas.places.PageCounts.{front_rest}
 use Rattle.judy_sl.proofs.lemmas.seats.Linked.{get-insert_here, get-insert_off}
 
@@ -30,14 +30,8 @@ sum_none [] none = refl
 sum_none (pair ∷ rest) none = absurd (let never : ⊥ = omega (arith, none) in never)
 
 module _ (world : World) where
-  -- So far these entries are read.
-  pub record IsListing (page : Pairs) (list : FinMap word_order ℕ) : Type 0 where
-    pub listed : IsPageList world page list
-    pub sum : sum_of (entries list) ≤ keys_behind_all world page
-    pub few : len list ≤ length page
-
-  pub listing_start : (list : FinMap word_order ℕ) → list ≡ empty → IsListing [] list
-  listing_start list none = subst (IsListing []) (sym none) (record {
+  pub listing_start : (list : FinMap word_order ℕ) → list ≡ empty → IsListing world [] list
+  listing_start list none = subst (IsListing world []) (sym none) (record {
     listed = record {
       numbers = λ piece. ap (λ (found : Option ℕ). unwrap_or found 0) (get-empty word_order piece);
       some = λ piece number held. absurd (none-some number (sym (get-empty word_order piece) ∙ held));
@@ -46,7 +40,7 @@ module _ (world : World) where
     few = (let nothing = len-empty word_order ℕ in omega (arith, nothing));
   })
 
-  module _ (piece value : ℕ) (rest : Pairs) (ascend : Ascends ((piece, value) ∷ rest)) (list : FinMap word_order ℕ) (so_far : IsListing rest list) where
+  module _ (piece value : ℕ) (rest : Pairs) (ascend : Ascends ((piece, value) ∷ rest)) (list : FinMap word_order ℕ) (so_far : IsListing world rest list) where
     abbrev keys : ℕ
     keys = length (entry_keys world (piece, value))
 
@@ -79,7 +73,7 @@ module _ (world : World) where
     abbrev told : ℕ → Option ℕ → ℕ
     told other found = length (part_of (entry_keys world) other found) - 1
 
-    listing_none : keys ≤ 1 → IsListing ((piece, value) ∷ rest) list
+    listing_none : keys ≤ 1 → IsListing world ((piece, value) ∷ rest) list
     listing_none one = record {
       listed = record {
         numbers = λ other. ⊎_elim
@@ -99,7 +93,7 @@ module _ (world : World) where
     abbrev with : FinMap word_order ℕ
     with = insert list piece (keys - 1)
 
-    listing_more : 2 ≤ keys → IsListing ((piece, value) ∷ rest) with
+    listing_more : 2 ≤ keys → IsListing world ((piece, value) ∷ rest) with
     listing_more many = record {
       listed = record {
         numbers = λ other. ⊎_elim
@@ -134,36 +128,43 @@ module _ (world : World) where
     }
 
     -- It comes in.
-    pub listing_on : IsListing ((piece, value) ∷ rest) (with_entry list piece keys)
+    pub listing_on : IsListing world ((piece, value) ∷ rest) (with_entry list piece keys)
     listing_on = ⊎_elim
-        (λ (more : 1 < keys). subst (λ b. IsListing ((piece, value) ∷ rest) (cond b with list)) (sym (lt-ltb 1 keys more)) (listing_more more))
-        (λ (one : keys ≤ 1). subst (λ b. IsListing ((piece, value) ∷ rest) (cond b with list)) (sym (le-ltb 1 keys one)) (listing_none one))
+        (λ (more : 1 < keys). subst (λ b. IsListing world ((piece, value) ∷ rest) (cond b with list)) (sym (lt-ltb 1 keys more)) (listing_more more))
+        (λ (one : keys ≤ 1). subst (λ b. IsListing world ((piece, value) ∷ rest) (cond b with list)) (sym (le-ltb 1 keys one)) (listing_none one))
         (cases_lt 1 keys)
 
 -- ---- one entry more of a page
 
-module _ (world : World) (page : Pairs) (ascends : Ascends page) (at left : ℕ) (is : suc at ≡ left) (within : left ≤ length page) (list : FinMap word_order ℕ)
-    (so_far : IsListing world (drop left page) list) where
-  abbrev entry : ℕ × ℕ
-  entry = get_or page at (0, 0)
+-- An entry of a page that was read from a place on.
+pub page_entry : (all page : Pairs) (start long at : ℕ) → page ≡ take long (drop start all) → at < long → get_or page at (0, 0) ≡ get_or all (start + at) (0, 0)
+page_entry all page start long at read below = ap (λ (pairs : Pairs). get_or pairs at (0, 0)) read ∙ get_or-take long (drop start all) at (0, 0) below ∙ get_or-drop start all at (0, 0)
 
-  page_split : drop at page ≡ (entry.0, entry.1) ∷ drop left page
-  page_split = drop-cons page at (0, 0) (omega (arith, is, within)) ∙ ap (λ n. get_or page at (0, 0) ∷ drop n page) is
+module _ (world : World) (all : Pairs) (ascends : Ascends all) (at left : ℕ) (is : suc at ≡ left) (within : left ≤ length all) (entry : ℕ × ℕ) (here : entry ≡ get_or all at (0, 0))
+    (list : FinMap word_order ℕ) (so_far : IsListing world (drop left all) list) where
+  page_split : drop at all ≡ (entry.0, entry.1) ∷ drop left all
+  page_split = drop-cons all at (0, 0) (omega (arith, is, within)) ∙ ap (λ n. get_or all at (0, 0) ∷ drop n all) is ∙ ap (λ (first : ℕ × ℕ). first ∷ drop left all) (sym here)
 
-  page_ascends : Ascends ((entry.0, entry.1) ∷ drop left page)
-  page_ascends = subst Ascends page_split (tail_ascends (take at page) (drop at page) (subst Ascends (sym (take-append-drop at page)) ascends))
+  page_ascends : Ascends ((entry.0, entry.1) ∷ drop left all)
+  page_ascends = subst Ascends page_split (tail_ascends (take at all) (drop at all) (subst Ascends (sym (take-append-drop at all)) ascends))
 
   pub page_absent : get list entry.0 ≡ None
-  page_absent = listing_absent world entry.0 entry.1 (drop left page) page_ascends list so_far
+  page_absent = listing_absent world entry.0 entry.1 (drop left all) page_ascends list so_far
 
-  pub page_fits : keys_behind_all world page < 2 ^ 64 → sum_of (entries list) + length (entry_keys world (entry.0, entry.1)) < 2 ^ 64
+  pub page_few : length all < 2 ^ 64 → len list + 1 < 2 ^ 64
+  page_few few =
+      let rest = length-drop left all in
+      let words = so_far.few in
+      omega (arith, rest, words, is, within, few)
+
+  pub page_fits : keys_behind_all world all < 2 ^ 64 → sum_of (entries list) + length (entry_keys world (entry.0, entry.1)) < 2 ^ 64
   page_fits fits =
-      let all = ap (keys_behind_all world) page_split ∙ listing_keys world entry.0 entry.1 (drop left page) page_ascends list so_far in
-      let whole = front_rest world page at in
+      let more = ap (keys_behind_all world) page_split ∙ listing_keys world entry.0 entry.1 (drop left all) page_ascends list so_far in
+      let whole = front_rest world all at in
       let sum = so_far.sum in
-      omega (arith, all, whole, sum, fits)
+      omega (arith, more, whole, sum, fits)
 
-  pub page_on : (made : FinMap word_order ℕ) → made ≡ with_entry list entry.0 (length (entry_keys world (entry.0, entry.1))) → IsListing world (drop at page) made
+  pub page_on : (made : FinMap word_order ℕ) → made ≡ with_entry list entry.0 (length (entry_keys world (entry.0, entry.1))) → IsListing world (drop at all) made
   page_on made made_is =
       subst (λ (pairs : Pairs). IsListing world pairs made) (sym page_split)
-      (subst (IsListing world ((entry.0, entry.1) ∷ drop left page)) (sym made_is) (listing_on world entry.0 entry.1 (drop left page) page_ascends list so_far))
+      (subst (IsListing world ((entry.0, entry.1) ∷ drop left all)) (sym made_is) (listing_on world entry.0 entry.1 (drop left all) page_ascends list so_far))

@@ -45,10 +45,6 @@ pub on_ok : {E P Q : Type 0} (result : Result (Unit {0}) E) → (P → Q) → On
 on_ok (Ok value) goes holds = goes holds
 on_ok (Err error) goes holds = tt
 
-pub always_ok : {E P : Type 0} (result : Result (Unit {0}) E) → P → OnOk result P
-always_ok (Ok value) holds = holds
-always_ok (Err error) holds = tt
-
 -- ---- one list
 
 module _ {at : ℕ} {rest : List ℕ} {list : FinMap word_order ℕ} (arena : Arena) (off : LacksKey (world_of arena) at rest list) where

@@ -58,8 +58,9 @@ returns-then-met-clause-is_turn c =
     let entry = sym (ap (λ p. get c.loop-rest.level.now.map p) c.loop-rest.invariant.piece) ∙ sym c.around-found.ensures.found ∙ c.in-Some.is in
     let met = met_along c.args.look (world_of c.args.self.now) c.loop-rest.rest.now c.in-Tail.tail.0 c.loop-rest.invariant.on.scan.text
     (subst HasText c.in-Tail.ensures (c.requires.is_arena.texts c.in-Some.at)) c.meets-met.ensures in
-    rw c.loop-rest.invariant.piece (on_tail c.args.look (world_of c.args.self.now) c.args.key.now c.loop-rest.child c.loop-rest.level.now.map c.loop-rest.rest.now
-    c.loop-rest.turn c.loop-rest.invariant.on c.loop-rest-test.true c.in-Some.at c.in-Tail.tail.1 (pieces c.in-Tail.tail.0) entry (ap node_of c.in-Tail.ensures) (met ∙ c.if-met.true))
+    rw (c.nearer.ensures, c.loop-rest.invariant.piece) (on_tail c.args.look (world_of c.args.self.now) c.args.key.now c.loop-rest.child c.loop-rest.level.now.map
+    c.loop-rest.rest.now c.loop-rest.turn c.loop-rest.invariant.on c.loop-rest-test.true c.in-Some.at c.in-Tail.tail.1 (pieces c.in-Tail.tail.0) entry (ap node_of c.in-Tail.ensures)
+    (met ∙ c.if-met.true))
 
 pub returns-else-met-clause-is_turn : goal.returns-else-met-clause-is_turn
 returns-else-met-clause-is_turn c =
@@ -81,6 +82,6 @@ pub returns-clause-is_turn : goal.returns-clause-is_turn
 returns-clause-is_turn c =
     let words = c.loop-rest.level.now.map in
     let nearest = subst (λ p. IsNearestEntry c.args.look.side c.args.look.itself words p (piece_in c.last_entry.result)) c.loop-rest.invariant.piece c.last_entry.ensures.nearest in
-    subst (IsTurn c.args.look (world_of c.args.self.now) c.args.key.now) (sym c.nearer.ensures)
+    subst (IsTurn c.args.look (world_of c.args.self.now) c.args.key.now) (sym c.nearer-2.ensures)
     (on_last c.args.look (world_of c.args.self.now) c.args.key.now c.loop-rest.child words c.loop-rest.rest.now c.loop-rest.turn c.loop-rest.invariant.on c.last_entry.result
     (omega arith) nearest c.last_entry.ensures.value)

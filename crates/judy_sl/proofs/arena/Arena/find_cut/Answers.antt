@@ -1,4 +1,4 @@
-use Rattle.std.proofs.Common.{◌≡◌, ◌+◌, [], ◌∷◌, ◌++◌, ◌∙◌, ℕ, suc, List, Some, refl, sym, ap, arith, length, drop, subst, true≢false}
+use Rattle.std.proofs.Common.{◌≡◌, ◌+◌, [], ◌∷◌, ◌++◌, ◌∙◌, ℕ, suc, List, Some, refl, sym, ap, arith, length, drop, subst}
 use Rattle.std.proofs.lemmas.List.{take_rest}
 use Rattle.std.specs.FinMap.{get}
 use Rattle.judy_sl.specs.Arenas.{world_of, node_of, HasText}
@@ -60,18 +60,19 @@ loop-rest-preserved g c =
           one ∙ ap (λ n. suc n) c.loop-rest.invariant.deep ∙ sym (moved-deep _ _ _ _ _ c.loop-rest.invariant.on _ _ _ _ _ _));
     })
 
-pub is-requires : goal.is-requires
-is-requires g c = rw take_rest (ends-text (drop 8 c.loop-rest.rest.now) (text-drop 8 c.loop-rest.rest.now (c.loop-rest.invariant.on.text (text_of_key c.args.key.now c.requires.is_key))))
+pub value_of-requires : goal.value_of-requires
+value_of-requires g c = rw take_rest (ends-text (drop 8 c.loop-rest.rest.now) (text-drop 8 c.loop-rest.rest.now (c.loop-rest.invariant.on.text (text_of_key c.args.key.now c.requires.is_key))))
 
-pub returns-then-is-clause-cut : goal.returns-then-is-clause-cut
-returns-then-is-clause-cut g c =
+pub returns-in-Tail-clause-cut : goal.returns-in-Tail-clause-cut
+returns-in-Tail-clause-cut g c =
     let deeper = subst (λ (xs : List ℕ). IsDeeper c.loop-rest.cut c.loop-rest.level.now.map (record {
       place = c.place_in.result;
       below = Some c.in_ok-at.at;
       left = length xs;
       depth = c.loop-rest.depth;
     }) c.deeper-last.result) (take_rest c.loop-rest.rest.now 8) c.deeper-last.ensures in
-    let same = c.is.ensures.0 c.if-is.true ∙ take_rest c.loop-rest.rest.now 8 in (
+    let found = c.in_ok-value_of-in-Tail.ensures.same in
+    let same = found.0 ∙ take_rest c.loop-rest.rest.now 8 in (
       cut-tail (world_of c.args.self.now) c.args.key.now c.in_ok-at.at (drop 8 c.loop-rest.rest.now) c.in-Tail.tail.0 c.in-Tail.tail.1 c.deeper-last.result
           (ap node_of c.in-Tail.ensures) same (cut-on
           (world_of c.args.self.now) c.args.key.now c.loop-rest.child c.loop-rest.level.now.map c.loop-rest.rest.now c.loop-rest.invariant.on
@@ -81,17 +82,18 @@ returns-then-is-clause-cut g c =
       found-tail _ _ _ _ _ c.loop-rest.invariant.on c.loop-rest-test.true (piece-IsInner c.loop-rest.rest.now
           (c.loop-rest.invariant.on.text (text_of_key c.args.key.now c.requires.is_key)) c.loop-rest-test.true) c.in_ok-at.at
           (sym (ap (λ p. get c.loop-rest.level.now.map p) c.first_piece-piece.ensures) ∙ sym c.get.ensures ∙ c.in_ok-at.was) c.in-Tail.tail.0 c.in-Tail.tail.1
-          (ap node_of c.in-Tail.ensures) same ∙ ap (λ value. Some value) (sym c.value.ensures),
+          (ap node_of c.in-Tail.ensures) same ∙ ap (λ value. Some value) (sym found.1),
     )
 
-pub returns-else-is-clause-cut : goal.returns-else-is-clause-cut
-returns-else-is-clause-cut g c =
+pub returns-in_err-value_of-in-Tail-clause-cut : goal.returns-in_err-value_of-in-Tail-clause-cut
+returns-in_err-value_of-in-Tail-clause-cut g c =
     let child = c.in-Tail.ensures in
-    found-clash _ _ _ _ _ c.loop-rest.invariant.on c.loop-rest-test.true (piece-IsInner c.loop-rest.rest.now
+    subst (IsCut (world_of c.args.self.now) c.args.key.now) (sym c.from_residual-in_err-value_of-in-Tail.ensures)
+    (found-clash _ _ _ _ _ c.loop-rest.invariant.on c.loop-rest-test.true (piece-IsInner c.loop-rest.rest.now
     (c.loop-rest.invariant.on.text (text_of_key c.args.key.now c.requires.is_key)) c.loop-rest-test.true) c.in_ok-at.at
     (sym (ap (λ p. get c.loop-rest.level.now.map p) c.first_piece-piece.ensures) ∙ sym c.get.ensures ∙ c.in_ok-at.was) c.in-Tail.tail.0 c.in-Tail.tail.1
-    (ap node_of child) (subst HasText child (c.requires.is_arena.texts c.in_ok-at.at)) (λ e. true≢false (sym (c.is.ensures.1 (e ∙ sym (take_rest c.loop-rest.rest.now 8))) ∙ c.if-is.false))
-    (text_of_key c.args.key.now c.requires.is_key)
+    (ap node_of child) (subst HasText child (c.requires.is_arena.texts c.in_ok-at.at)) (λ e. c.in_err-value_of-in-Tail.ensures.other refl (e ∙ sym (take_rest c.loop-rest.rest.now 8)))
+    (text_of_key c.args.key.now c.requires.is_key))
 
 pub returns-in_err-value-clause-cut : goal.returns-in_err-value-clause-cut
 returns-in_err-value-clause-cut g c =
@@ -111,8 +113,8 @@ returns-clause-cut g c = (
 
 -- ---- the levels that the way passed
 
-pub returns-then-is-clause-passed : goal.returns-then-is-clause-passed
-returns-then-is-clause-passed g c =
+pub returns-in-Tail-clause-passed : goal.returns-in-Tail-clause-passed
+returns-in-Tail-clause-passed g c =
     λ some. subst (λ places. g.N.Notes.has c.loop-rest.notes places) (noted-tail _ _ _ c.loop-rest.invariant.on.is_level _ c.loop-rest-test.true c.in_ok-at.at
     (sym (ap (λ p. get c.loop-rest.level.now.map p) c.first_piece-piece.ensures) ∙ sym c.get.ensures ∙ c.in_ok-at.was) _ _ (ap node_of c.in-Tail.ensures) _ _ c.loop-rest.invariant.ahead)
     c.loop-rest.invariant.has

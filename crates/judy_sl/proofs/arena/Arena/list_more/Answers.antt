@@ -1,4 +1,4 @@
-use Rattle.std.proofs.Common.{ℕ, sym, ap, subst, ◌∙◌, arith, true≢false}
+use Rattle.std.proofs.Common.{ℕ, sym, ap, subst, ◌∙◌, arith}
 use Rattle.std.specs.FinMap.{FinMap, len}
 use Rattle.judy_model.specs.Keys.{byte_order}
 use Rattle.judy_sums.specs.Pairs.{raised}
@@ -7,7 +7,7 @@ use Rattle.judy_sl.specs.Listed.{IsListed, IsBegun}
 use Rattle.judy_sl.proofs.lemmas.seats.Maps.{len-added}
 use Rattle.judy_sl.proofs.lemmas.counts.Beginnings.{firsts_len, firsts_sum}
 use Rattle.judy_sl.proofs.lemmas.counts.KeysTold.{level_counted}
-use Rattle.judy_sl.proofs.lemmas.counts.ListSteps.{was_raised, on_ok, always_ok, more_listed, none_listed}
+use Rattle.judy_sl.proofs.lemmas.counts.ListSteps.{was_raised, more_listed, none_listed}
 use Rattle.judy_sl.proofs.arena.Arena.list_more.Goals as goal
 
 pub returns-then-keys-le-FEW-clause-here : goal.returns-then-keys-le-FEW-clause-here
@@ -15,11 +15,6 @@ returns-then-keys-le-FEW-clause-here c list some =
     let off = c.requires.off.list list some in
     let told = level_counted c.args.self.now c.requires.counted c.args.at c.requires.off.there in
     absurd (let never : ⊥ = omega (arith, off.many, told, c.keys_told-keys.ensures, c.if-keys-le-FEW.true) in never)
-
-pub list_wide-requires-clause-fits : goal.list_wide-requires-clause-fits
-list_wide-requires-clause-fits c =
-    let told = level_counted c.args.self.now c.requires.counted c.args.at c.requires.off.there in
-    omega (arith, told, c.keys_told-keys.ensures, c.keys_told-keys.type_inv)
 
 pub raise-requires-clause-few : goal.raise-requires-clause-few
 raise-requires-clause-few c list some =
@@ -37,9 +32,6 @@ raise-requires-clause-fits c list some =
     let sum = firsts_sum off.all list off.firsts in
     omega (arith, told, more, sum, c.keys_told-keys.ensures, c.keys_told-keys.type_inv)
 
-pub returns-then-keys-le-FEW-clause-wide : goal.returns-then-keys-le-FEW-clause-wide
-returns-then-keys-le-FEW-clause-wide c last many gets = absurd (let never : ⊥ = omega (arith, many, c.keys_told-keys.ensures, c.if-keys-le-FEW.true) in never)
-
 pub returns-then-beside-clause-here : goal.returns-then-beside-clause-here
 returns-then-beside-clause-here c list some =
     let was = was_raised c.raise.result _ _ c.first_piece.result c.raise.ensures.raised c.raise.ensures.forgotten list some in
@@ -47,17 +39,6 @@ returns-then-beside-clause-here c list some =
     let many = subst (IsBegun (world_of c.args.self.now) c.args.at c.args.rest.now) c.if-beside.true c.requires.begun in
     subst (IsListed (world_of c.args.self.now) c.args.at) (sym (was.2 ∙ ap (raised was.0) c.first_piece.ensures)) (more_listed c.args.self.now off many)
 
-pub returns-then-beside-clause-wide : goal.returns-then-beside-clause-wide
-returns-then-beside-clause-wide c = always_ok c.raise.result (λ last. absurd (true≢false (sym c.if-beside.true ∙ last)))
-
-pub returns-then-is_some-clause-here : goal.returns-then-is_some-clause-here
-returns-then-is_some-clause-here c list some =
-    none_listed c.args.self.now (c.requires.off.list list some) (subst (IsBegun (world_of c.args.self.now) c.args.at c.args.rest.now) c.if-beside.false c.requires.begun)
-
 pub returns-clause-here : goal.returns-clause-here
 returns-clause-here c list some =
-    let told = level_counted c.args.self.now c.requires.counted c.args.at c.requires.off.there in
-    record { firsts = c.list_wide.ensures.right list some; many = omega (arith, told, c.keys_told-keys.ensures, c.if-keys-le-FEW.false) }
-
-pub returns-clause-wide : goal.returns-clause-wide
-returns-clause-wide c = on_ok c.list_wide.result (λ wide last many gets. wide gets) c.list_wide.ensures.wide
+    none_listed c.args.self.now (c.requires.off.list list some) (subst (IsBegun (world_of c.args.self.now) c.args.at c.args.rest.now) c.if-beside.false c.requires.begun)

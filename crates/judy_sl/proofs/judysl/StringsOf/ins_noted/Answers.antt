@@ -1,11 +1,12 @@
-use Rattle.std.proofs.Common.{◌≡◌, ◌∙◌, ℕ, MutBor, Result, Ok, Err, sym, refl, ap, inl, inr, is_some, arith}
+use Rattle.std.proofs.Common.{◌≡◌, ◌∙◌, ℕ, List, MutBor, Result, Ok, Err, IsTrue, sym, refl, ap, inl, inr, is_some, arith}
 use Rattle.std.specs.Result.{IsErrAnd}
-use Rattle.judy_model.specs.Arrays.{ArrayOf}
+use Rattle.judy_model.specs.Arrays.{ArrayOf, is_full}
 use Rattle.judy_model.specs.Keys.{byte_order}
 use Rattle.judy_sl.specs.Lends.{with_value}
 use Rattle.judy_sl.specs.declared.error.SlError.{SlError}
-use Rattle.judy_sl.specs.declared.error.SlError.TheVariants.{NoMemory}
-use Rattle.judy_sl.specs.Arenas.{world_of}
+use Rattle.judy_sl.specs.declared.error.SlError.TheVariants.{BadKey, Full, NoMemory}
+use Rattle.judy_sl.specs.Refusals.{IsRefusal, IsUnfit}
+use Rattle.judy_sl.specs.Arenas.{world_of, array_of}
 use Rattle.judy_sl.specs.Ways.{levels_passed}
 use Rattle.judy_sl.proofs.lemmas.counts.FirstWays.{firsts_slot, added_first}
 use Rattle.judy_sl.proofs.lemmas.counts.CountedWrites.{counted_written}
@@ -113,37 +114,17 @@ returns-in-At g c =
 
 -- ---- absent
 
-pub invariant_of-self-then-not-is_key_of : goal.invariant_of-self-then-not-is_key_of
-invariant_of-self-then-not-is_key_of g c =
-    let settled = c.in_ok-place.ensures.open c.in_default.is in (
-      settled-strings c.self.inside.arena c.try_first.new.self settled c.self.inside.limit c.self.inside.count c.self.invariant.0,
-      settled.kept.counted,
-      settled-firsts c.self.inside.arena c.try_first.new.self settled c.self.inside.firsts c.self.invariant.2,
-      settled-listed c.self.inside.arena c.try_first.new.self settled c.self.inside.lists c.self.invariant.3,
-    )
-
-pub invariant_of-self-then-self : goal.invariant_of-self-then-self
-invariant_of-self-then-self g c =
-    let settled = c.in_ok-place.ensures.open c.in_default.is in (
-      settled-strings c.self.inside.arena c.try_first.new.self settled c.self.inside.limit c.self.inside.count c.self.invariant.0,
-      settled.kept.counted,
-      settled-firsts c.self.inside.arena c.try_first.new.self settled c.self.inside.firsts c.self.invariant.2,
-      settled-listed c.self.inside.arena c.try_first.new.self settled c.self.inside.lists c.self.invariant.3,
-    )
-
-pub returns-then-self : goal.returns-then-self
-returns-then-self g c =
-    let settled = c.in_ok-place.ensures.open c.in_default.is in
-    let is = settled-strings c.self.inside.arena c.try_first.new.self settled c.self.inside.limit c.self.inside.count c.self.invariant.0 in
-    let view = settled_array c.self.inside.arena c.try_first.new.self c.self.invariant.0.is_arena settled c.self.inside.limit ∙ c.self.view_is in
-    let is_key = c.is_key_of.ensures.0 c.if-not-is_key_of.false in
-    let key = string_of_key g.L.KeyLength c.args.key.now is_key in
-    let none = get-map c.try_first.new.self c.args.key.now key ∙ way-none c.try_first.new.self c.args.key.now c.walk.result (c.walk.ensures.way (text_of_key _ key))
-    (is-new c.walk.result c.in_default-walk.not-At) in
-    (ap (λ a. inr a) view, rw (← view) (record { writes_back = tt; value = tt; accepted = tt; refused = (is_key, absent-full _ _ _ is c.args.key.now key none c.if-self.true) }))
-
 pub invariant_of-self-in-Break-branch-3 : goal.invariant_of-self-in-Break-branch-3
 invariant_of-self-in-Break-branch-3 g c =
+    let settled = c.in_ok-place.ensures.open c.in_default.is in (
+      settled-strings c.self.inside.arena c.try_first.new.self settled c.self.inside.limit c.self.inside.count c.self.invariant.0,
+      settled.kept.counted,
+      settled-firsts c.self.inside.arena c.try_first.new.self settled c.self.inside.firsts c.self.invariant.2,
+      settled-listed c.self.inside.arena c.try_first.new.self settled c.self.inside.lists c.self.invariant.3,
+    )
+
+pub invariant_of-self-in-Break-branch-4 : goal.invariant_of-self-in-Break-branch-4
+invariant_of-self-in-Break-branch-4 g c =
     let settled = c.in_ok-place.ensures.open c.in_default.is in
     let is = settled-strings c.self.inside.arena c.try_first.new.self settled c.self.inside.limit c.self.inside.count c.self.invariant.0 in
     let refused = c.in_err-made-in_default-walk.ensures.refused in (
@@ -153,10 +134,17 @@ invariant_of-self-in-Break-branch-3 g c =
       c.insert.ensures.listed,
     )
 
--- Want of memory, as `?` hands it on.
-no_memory : (result : Result (MutBor ℕ) SlError) → IsErrAnd result (λ error. error ≡ NoMemory) → result ≡ Err NoMemory
-no_memory (Ok slot) is = absurd is
-no_memory (Err error) is = ap (λ (e : SlError). Err e) is
+-- An error, as `?` hands it on.
+handed : (result : Result (MutBor ℕ) SlError) (told : SlError) → IsErrAnd result (λ error. error ≡ told) → result ≡ Err told
+handed (Ok slot) told is = absurd is
+handed (Err error) told is = ap (λ (e : SlError). Err e) is
+
+-- Why bytes that aren't there can't come in, as the array tells it.
+refusal : (IsKey : List ℕ → Type 0) (array : ArrayOf byte_order) (key : List ℕ) (count limit : ℕ) → (IsKey key → count ≡ limit → IsTrue (is_full array key)) → (error : SlError) →
+    IsUnfit IsKey count limit key error → IsRefusal IsKey array key error
+refusal IsKey array key count limit full BadKey unfit = unfit
+refusal IsKey array key count limit full Full unfit = (unfit.0, full unfit.0 unfit.1)
+refusal IsKey array key count limit full NoMemory unfit = absurd unfit
 
 pub returns-in_err-place : goal.returns-in_err-place
 returns-in_err-place g c =
@@ -164,9 +152,33 @@ returns-in_err-place g c =
     let key = string_of_key g.L.KeyLength c.args.key.now is_key in
     let none = c.in_err-place.ensures.absent in
     let room = tried-room c.self.inside.expects_new c.self.inside.count c.self.inside.limit c.in_err-place.ensures.tried in
-    rw (no_memory c.from_residual.result c.from_residual.ensures.1) (
+    rw (handed c.from_residual.result NoMemory c.from_residual.ensures.1) (
       ap (λ a. inr a) (settled_array c.self.inside.arena c.try_first.new.self c.self.invariant.0.is_arena c.in_err-place.ensures.refused c.self.inside.limit ∙ c.self.view_is),
       record { writes_back = tt; value = tt; accepted = tt; refused = rw (← c.self.view_is) (is_key, none, absent-room _ _ _ c.self.invariant.0 c.args.key.now key none room) },
+    )
+
+pub returns-in_err-accept-in_default-walk : goal.returns-in_err-accept-in_default-walk
+returns-in_err-accept-in_default-walk g c =
+    let settled = c.in_ok-place.ensures.open c.in_default.is in
+    let is = settled-strings c.self.inside.arena c.try_first.new.self settled c.self.inside.limit c.self.inside.count c.self.invariant.0 in
+    let view = settled_array c.self.inside.arena c.try_first.new.self c.self.invariant.0.is_arena settled c.self.inside.limit ∙ c.self.view_is in
+    let full : g.L.KeyLength.IsKey c.args.key.now → c.self.inside.count ≡ c.self.inside.limit → IsTrue (is_full (array_of c.self.inside.limit c.try_first.new.self) c.args.key.now) =
+    (λ is_key same.
+    let key = string_of_key g.L.KeyLength c.args.key.now is_key in
+    let none = get-map c.try_first.new.self c.args.key.now key ∙ way-none c.try_first.new.self c.args.key.now c.walk.result (c.walk.ensures.way (text_of_key _ key))
+    (is-new c.walk.result c.in_default-walk.not-At) in
+    absent-full _ _ _ is c.args.key.now key none same) in
+    let error = c.in_err-accept-in_default-walk.field-0.0 in
+    rw (handed c.from_residual-in_err-accept-in_default-walk.result error c.from_residual-in_err-accept-in_default-walk.ensures.1) (
+      ap (λ a. inr a) view,
+      record {
+        writes_back = tt;
+        value = tt;
+        accepted = tt;
+        refused =
+            rw (← view) (refusal g.L.KeyLength.IsKey (array_of c.self.inside.limit c.try_first.new.self) c.args.key.now c.self.inside.count c.self.inside.limit full error
+            c.in_err-accept-in_default-walk.ensures.refused);
+      },
     )
 
 pub returns-in_err-made-in_default-walk : goal.returns-in_err-made-in_default-walk
@@ -174,25 +186,25 @@ returns-in_err-made-in_default-walk g c =
     let settled = c.in_ok-place.ensures.open c.in_default.is in
     let is = settled-strings c.self.inside.arena c.try_first.new.self settled c.self.inside.limit c.self.inside.count c.self.invariant.0 in
     let view = settled_array c.self.inside.arena c.try_first.new.self c.self.invariant.0.is_arena settled c.self.inside.limit ∙ c.self.view_is in
-    let is_key = c.is_key_of.ensures.0 c.if-not-is_key_of.false in
+    let is_key = c.in_ok-accept-in_default-walk.ensures.accepted.0 in
     let key = string_of_key g.L.KeyLength c.args.key.now is_key in
     let none = get-map c.try_first.new.self c.args.key.now key ∙ way-none c.try_first.new.self c.args.key.now c.walk.result (c.walk.ensures.way (text_of_key _ key))
     (is-new c.walk.result c.in_default-walk.not-At) in
-    rw (no_memory c.from_residual-in_err-made-in_default-walk.result c.from_residual-in_err-made-in_default-walk.ensures.1) (
+    rw (handed c.from_residual-in_err-made-in_default-walk.result NoMemory c.from_residual-in_err-made-in_default-walk.ensures.1) (
       ap (λ a. inr a) (settled_array c.try_first.new.self c.insert.new.arena settled.kept.is_arena c.in_err-made-in_default-walk.ensures.refused c.self.inside.limit ∙ view),
-      record { writes_back = tt; value = tt; accepted = tt; refused = rw (← view) (is_key, none, absent-room _ _ _ is c.args.key.now key none c.if-self.false) },
+      record { writes_back = tt; value = tt; accepted = tt; refused = rw (← view) (is_key, none, absent-room _ _ _ is c.args.key.now key none c.in_ok-accept-in_default-walk.ensures.accepted.1) },
     )
 
 pub invariant_of-self-lent-2 : goal.invariant_of-self-lent-2
 invariant_of-self-lent-2 g c w =
     let settled = c.in_ok-place.ensures.open c.in_default.is in
     let is = settled-strings c.self.inside.arena c.try_first.new.self settled c.self.inside.limit c.self.inside.count c.self.invariant.0 in
-    let is_key = c.is_key_of.ensures.0 c.if-not-is_key_of.false in
+    let is_key = c.in_ok-accept-in_default-walk.ensures.accepted.0 in
     let key = string_of_key g.L.KeyLength c.args.key.now is_key in
     let none = get-map c.try_first.new.self c.args.key.now key ∙ way-none c.try_first.new.self c.args.key.now c.walk.result (c.walk.ensures.way (text_of_key _ key))
     (is-new c.walk.result c.in_default-walk.not-At) in
-    let after = strings-added _ _ _ is c.args.key.now key none c.insert.new.arena c.in_ok-made-in_default-walk.made c.in_ok-made-in_default-walk.ensures.added c.if-self.false _
-    (c.lengthen-in_default-walk.ensures) (key-within g.L.KeyLength c.args.key.now is_key) in (
+    let after = strings-added _ _ _ is c.args.key.now key none c.insert.new.arena c.in_ok-made-in_default-walk.made c.in_ok-made-in_default-walk.ensures.added
+    c.in_ok-accept-in_default-walk.ensures.accepted.1 _ (c.lengthen-in_default-walk.ensures) (key-within g.L.KeyLength c.args.key.now is_key) in (
       strings-written _ _ _ after c.args.key.now key c.in_ok-made-in_default-walk.made c.in_ok-made-in_default-walk.ensures.added.found w,
       counted_written c.insert.new.arena c.in_ok-made-in_default-walk.ensures.added.is_arena c.args.key.now c.in_ok-made-in_default-walk.made
           c.in_ok-made-in_default-walk.ensures.added.found w c.insert.ensures.counted,
@@ -205,7 +217,7 @@ returns g c =
     let settled = c.in_ok-place.ensures.open c.in_default.is in
     let is = settled-strings c.self.inside.arena c.try_first.new.self settled c.self.inside.limit c.self.inside.count c.self.invariant.0 in
     let view = settled_array c.self.inside.arena c.try_first.new.self c.self.invariant.0.is_arena settled c.self.inside.limit ∙ c.self.view_is in
-    let is_key = c.is_key_of.ensures.0 c.if-not-is_key_of.false in
+    let is_key = c.in_ok-accept-in_default-walk.ensures.accepted.0 in
     let key = string_of_key g.L.KeyLength c.args.key.now is_key in
     let none = get-map c.try_first.new.self c.args.key.now key ∙ way-none c.try_first.new.self c.args.key.now c.walk.result (c.walk.ensures.way (text_of_key _ key))
     (is-new c.walk.result c.in_default-walk.not-At) in (
@@ -219,7 +231,7 @@ returns g c =
         value =
             sym c.lend-in_default-walk.ensures.value ∙ added-value _ _ _ is c.args.key.now key none c.insert.new.arena c.in_ok-made-in_default-walk.made
             c.in_ok-made-in_default-walk.ensures.added;
-        accepted = (is_key, absent-room _ _ _ is c.args.key.now key none c.if-self.false);
+        accepted = (is_key, absent-room _ _ _ is c.args.key.now key none c.in_ok-accept-in_default-walk.ensures.accepted.1);
         refused = tt;
       }),
     )
@@ -237,13 +249,13 @@ insert-requires-clause-kept g c =
 -- The levels that the way passed are noted.
 pub insert-requires-clause-passed : goal.insert-requires-clause-passed
 insert-requires-clause-passed g c =
-    let is_key = c.is_key_of.ensures.0 c.if-not-is_key_of.false in
+    let is_key = c.in_ok-accept-in_default-walk.ensures.accepted.0 in
     let key = string_of_key g.L.KeyLength c.args.key.now is_key in
     c.noted-passed.ensures (levels_passed (world_of c.try_first.new.self) c.args.key.now)
     (passed-few (world_of c.try_first.new.self) c.args.key.now g.N.LevelNotes.most (c.requires.few is_key)) (c.walk.ensures.passed (text_of_key _ key))
 
 pub insert-requires-clause-is_key : goal.insert-requires-clause-is_key
-insert-requires-clause-is_key g c = string_of_key g.L.KeyLength c.args.key.now (c.is_key_of.ensures.0 c.if-not-is_key_of.false)
+insert-requires-clause-is_key g c = string_of_key g.L.KeyLength c.args.key.now (c.in_ok-accept-in_default-walk.ensures.accepted.0)
 
 pub insert-requires-clause-listed : goal.insert-requires-clause-listed
 insert-requires-clause-listed g c =
@@ -259,17 +271,14 @@ pub insert-requires-clause-few : goal.insert-requires-clause-few
 insert-requires-clause-few g c =
     let settled = c.in_ok-place.ensures.open c.in_default.is in
     let is = settled-strings c.self.inside.arena c.try_first.new.self settled c.self.inside.limit c.self.inside.count c.self.invariant.0 in
-    omega (arith, is.counted, is.within_limit, is.limit_fits, c.if-self.false)
+    omega (arith, is.counted, is.within_limit, is.limit_fits, c.in_ok-accept-in_default-walk.ensures.accepted.1)
 
 pub lend-requires-in_default-walk : goal.lend-requires-in_default-walk
 lend-requires-in_default-walk g c =
     let added = c.in_ok-made-in_default-walk.ensures.added in
     ap is_some (value-there c.insert.new.arena added.is_arena c.args.key.now c.in_ok-made-in_default-walk.made added.found)
 
-pub returns-then-not-is_key_of : goal.returns-then-not-is_key_of
-returns-then-not-is_key_of g c =
-    let settled = c.in_ok-place.ensures.open c.in_default.is in
-    let view = settled_array c.self.inside.arena c.try_first.new.self c.self.invariant.0.is_arena settled c.self.inside.limit ∙ c.self.view_is in (
-      ap (λ a. inr a) view,
-      record { writes_back = tt; value = tt; accepted = tt; refused = λ is. let never = sym (c.is_key_of.ensures.1 is) ∙ c.if-not-is_key_of.true in cc },
-    )
+pub insert-requires-clause-way : goal.insert-requires-clause-way
+insert-requires-clause-way g c =
+    let is_key = c.in_ok-accept-in_default-walk.ensures.accepted.0 in
+    c.walk.ensures.way (text_of_key _ (string_of_key g.L.KeyLength c.args.key.now is_key))
