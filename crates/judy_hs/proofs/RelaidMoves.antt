@@ -10,6 +10,7 @@ use Rattle.judy_model.specs.Arrays.{ArrayOf, with_map}
 use Rattle.judy_model.proofs.lemmas.maps.ChangesLemmas.{get-write_same, get-write_other}
 use Rattle.judy_records.specs.Texts.{words_of, bytes_in}
 use Rattle.judy_records.specs.Spots.{Spot, free, held, RecordList, IsHeld, IsNext, spot_at, value_of, text_of}
+use Rattle.judy_records.specs.Memory.{HoldsSame}
 use Rattle.judy_hs.specs.Chains.{Pairs}
 use Rattle.judy_hs.specs.LongGroups.{put_at, chain_at}
 use Rattle.judy_hs.specs.LongRecords.{others_at, pairs_of, IsSpelled, AreLongRecords}
@@ -170,3 +171,30 @@ module _ (hashes : ArrayOf word_order) (key_length : ℕ) (chains : BTreeMap ℕ
 
     pub moved-relaid : IsRelaid (long_of hashes key_length chains records) (long_of made key_length chains after)
     moved-relaid = record { key_length = refl; apart = λ own. moved-kept.apart; keys = same-keys }
+
+-- ---- a list that holds the same
+
+module _ (hashes : ArrayOf word_order) (key_length : ℕ) (chains : BTreeMap ℕ Pairs) (records after : RecordList) (same : HoldsSame records after) where
+  pub holds-kept : AreLongRecords hashes.map key_length chains records → AreLongRecords hashes.map key_length chains after
+  holds-kept are = record {
+    size = same.size ∙ are.size;
+    apart = are.apart;
+    led = λ hash place leads. subst IsHeld (sym (same.spots place)) (are.led hash place leads);
+    spelled = λ place. subst (IsSpelled key_length) (sym (same.spots place)) (are.spelled place);
+    beside = λ place some. subst IsHeld (sym (same.spots place)) (are.beside place some);
+    keys = are.keys;
+  }
+
+  holds-pairs : (place : ℕ) → chain_at (long_of hashes key_length chains after) place ≡ chain_at (long_of hashes key_length chains records) place
+  holds-pairs place =
+      pairs-at key_length chains after place
+      ∙ ap (pairs_of key_length (others_at chains place)) (same.spots place)
+      ∙ sym (pairs-at key_length chains records place)
+
+  pub holds-relaid : IsRelaid (long_of hashes key_length chains records) (long_of hashes key_length chains after)
+  holds-relaid = record { key_length = refl; apart = λ own. own; keys = λ hash. holds-led (get hashes.map hash) }
+    where
+      holds-led : (found : Option ℕ) →
+          option_map (chain_at (long_of hashes key_length chains after)) found ≡ option_map (chain_at (long_of hashes key_length chains records)) found
+      holds-led None = refl
+      holds-led (Some place) = ap (λ (pairs : Pairs). Some pairs) (holds-pairs place)

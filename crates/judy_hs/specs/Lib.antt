@@ -1,4 +1,5 @@
 pub mod Chains
+pub mod Copies
 pub mod ChainEntries
 pub mod Values
 pub mod ChainLends

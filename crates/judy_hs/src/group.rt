@@ -163,11 +163,7 @@ impl GroupPlace {
         ensures absent { result ≡ None → self.new ≡ self.old }
     {
         match self {
-            GroupPlace::Short(words) => {
-                let was = words.get(part)?;
-                words.del(part);
-                Some(was)
-            }
+            GroupPlace::Short(words) => words.remove(part),
             GroupPlace::Long(group) => group.take(part, key),
             GroupPlace::Free(_) => None,
         }
@@ -184,15 +180,20 @@ impl GroupPlace {
         }
     }
 
-    // Moves records of long keys out of pages with free places, where a walk over the keys takes at most so many steps
-    // for each that went since the last one, and says whether one was moved.
-    pub fn shrink(&mut self, steps: u64) -> bool
+    // Moves records of long keys out of pages with free places, and says whether one was moved; copies of words are
+    // asked for with an allocator alone (`LongGroup::shrink`).
+    pub fn shrink(&mut self, heap: Option<Global>) -> bool
         ensures keys { IsRelaidGroup (group_of self.old) (group_of self.new) }
         ensures links { link_of self.new ≡ link_of self.old }
     {
         match self {
-            GroupPlace::Short(_) => false,
-            GroupPlace::Long(group) => group.shrink(steps),
+            GroupPlace::Short(words) => {
+                if heap.is_some() {
+                    words.shrink();
+                }
+                false
+            }
+            GroupPlace::Long(group) => group.shrink(heap),
             GroupPlace::Free(_) => false,
         }
     }

@@ -287,12 +287,15 @@ impl Groups {
         Some(was)
     }
 
-    // Moves records of long keys out of pages with free places, where a walk over the keys of a group takes at most so
-    // many steps for each that went since the last one, and says whether one was moved. It asks for no memory.
-    pub fn shrink(&mut self, steps: u64) -> bool
+    // Moves records of long keys out of pages with free places, and says whether one was moved; copies of words are
+    // asked for with an allocator alone (`LongGroup::shrink`).
+    pub fn shrink(&mut self, heap: Option<Global>) -> bool
         ensures { IsRelaidKeyed self.old self.new }
     {
-        shrink_all(&mut self.groups, steps)
+        if heap.is_some() {
+            self.lengths.shrink();
+        }
+        shrink_all(&mut self.groups, heap)
     }
 
     // The array of the lengths.
@@ -355,13 +358,13 @@ impl Groups {
 }
 
 // The same, group by group.
-fn shrink_all(groups: &mut [GroupPlace], steps: u64) -> bool
+fn shrink_all(groups: &mut [GroupPlace], heap: Option<Global>) -> bool
     ensures keys { AreRelaid (groups_of groups.old) (groups_of groups.new) }
     ensures links { links_of groups.new ≡ links_of groups.old }
 {
     let mut moved = false;
     for place in 0..groups.len() {
-        moved = groups[place].shrink(steps) || moved;
+        moved = groups[place].shrink(heap) || moved;
     }
     moved
 }

@@ -9,7 +9,6 @@ use crate::groups::{Groups, KeyPlace};
 use crate::hash::ByteHash;
 use crate::part::part_of;
 use crate::trial::Trial;
-use judy_records::MOST_STEPS;
 
 // Where a key stands, and whether it is new there.
 #[derive(Clone, Copy)]
@@ -76,7 +75,7 @@ fn add_again<H: ByteHash>(hasher: &H, groups: &mut Groups, key: &[u8]) -> Result
     ensures refused { IfErr result
         (IsUnplaced H.hash_of H.LONGEST groups.old groups.new key.now false) }
 {
-    if !groups.shrink(MOST_STEPS) {
+    if !groups.shrink(None) {
         return Err(HsError::NoMemory);
     }
     let part = part_of(hasher, key);

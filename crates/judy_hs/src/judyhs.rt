@@ -172,13 +172,12 @@ impl<H: ByteHash + Drop> JudyHs<H> {
         freed
     }
 
-    /// Moves keys together, so that memory which deletes left free within the array's pages goes back: one walk over
-    /// the keys of each length of which some went since, of use after many deletes. Then the keys of each length have
-    /// at most one page with free places. It asks for no memory and can't fail, and changes no key and no value. (This
-    /// project's own.)
+    /// Gives back memory that deletes left free, of use after many of them. Keys move together, so that those of each
+    /// length have at most one page with free places, and copies take the place of the trees of words. It can't fail,
+    /// and changes no key and no value. (This project's own.)
     ///
-    /// A key that shares its hash with another one stays where it is, and so does one of more than 1,024 bytes. Keys of
-    /// up to 8 bytes stand in no page.
+    /// A key that shares its hash with another one stays where it is. Where memory is refused, so does one of more than
+    /// 1,024 bytes, and a tree stays as it is.
     ///
     /// ```
     /// for name in &gone { array.del(name); }
@@ -187,7 +186,8 @@ impl<H: ByteHash + Drop> JudyHs<H> {
     pub fn shrink(&mut self)
         ensures { self.new ≡ self.old }
     {
-        self.groups.shrink(u64::MAX);
+        let heap = Some(self.groups.allocator());
+        self.groups.shrink(heap);
     }
 
     /// The value of a key, and `None` where it is absent, as every key of more than `H::LONGEST` bytes is. (Manual:

@@ -10,8 +10,8 @@
 //! its group a `JudyL` from these words to the values; longer keys are found by their hash (hash.rt), which leads to
 //! the record of the key (long_group.rt), or to a chain of the keys that share it (shared.rt, chain.rt); their bytes
 //! decide. An insert (insert.rt) is tried as that of a new key where the last one was (trial.rt), and once more where
-//! it was refused memory and records can move together. A record that goes to another place is copied to the stack
-//! meanwhile (spare.rt). judyhs.rt has the array, entry.rt its entries as a list has them, and error.rt why an insert
+//! it was refused memory and records can move together. A record that goes to another place is copied meanwhile
+//! (spare.rt). judyhs.rt has the array, entry.rt its entries as a list has them, and error.rt why an insert
 //! is refused. memory.rt in the folders of judyhs.rt, groups.rt, long_group.rt and chain.rt has how many bytes of
 //! memory each has asked for.
 #![tactic(auto)]

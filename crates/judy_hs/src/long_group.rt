@@ -20,7 +20,7 @@ use crate::entry::{HsEntry, HsKey, sort_from};
 use crate::shared::{join, leave, take_first};
 use crate::spare::copy_of_spare;
 use crate::trial::Trial;
-use judy_records::{Record, Records, words_for};
+use judy_records::{MOST_STEPS, Record, Records, words_for};
 use judy_word::WordMap;
 use std::alloc::{AllocError, Global};
 use std::collections::BTreeMap;
@@ -269,24 +269,45 @@ impl LongGroup {
         }
     }
 
-    // Moves records out of pages that have a free place and aren't filled next, where a walk over the hashes takes at
-    // most so many steps for each key that went since the last one. It says whether a record was moved, which then has
-    // the place that was next, and asks for no memory.
-    pub fn shrink(&mut self, steps: u64) -> bool
+    // Moves records out of pages that have a free place and aren't filled next, and says whether one was moved, which
+    // then has the place that was next. With an allocator it asks for memory for copies, of keys of more than 1,024
+    // bytes and of the hashes. Without one it asks for none, and nothing moves where a walk over the hashes takes more
+    // than `MOST_STEPS` steps for each key that went since the last one.
+    pub fn shrink(&mut self, heap: Option<Global>) -> bool
         ensures { IsRelaid self.old self.new }
     {
-        if self.hashes.len() > self.gone.saturating_mul(steps) {
+        if heap.is_none() && self.hashes.len() > self.gone.saturating_mul(MOST_STEPS) {
             return false;
         }
         self.gone = 0;
+        let least = if heap.is_some() { self.line_up() } else { 0 };
         let next = self.records.next_place();
-        self.move_all();
-        self.records.next_place() != next
+        self.move_all(least, heap);
+        let moved = self.records.next_place() != next;
+        if heap.is_some() {
+            self.trim();
+        }
+        moved
     }
 
-    // Moves each of them once, by their hashes. Then at most one page has free places, but for records that stay
-    // (`copy_of_spare`).
-    fn move_all(&mut self)
+    // Lets the first pages be filled, and answers the place from which on records are to go there.
+    fn line_up(&mut self) -> usize
+        ensures { IsRelaid self.old self.new }
+    {
+        self.records.line_up()
+    }
+
+    // Gives back what the list of pages and the hashes have to spare.
+    fn trim(&mut self)
+        ensures { IsRelaid self.old self.new }
+    {
+        self.records.trim();
+        self.hashes.shrink();
+    }
+
+    // Moves each of them once from a place on, by their hashes. Then at most one page has free places, but for records
+    // that stay (`copy_of_spare`).
+    fn move_all(&mut self, least: usize, heap: Option<Global>)
         ensures { IsRelaid self.old self.new }
     {
         let mut from = Some(0);
@@ -294,27 +315,29 @@ impl LongGroup {
             let Some(hash) = from else {
                 return;
             };
-            from = self.move_first(hash);
+            from = self.move_first(hash, least, heap);
         }
     }
 
     // Moves the record of the least hash from one on, where it is to be moved, and answers the hash behind it; none
     // where no further one can be.
-    fn move_first(&mut self, from: u64) -> Option<u64>
+    fn move_first(&mut self, from: u64, least: usize, heap: Option<Global>) -> Option<u64>
         ensures { IsRelaid self.old self.new }
     {
         let (hash, place) = self.hashes.array().first_entry(from)?;
-        self.move_record(hash, place as usize);
+        if place as usize >= least {
+            self.move_record(hash, place as usize, heap);
+        }
         hash.checked_add(1)
     }
 
     // Moves the record to which a hash leads to the next place, where it can go there and its page isn't the one that
     // is filled next. The hash is there, so that to lead it on isn't refused.
-    fn move_record(&mut self, hash: u64, place: usize)
+    fn move_record(&mut self, hash: u64, place: usize, heap: Option<Global>)
         requires { get self.old.hashes.map hash ≡ Some place }
         ensures { IsRelaid self.old self.new }
     {
-        let copy = copy_of_spare(&self.records, &self.chains, self.key_length, place);
+        let copy = copy_of_spare(&self.records, &self.chains, heap, self.key_length, place);
         let Some((value, key)) = copy else {
             return;
         };
@@ -323,7 +346,7 @@ impl LongGroup {
         if self.hashes.put(hash, next as u64).is_err() {
             return;
         }
-        match self.records.put(value, &key) {
+        match self.records.put(value, key.bytes()) {
             Ok(_) => self.records.take_out(place),
             Err(_) => unreachable!(),
         }

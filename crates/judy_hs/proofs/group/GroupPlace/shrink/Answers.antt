@@ -7,4 +7,4 @@ use Rattle.judy_hs.proofs.group.GroupPlace.shrink.Goals as goal
 
 pub returns-in-Long-clause-keys : goal.returns-in-Long-clause-keys
 returns-in-Long-clause-keys c =
-    subst (λ (place : GroupPlace). IsRelaidGroup (group_of place) (long c.shrink.new.self)) (sym c.in-Long.is) (c.shrink.new.self, refl, c.shrink.ensures)
+    subst (λ (place : GroupPlace). IsRelaidGroup (group_of place) (long c.shrink-in-Long.new.self)) (sym c.in-Long.is) (c.shrink-in-Long.new.self, refl, c.shrink-in-Long.ensures)

@@ -1,4 +1,7 @@
-use Rattle.std.proofs.Common.{ℕ, List, Option, None, Some, IfSome, refl, sym, ap, ◌∙◌}
+use Rattle.std.proofs.Common.{◌≡◌, ℕ, List, Option, None, Some, IfSome, refl, sym, ap, ◌∙◌}
+use Rattle.std.specs.FinMap.{get}
+use Rattle.judy_model.specs.Arrays.{ArrayOf, with_map, del}
+use Rattle.judy_model.specs.Keys.{word_order}
 use Rattle.judy_hs.specs.Groups.{IsGroupLess, short, long}
 use Rattle.judy_hs.specs.LongGroups.{Long, IsLongLess}
 use Rattle.judy_hs.specs.declared.group.Inside.TheVariants.{Word, Chained}
@@ -10,12 +13,15 @@ long-less : (found : Option ℕ) (group : Long) (part : ℕ) (key : List ℕ) (a
 long-less None group part key after less = tt
 long-less (Some value) group part key after less = record { inside = Chained less.place; stood = less.stood; less = ap long less.less }
 
-pub returns-in_ok-was-in-Short-clause-taken : goal.returns-in_ok-was-in-Short-clause-taken
-returns-in_ok-was-in-Short-clause-taken c = rw c.in-Short.is (record {
-  inside = Word c.args.part;
-  stood = (refl, (c.in_ok-was-in-Short.was', sym c.get.ensures ∙ c.in_ok-was-in-Short.was));
-  less = ap short c.del.ensures.deleted;
-})
+-- what is left of a short one
+short-less : (words : ArrayOf word_order) (part : ℕ) (key : List ℕ) (after : ArrayOf word_order) (found : Option ℕ) → found ≡ get words.map part →
+    after ≡ with_map words (del words.map part) → IfSome found (λ _. IsGroupLess (short words) part key (short after))
+short-less words part key after None was less = tt
+short-less words part key after (Some value) was less = record { inside = Word part; stood = (refl, (value, sym was)); less = ap short less }
+
+pub returns-in-Short-clause-taken : goal.returns-in-Short-clause-taken
+returns-in-Short-clause-taken c =
+    rw c.in-Short.is (short-less c.in-Short.words c.args.part c.args.key.now c.remove.new.self c.remove.result c.remove.ensures.answer c.remove.ensures.removed)
 
 pub returns-in-Long-clause-taken : goal.returns-in-Long-clause-taken
 returns-in-Long-clause-taken c = rw c.in-Long.is (long-less c.take.result c.in-Long.group c.args.part c.args.key.now c.take.new.self c.take.ensures.taken)

@@ -11,15 +11,15 @@ pub put-requires-2 : goal.put-requires-2
 put-requires-2 c =
     let leads = ap (λ (long : Long). get long.hashes.map c.args.hash) c.self.view_is ∙ c.requires in
     let spot = spot_at c.self.inside.records c.args.place in
-    ap words_for (again-long c.self.inside.key_length spot (c.self.invariant.led c.args.hash c.args.place leads) (c.self.invariant.spelled c.args.place) c.deref.result.now
-    (c.deref.ensures.0 ∙ c.in-Some.ensures.key)) ∙ sym c.self.invariant.size
+    ap words_for (again-long c.self.inside.key_length spot (c.self.invariant.led c.args.hash c.args.place leads) (c.self.invariant.spelled c.args.place) c.bytes.result.now
+    (c.bytes.ensures ∙ c.in-Some.ensures.key)) ∙ sym c.self.invariant.size
 
 pub invariant_of-self-in-Ok : goal.invariant_of-self-in-Ok
 invariant_of-self-in-Ok c =
     let leads = ap (λ (long : Long). get long.hashes.map c.args.hash) c.self.view_is ∙ c.requires in
     let spot = spot_at c.self.inside.records c.args.place in
-    let again = made-again c.self.inside.key_length spot (c.self.invariant.led c.args.hash c.args.place leads) (c.self.invariant.spelled c.args.place) c.in-Some.value c.deref.result.now
-    c.in-Some.ensures.value (c.deref.ensures.0 ∙ c.in-Some.ensures.key) in
+    let again = made-again c.self.inside.key_length spot (c.self.invariant.led c.args.hash c.args.place leads) (c.self.invariant.spelled c.args.place) c.in-Some.value c.bytes.result.now
+    c.in-Some.ensures.value (c.bytes.ensures ∙ c.in-Some.ensures.key) in
     let put =
     on-went c.put.result c.if-is_err.ensures.value c.put.ensures.put
     ∙ ap (λ n. with_map c.self.inside.hashes (insert c.self.inside.hashes.map c.args.hash n)) c.next_place-next.ensures in
@@ -32,8 +32,8 @@ pub returns : goal.returns
 returns c =
     let leads = ap (λ (long : Long). get long.hashes.map c.args.hash) c.self.view_is ∙ c.requires in
     let spot = spot_at c.self.inside.records c.args.place in
-    let again = made-again c.self.inside.key_length spot (c.self.invariant.led c.args.hash c.args.place leads) (c.self.invariant.spelled c.args.place) c.in-Some.value c.deref.result.now
-    c.in-Some.ensures.value (c.deref.ensures.0 ∙ c.in-Some.ensures.key) in
+    let again = made-again c.self.inside.key_length spot (c.self.invariant.led c.args.hash c.args.place leads) (c.self.invariant.spelled c.args.place) c.in-Some.value c.bytes.result.now
+    c.in-Some.ensures.value (c.bytes.ensures ∙ c.in-Some.ensures.key) in
     let put =
     on-went c.put.result c.if-is_err.ensures.value c.put.ensures.put
     ∙ ap (λ n. with_map c.self.inside.hashes (insert c.self.inside.hashes.map c.args.hash n)) c.next_place-next.ensures in
