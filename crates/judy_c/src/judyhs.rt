@@ -88,9 +88,8 @@ pub extern "C" fn sellumaq_judyhs_len(alloc: Global, handle: &mut Bytes) -> u64
     handle.ask(alloc, |array| array.len())
 }
 
-/// Moves keys together, so that memory which deletes left free within the map's pages goes back. It asks for no memory
-/// and can't fail, and changes no key and no value; slots that were handed out are no longer theirs. (This project's
-/// own.)
+/// Gives back memory that deletes left free. It can't fail, and changes no key and no value; slots that were handed out
+/// are no longer theirs. (This project's own.)
 #[unsafe(no_mangle)]
 pub extern "C" fn sellumaq_judyhs_shrink(handle: &mut Bytes)
     ensures { handle.new ≡ handle.old }

@@ -183,15 +183,15 @@ pub extern "C" fn sellumaq_judysl_longest(handle: &mut Strings) -> usize
     }
 }
 
-/// Moves keys together, so that memory which deletes left free within the map's pages goes back. It asks for no more
-/// memory and can't fail, and changes no key and no value; slots that were handed out are no longer theirs. (This
-/// project's own.)
+/// Gives back memory that deletes left free. Where many keys have gone, a copy takes the array's place; else, and where
+/// memory for that is refused, keys move together within the map's pages. It can't fail, and changes no key and no
+/// value; slots that were handed out are no longer theirs. (This project's own.)
 #[unsafe(no_mangle)]
-pub extern "C" fn sellumaq_judysl_shrink(handle: &mut Strings)
+pub extern "C" fn sellumaq_judysl_shrink(alloc: Global, handle: &mut Strings)
     ensures { handle.new ≡ handle.old }
 {
     if let Some(array) = handle.array() {
-        array.shrink();
+        judy_string_sets::shrink(alloc, array);
     }
 }
 

@@ -119,3 +119,20 @@ pub fn copy<L: KeyLength>(alloc: Global, array: &StringsOf<L>) -> Result<Strings
         Err(_) => Err(AllocError),
     }
 }
+
+/// Gives back memory that deletes have left unused. Where many keys have gone, a copy takes the array's place; else,
+/// and where memory for that is refused, what is left of keys moves together (`StringsOf::shrink`). It can't fail; each
+/// key keeps its value.
+///
+///     shrink(alloc, &mut prices);
+pub fn shrink<L: KeyLength>(alloc: Global, array: &mut StringsOf<L>)
+    ensures { array.new ≡ array.old }
+{
+    if array.lost_many() {
+        if let Ok(copy) = copy(alloc, array) {
+            *array = copy;
+            return;
+        }
+    }
+    array.shrink();
+}

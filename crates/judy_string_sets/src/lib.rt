@@ -25,7 +25,7 @@ mod relations;
 mod room;
 mod which;
 
-pub use combine::{copy, difference, intersection, symmetric_difference, union};
+pub use combine::{copy, difference, intersection, shrink, symmetric_difference, union};
 pub use counts::{common_count, difference_count, symmetric_difference_count, union_count};
 pub use longest::longest_prefix;
 pub use ranges::{remove_prefix, remove_range};

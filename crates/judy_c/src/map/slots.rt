@@ -45,14 +45,7 @@ impl Map {
             ≡ option_and_then (map.get (map_of self.old))
             (neighbours.first (map_of self.old) from) }
     {
-        match self.array() {
-            Some(array) => {
-                let found = array.first(from)?;
-                *key = found;
-                array.slot(found)
-            }
-            None => None,
-        }
+        slot_in!(self, first_slot(from, key))
     }
 
     // The slot of the least key above a word, which is told; `None` where there is none.
@@ -62,14 +55,7 @@ impl Map {
         ensures value { option_copied_mut result
             ≡ option_and_then (map.get (map_of self.old)) (neighbours.next (map_of self.old) from) }
     {
-        match self.array() {
-            Some(array) => {
-                let found = array.next(from)?;
-                *key = found;
-                array.slot(found)
-            }
-            None => None,
-        }
+        slot_in!(self, next_slot(from, key))
     }
 
     // The slot of the greatest key up to a word, which is told; `None` where there is none.
