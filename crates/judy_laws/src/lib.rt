@@ -1,5 +1,5 @@
-//! Laws and examples above the definitions of judy_model, in a crate on which nothing stands: a new one costs no proof
-//! of what stands on the definitions.
+//! Laws and examples above the definitions of judy_model. Only judy_sets, judy_string_sets and what is above them stand
+//! on this crate, so a new law costs few proofs.
 //!
 //! [`laws`] says what follows from the definitions, each law as the contract of a function with an empty body, and
 //! [`examples`] has short cases that the check computes, with values from the formats. Nothing here is run. What they

@@ -1,7 +1,7 @@
 //! Rows of walks up through an array of strings: a cursor goes from key to key as the scans do.
 
 use crate::check::{same_bytes, same_number, same_value};
-use crate::strings::{Scan, ask, buffer_of, unlimited};
+use crate::judysl::{Scan, ask, buffer_of, unlimited};
 use judy_sl::{JudySl, KeyBuf, KeyCursor, is_key};
 use std::process::Abort;
 

@@ -2,7 +2,7 @@
 
 use crate::check::{same_answer, same_number, same_value};
 use crate::cursors::{Draws, put};
-use crate::strings::unlimited;
+use crate::judysl::unlimited;
 use judy_sl::{JudySl, KeyBuf, KeyReader};
 use std::alloc::Global;
 use std::process::Abort;
