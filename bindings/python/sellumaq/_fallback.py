@@ -8,7 +8,7 @@ import ctypes
 import os
 import sys
 from array import array
-from bisect import bisect_right
+from bisect import bisect_left, bisect_right
 from itertools import accumulate
 from operator import index as whole
 
@@ -649,7 +649,7 @@ class _Strings(_Map):
             raise MemoryError
 
     def shrink(self):
-        """Moves keys together, so that memory which deletes left free goes back. It asks for none."""
+        """Gives back memory that deletes left free."""
         self._calls["shrink"](self._handle)
 
 
@@ -710,8 +710,8 @@ def _could_be_key(string):
 
 
 # How many bytes a key has room for at first, how many pairs a walk through strings takes at most, and how many bytes
-# their keys have then, but for longer ones.
-_SHORT, _PAIRS, _ROOM = 1024, 256, 16 * 1024
+# their keys have then, but for longer ones; and so many times as many pairs as a page has the next one.
+_SHORT, _PAIRS, _ROOM, _GROWTH = 1024, 256, 16 * 1024, 8
 
 
 def _entries_of(words, count):
@@ -818,7 +818,8 @@ class _OrderedStrings(_Strings):
             yield key
 
     def _down(self, part, low, high):
-        """A walk from a bound down. Each step is a search beside the key given last."""
+        """A walk from a bound down. Each step is a search beside the key given last; below that pages follow, where the
+        map hasn't changed since and many such keys fit one."""
         # No key is above as many bytes of 0xff as the longest one has.
         start, scan = b"\xff" * self._calls["longest"](self._handle) if high is None else _could_be_key(high)[0], "last"
         key, length, value = ctypes.create_string_buffer(start, max(len(start), _SHORT)), ctypes.c_size_t(len(start)), _word()
@@ -826,10 +827,31 @@ class _OrderedStrings(_Strings):
             if told == _TOO_SMALL:
                 key = ctypes.create_string_buffer(key[: length.value], value.value)
                 continue
-            found, scan = key[: length.value], "prev"
+            changes, found, scan = self._changes, key[: length.value], "prev"
             if low is not None and found < low:
                 return
             yield value.value if part == VALUES else self._object(found) if part == KEYS else (self._object(found), value.value)
+            if self._changes is changes and 64 * len(found) <= _ROOM:
+                found = yield from self._pages_down(part, low, found)
+                if found is None:
+                    return
+                key, length.value = ctypes.create_string_buffer(found, max(len(found), len(key))), len(found)
+
+    def _pages_down(self, part, low, last):
+        """The pages of a walk down below a key, until the map changes or keys are long. It answers the key given last,
+        or None where the walk is over."""
+        most = _GROWTH
+        while page := self._page_below(last, most):
+            changes, text, ends, values = page
+            below, told = self._below(text, ends, low), [*self._parts(part, text, ends, values)]
+            for at in reversed(range(below, len(ends))):
+                yield told[at]
+                if self._changes is not changes:
+                    return text[ends[at - 1] if at else 0 : ends[at]]
+            if below > 0:
+                return None
+            last, most = text[: ends[0]], min(_GROWTH * most, _PAIRS, _ROOM * len(ends) // (len(text) + 1) - 1)
+        return last
 
     def _up(self, part, low, high):
         """A walk from a bound up. A call tells many pairs, and the next ones anew where the map has changed."""
@@ -844,7 +866,7 @@ class _OrderedStrings(_Strings):
             if count == 0 or (count < len(ends) and self._changes is changes):
                 return
             last, itself = text[ends[at - 1] if at else 0 : ends[at]], False
-            most = 1 if self._changes is not changes else min(8 * most, _PAIRS)
+            most = 1 if self._changes is not changes else min(_GROWTH * most, _PAIRS)
 
     @staticmethod
     def _upto(text, ends, high):
@@ -852,6 +874,11 @@ class _OrderedStrings(_Strings):
         if high is None or not ends or text[ends[-2] if len(ends) > 1 else 0 :] <= high:
             return len(ends)
         return bisect_right(_cut(text, ends), high)
+
+    @staticmethod
+    def _below(text, ends, low):
+        """How many keys of a page there are below a bound."""
+        return 0 if low is None or text[: ends[0]] >= low else bisect_left(_cut(text, ends), low)
 
     def _parts(self, part, text, ends, values):
         if part == VALUES:
@@ -870,6 +897,20 @@ class _OrderedStrings(_Strings):
             return text[: ends[-1]], ends, values
         found = self._search("first" if itself else "next", key)
         return (found[0], [len(found[0])], [found[1]]) if found else (b"", [], [])
+
+    def _page_below(self, key, most):
+        """What `_changes` was, and the last pairs below a key, as `_page` tells them: those that one call tells before
+        the key itself, whatever others do to the map meanwhile. None where the key is gone or the first, or where none
+        has a place."""
+        while most > 1:
+            changes, upto = self._changes, self._calls["count"](self._handle, b"", 0, key, len(key))
+            most = min(most, upto - 1)
+            first = self._search("by_count", b"", upto - most) if most > 0 else None
+            text, ends, values = self._page(first[0], True, most + 1) if first else (b"", [], [])
+            if len(ends) > most > 0:
+                return (changes, text[: ends[-2]], ends[:-1], values[:-1]) if text[ends[-2] :] == key else None
+            most = len(ends) - 1
+        return None
 
 
 class BytesMap(_Bytes, _OrderedStrings):

@@ -484,7 +484,7 @@ static PyObject *hash_popitem(PyObject *object, PyObject *Py_UNUSED(none))
     {"clear", strings_clear, METH_NOARGS, \
      DOC("clear($self, /)", "Takes every key out and gives the memory back.", AGES ">>> ages.clear(); ages\nJudyHS({})")}, \
     {"shrink", strings_shrink, METH_NOARGS, \
-     DOC("shrink($self, /)", "Moves keys together, so that memory which deletes left free goes back. It asks for none.", \
+     DOC("shrink($self, /)", "Gives back memory that deletes left free.", \
          AGES ">>> del ages['Ada']; ages.shrink(); ages\nJudyHS({'Alan': 41})")}, \
     {"get", (PyCFunction)(void (*)(void))strings_get, METH_FASTCALL, \
      DOC("get($self, key, default=None, /)", "The value of a key, or the default where it isn't there.", \

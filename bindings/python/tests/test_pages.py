@@ -1,11 +1,14 @@
 """Walks through strings in order, which take many keys a call, beside a sorted list of the same keys."""
 
 import bisect
+import itertools
 import operator
 import random
+import sys
+import threading
 import unittest
 
-from sellumaq import MAX_SAVED_KEY, JudySL, JudySLBytes
+from sellumaq import BINDING, MAX_SAVED_KEY, JudySL, JudySLBytes
 
 LETTERS = "ab\x01\u00e4\ud800\uffff\U0001f600"
 
@@ -67,6 +70,28 @@ class Walks(unittest.TestCase):
                 for _ in range(20):
                     part = slice(*chance.choices([*ends, chance.randrange(-800, 800)], k=2), step)
                     self.assertEqual((array.keys()[part], array.values()[part], array.items()[part]), (keys[part], values[part], pairs[part]))
+
+    @unittest.skipUnless(BINDING == "ctypes", "the extension's calls aren't seen")
+    def test_a_walk_takes_few_calls(self):
+        class Calls(dict):
+            made = 0
+
+            def __getitem__(self, name):
+                Calls.made += 1
+                return super().__getitem__(name)
+
+        for kind in KINDS:
+            for front, most in (("", 200), ("https://" * 8, 400)):
+                texts = [f"{front}{n:08}" for n in range(10_000)]
+                pairs = [(text if kind is JudySL else encoded(text), n) for n, text in enumerate(texts)]
+                array = kind(pairs)
+                array._calls = Calls(array._calls)
+                for wanted, told in (([key for key, _ in pairs], array), ([n for _, n in pairs], array.values()), (pairs, array.items())):
+                    for walk, order in ((iter, wanted), (reversed, wanted[::-1])):
+                        Calls.made = 0
+                        found = [*walk(told)]
+                        self.assertLess(Calls.made, most)
+                        self.assertEqual(found, order)
 
 
 class Changed(unittest.TestCase):
@@ -133,6 +158,36 @@ class Changed(unittest.TestCase):
             self.assertEqual(value, 1399 if at == 0 else 2399 - at)
             for each in range(max(397 - at, 0), 399 - at):
                 array["a%04d" % each] = each + 2000
+
+    def test_threads_put_keys_in_and_take_many_out(self):
+        keys = [f"k{n:04}" for n in range(3000)]
+        comes, goes = [key for n, key in enumerate(keys) if n % 3], [key for key in keys[::3] if key.startswith("k1")]
+        stays = sorted({*keys[::3]} - {*goes})
+        strings, walks, lasting = JudySL.fromkeys(keys[::3], 1), [], set(stays)
+
+        def write():
+            for n in itertools.count():
+                strings.update(dict.fromkeys(comes[n % 7 :: 2], 2))
+                strings.discard_prefix("k1")
+                strings.update(dict.fromkeys(goes, 1))
+                strings.discard_range("k0000x", "k0003")
+                if len(walks) > 200:
+                    return
+
+        def walk():
+            while len(walks) <= 200:
+                keys = list(strings) if len(walks) % 2 else list(reversed(strings))[::-1]
+                walks.append(keys == sorted(set(keys)) and [key for key in keys if key in lasting] == stays)
+
+        interval = sys.getswitchinterval()
+        sys.setswitchinterval(1e-5)
+        self.addCleanup(sys.setswitchinterval, interval)
+        threads = [threading.Thread(target=work) for work in (write, walk, walk)]
+        for thread in threads:
+            thread.start()
+        for thread in threads:
+            thread.join()
+        self.assertTrue(all(walks))
 
 
 if __name__ == "__main__":
