@@ -24,6 +24,17 @@ static const uint8_t NAME[] = {'a', 'r', 'r', 'a', 'y'};
 /* What is answered where a call of the system failed. */
 static uint32_t why(void) { return errno == ENOMEM ? SELLUMAQ_NO_MEMORY : SELLUMAQ_SYSTEM; }
 
+/* A call that was interrupted is made again. The 1,000th interruption in a row is an error, as of judystore's files;
+ * errno is EINTR then. */
+enum { INTERRUPTIONS = 1000 };
+
+/* Whether a call is to be made again that has failed or not, after so many interruptions in a row. */
+static bool again(bool has_failed, int *interruptions) {
+    if (has_failed && errno == EINTR) return ++*interruptions < INTERRUPTIONS;
+    *interruptions = 0;
+    return false;
+}
+
 /* ---- out ---- */
 
 /* A file beside has one of so many names. One that is taken is another thread's, or was left by a process that
@@ -51,8 +62,9 @@ static int open_folder(Place *place) {
     const char *folder = !slash ? "." : slash == place->path ? "/" : place->path;
     place->name = slash ? slash + 1 : place->path;
     if (slash) *slash = '\0';
+    int interruptions = 0;
     do place->folder = open(folder, O_RDONLY | O_DIRECTORY | O_CLOEXEC);
-    while (place->folder < 0 && errno == EINTR);
+    while (again(place->folder < 0, &interruptions));
     return place->folder;
 }
 
@@ -67,31 +79,34 @@ static bool read_old(Place *place) {
 }
 
 static int make_beside(const Place *place, char name[NAME_ROOM]) {
-    for (int turn = 0; turn < TURNS; turn++) {
+    for (int turn = 0, interruptions = 0; turn < TURNS; turn++) {
+        int file;
         snprintf(name, NAME_ROOM, ".sellumaq-%ld-%d", (long)getpid(), turn);
-        int file = openat(place->folder, name, O_WRONLY | O_CREAT | O_EXCL | O_CLOEXEC, place->mode);
-        if (file >= 0 || (errno != EEXIST && errno != EINTR)) return file;
+        do file = openat(place->folder, name, O_WRONLY | O_CREAT | O_EXCL | O_CLOEXEC, place->mode);
+        while (again(file < 0, &interruptions));
+        if (file >= 0 || errno != EEXIST) return file;
     }
     return -1;
 }
 
 static bool write_all(int file, const uint8_t *bytes, size_t count) {
+    int interruptions = 0;
     while (count > 0) {
         ssize_t written = write(file, bytes, count);
-        if (written < 0 && errno != EINTR) return false;
+        if (again(written < 0, &interruptions)) continue;
         if (written == 0) errno = EIO;
-        if (written == 0) return false;
-        bytes += written < 0 ? 0 : written;
-        count -= written < 0 ? 0 : (size_t)written;
+        if (written <= 0) return false;
+        bytes += written;
+        count -= (size_t)written;
     }
     return true;
 }
 
 /* Has the disk keep a file or a folder. */
 static bool keep(int file) {
-    int told;
+    int told, interruptions = 0;
     do told = fsync(file);
-    while (told != 0 && errno == EINTR);
+    while (again(told != 0, &interruptions));
     return told == 0;
 }
 
@@ -168,21 +183,22 @@ static bool make_room(Bytes *bytes, size_t room) {
 /* Reads up to the end. The bytes are a copy, so that nobody who writes to the file, or cuts it, changes them under a
  * load. */
 static bool read_all(int file, Bytes *bytes) {
+    int interruptions = 0;
     if (!make_room(bytes, first_room(file))) return false;
     for (;;) {
         if (bytes->count == bytes->room && !make_room(bytes, 2 * bytes->room)) return false;
         ssize_t got = read(file, bytes->at + bytes->count, bytes->room - bytes->count);
-        if (got == 0) return true;
-        if (got < 0 && errno != EINTR) return false;
-        bytes->count += got < 0 ? 0 : (size_t)got;
+        if (again(got < 0, &interruptions)) continue;
+        if (got <= 0) return got == 0;
+        bytes->count += (size_t)got;
     }
 }
 
 static uint32_t open_array(Load *load, void *array, const char *path, uint32_t *fault) {
     Bytes bytes = {0};
-    int file, error;
+    int file, error, interruptions = 0;
     do file = open(path, O_RDONLY | O_CLOEXEC);
-    while (file < 0 && errno == EINTR);
+    while (again(file < 0, &interruptions));
     if (file < 0) return why();
     bool is_read = read_all(file, &bytes);
     error = errno;
