@@ -49,6 +49,8 @@ of_two!(
     Judy1<K: Key>; K, |key| key; contains, get; sellumaq_judy1,
     sellumaq_judy1_copy, sellumaq_judy1_union, sellumaq_judy1_intersection, sellumaq_judy1_difference, sellumaq_judy1_symmetric_difference;
     sellumaq_judy1_intersection_count, sellumaq_judy1_is_subset, sellumaq_judy1_is_disjoint, sellumaq_judy1_has_same_keys;
+    NoMemory, NoMemory::of, no_room;
+    "[`NoMemory`] where there is none for it; there the sign ends the program.",
     "let (a, b) = (sellumaq::Judy1::from([1, 2]), sellumaq::Judy1::from([2, 3]));"
 );
 

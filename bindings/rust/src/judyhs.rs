@@ -209,8 +209,8 @@ impl<V: Value> JudyHs<V> {
             .for_each(drop);
     }
 
-    /// Moves keys together, so that memory which deletes left free within the map's pages goes back: one walk over the
-    /// map. It asks for no memory. A key of at most 8 bytes or of more than 1,024 stays where it is.
+    /// Gives back memory that deletes left free: one walk over the map. A key that shares its hash with another stays
+    /// where it is, and where memory is refused so does one of more than 1,024 bytes.
     ///
     /// ```
     /// let mut map: sellumaq::JudyHs = (0..10_000).map(|n| (format!("key {n:05}"), n)).collect();

@@ -57,6 +57,8 @@ of_two!(
     JudyL<V: Value, K: Key>; (K, V), |pair| pair.0; contains_key, get_key_value; sellumaq_judyl,
     sellumaq_judyl_copy, sellumaq_judyl_union, sellumaq_judyl_intersection, sellumaq_judyl_difference, sellumaq_judyl_symmetric_difference;
     sellumaq_judyl_intersection_count, sellumaq_judyl_is_subset, sellumaq_judyl_is_disjoint, sellumaq_judyl_has_same_keys;
+    NoMemory, NoMemory::of, no_room;
+    "[`NoMemory`] where there is none for it; there the sign ends the program.",
     "let (a, b) = (sellumaq::JudyL::from([(1, 10), (2, 20)]), sellumaq::JudyL::from([(2, 21), (3, 31)]));"
 );
 

@@ -92,10 +92,17 @@ of_two!(
     JudySl<V: Value>; (Vec<u8>, V), |pair| &pair.0; contains_key, get_key_value; sellumaq_judysl,
     sellumaq_judysl_copy, sellumaq_judysl_union, sellumaq_judysl_intersection, sellumaq_judysl_difference, sellumaq_judysl_symmetric_difference;
     sellumaq_judysl_intersection_count, sellumaq_judysl_is_subset, sellumaq_judysl_is_disjoint, sellumaq_judysl_has_same_keys;
+    InsertError, std::convert::identity, InsertError::end;
+    "[`InsertError`]: `NoMemory` where there is none for it, `Full` for more than 4,294,967,295 keys; there the sign ends the program.",
     "let (a, b) = (sellumaq::JudySl::from([(\"a\", 10), (\"b\", 20)]), sellumaq::JudySl::from([(\"b\", 21), (\"c\", 31)]));"
 );
 
 impl<V: Value> JudySl<V> {
+    // The map of the keys that another with many more lacks: the library looks up each by itself.
+    fn few_lacking(&self, other: &Self) -> Result<Self, InsertError> {
+        self.made_with(other, sys::sellumaq_judysl_difference)
+    }
+
     fn item((key, bits): (Vec<u8>, u64)) -> (Vec<u8>, V) {
         (key, V::of_bits(bits))
     }
@@ -427,8 +434,8 @@ impl<V: Value> JudySl<V> {
         Self::removed(keys)
     }
 
-    /// Moves keys together, so that memory which deletes left free within the map's pages goes back: one walk over the
-    /// map. It asks for no memory.
+    /// Gives back memory that deletes left free. Where a quarter as many keys went as are left, a copy takes the map's
+    /// place, if there is memory for it; else keys move together within the map's pages.
     ///
     /// ```
     /// let mut map: sellumaq::JudySl = (0..10_000).map(|n| (format!("key {n:05}"), n)).collect();

@@ -106,6 +106,13 @@ impl std::fmt::Display for NoMemory {
 
 impl std::error::Error for NoMemory {}
 
+impl NoMemory {
+    /// Why no array of words is made: no memory holds more keys than it may have.
+    fn of(_: InsertError) -> NoMemory {
+        NoMemory
+    }
+}
+
 /// Ends the program for want of memory, as std's collections do.
 fn no_room<T>(_: NoMemory) -> T {
     handle_alloc_error(Layout::new::<u64>())

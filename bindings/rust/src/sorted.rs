@@ -122,6 +122,16 @@ macro_rules! at_once {
                 let told = items.into_iter().map(Self::told);
                 told.map(crate::way::Told::of).collect()
             }
+
+            /// The array of the keys that another with many more lacks, each of which is looked up.
+            fn few_lacking(&self, other: &Self) -> Result<Self, crate::InsertError> {
+                let mut told = Vec::new();
+                told.try_reserve_exact(self.len())
+                    .map_err(|_| crate::InsertError::NoMemory)?;
+                let items = self.looked_up(other, false).map(Self::told);
+                told.extend(items.map(<$told as crate::way::Told>::of));
+                Self::try_at_once(&told, &mut 0)
+            }
         }
 
         impl<$($param: $bound),+> crate::sieve::Sifted for $array<$($param),+> {

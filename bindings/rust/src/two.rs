@@ -5,13 +5,15 @@ pub const MANY: usize = 8;
 
 /// Writes how an ordered `$array` of `$item`s is copied, made of two by the signs `|`, `&`, `-` and `^`, and compared
 /// with another, by the calls of C over its `$handle`. `$has` tells whether a key is there, and `$get` the item of one;
-/// the key of an item is `$key`. `$sample` is a line of an example that makes `a` and `b` with two keys each, of which
-/// both have one.
+/// the key of an item is `$key`. `$error` is the error of an array that isn't made, `$of` makes it of an insert's,
+/// `$errors` says when it comes, and `$end` ends the program for it. `$sample` is a line of an example that makes `a`
+/// and `b` with two keys each, of which both have one.
 macro_rules! of_two {
     (
         $array:ident<$($param:ident: $bound:path),+>; $item:ty, |$it:ident| $key:expr; $has:ident, $get:ident; $handle:ident,
         $copy:ident, $union:ident, $intersection:ident, $difference:ident, $symmetric_difference:ident;
-        $common_len:ident, $is_subset:ident, $is_disjoint:ident, $has_same_keys:ident; $sample:literal
+        $common_len:ident, $is_subset:ident, $is_disjoint:ident, $has_same_keys:ident;
+        $error:ty, $of:path, $end:path; $errors:literal, $sample:literal
     ) => {
         impl<$($param: $bound),+> $array<$($param),+> {
             /// The array that a call of C makes in place of the empty one.
@@ -25,8 +27,7 @@ macro_rules! of_two {
                 }
             }
 
-            /// The array that a call of C makes of this one and another, which isn't the same. It ends the program
-            /// where there is no memory.
+            /// The array that a call of C makes of this one and another, which isn't the same.
             fn made_with(
                 &self,
                 other: &Self,
@@ -35,11 +36,18 @@ macro_rules! of_two {
                     *const sellumaq_sys::$handle,
                     *const sellumaq_sys::$handle,
                 ) -> u32,
-            ) -> Self {
+            ) -> Result<Self, $error> {
                 let (one, other) = (self.handle, other.handle);
                 // SAFETY: the handles are three arrays', lent for this call alone, which changes only the new one.
                 let made = Self::made_by(|made| unsafe { call(made, &one, &other) });
-                made.unwrap_or_else(crate::InsertError::end)
+                made.map_err($of)
+            }
+
+            fn try_copy(&self) -> Result<Self, $error> {
+                let from = self.handle;
+                // SAFETY: the handles are two arrays', lent for this call alone, which changes only the new one.
+                let made = Self::made_by(|made| unsafe { sellumaq_sys::$copy(made, &from) });
+                made.map_err($of)
             }
 
             /// Whether it is the other array itself. A call of C is never handed one array twice.
@@ -62,40 +70,95 @@ macro_rules! of_two {
                 self.iter().filter(move |$it| other.$has($key) == there)
             }
 
-            fn joined(&self, other: &Self) -> Self {
+            /// An array of the keys of either, each with the first one's value where that has it: what `|` makes.
+            ///
+            /// # Errors
+            ///
+            #[doc = $errors]
+            ///
+            /// ```
+            #[doc = $sample]
+            /// assert_eq!(a.try_union(&b), Ok(&a | &b));
+            /// ```
+            pub fn try_union(&self, other: &Self) -> Result<Self, $error> {
                 if self.is(other) {
-                    return self.clone();
+                    return self.try_copy();
                 }
                 self.made_with(other, sellumaq_sys::$union)
             }
 
-            fn common(&self, other: &Self) -> Self {
+            /// An array of the keys of both, each with the first one's value: what `&` makes.
+            ///
+            /// # Errors
+            ///
+            #[doc = $errors]
+            ///
+            /// ```
+            #[doc = $sample]
+            /// assert_eq!(a.try_intersection(&b), Ok(&a & &b));
+            /// ```
+            pub fn try_intersection(&self, other: &Self) -> Result<Self, $error> {
                 if self.is(other) {
-                    self.clone()
-                } else if self.is_few_beside(other) {
-                    self.looked_up(other, true).collect()
-                } else if other.is_few_beside(self) {
-                    other.iter().filter_map(|$it| self.$get($key)).collect()
-                } else {
-                    self.made_with(other, sellumaq_sys::$intersection)
+                    return self.try_copy();
                 }
+                self.made_with(other, sellumaq_sys::$intersection)
+            }
+
+            /// An array of the keys of the first alone, with their values: what `-` makes.
+            ///
+            /// # Errors
+            ///
+            #[doc = $errors]
+            ///
+            /// ```
+            #[doc = $sample]
+            /// assert_eq!(a.try_difference(&b), Ok(&a - &b));
+            /// ```
+            pub fn try_difference(&self, other: &Self) -> Result<Self, $error> {
+                if self.is(other) {
+                    return Ok(Self::empty());
+                }
+                if self.is_few_beside(other) {
+                    return self.few_lacking(other).map_err($of);
+                }
+                self.made_with(other, sellumaq_sys::$difference)
+            }
+
+            /// An array of the keys of one alone, with their values: what `^` makes.
+            ///
+            /// # Errors
+            ///
+            #[doc = $errors]
+            ///
+            /// ```
+            #[doc = $sample]
+            /// assert_eq!(a.try_symmetric_difference(&b), Ok(&a ^ &b));
+            /// ```
+            pub fn try_symmetric_difference(&self, other: &Self) -> Result<Self, $error> {
+                if self.is(other) {
+                    return Ok(Self::empty());
+                }
+                self.made_with(other, sellumaq_sys::$symmetric_difference)
+            }
+
+            fn joined(&self, other: &Self) -> Self {
+                self.try_union(other).unwrap_or_else($end)
+            }
+
+            fn common(&self, other: &Self) -> Self {
+                // C's call over strings goes through all keys of the first.
+                if other.is_few_beside(self) {
+                    return other.iter().filter_map(|$it| self.$get($key)).collect();
+                }
+                self.try_intersection(other).unwrap_or_else($end)
             }
 
             fn lacking(&self, other: &Self) -> Self {
-                if self.is(other) {
-                    Self::empty()
-                } else if self.is_few_beside(other) {
-                    self.looked_up(other, false).collect()
-                } else {
-                    self.made_with(other, sellumaq_sys::$difference)
-                }
+                self.try_difference(other).unwrap_or_else($end)
             }
 
             fn apart(&self, other: &Self) -> Self {
-                if self.is(other) {
-                    return Self::empty();
-                }
-                self.made_with(other, sellumaq_sys::$symmetric_difference)
+                self.try_symmetric_difference(other).unwrap_or_else($end)
             }
 
             fn join(&mut self, other: &Self) {
@@ -266,10 +329,7 @@ macro_rules! of_two {
 
         impl<$($param: $bound),+> Clone for $array<$($param),+> {
             fn clone(&self) -> Self {
-                let from = self.handle;
-                // SAFETY: the handles are two arrays', lent for this call alone, which changes only the new one.
-                let made = Self::made_by(|made| unsafe { sellumaq_sys::$copy(made, &from) });
-                made.unwrap_or_else(crate::InsertError::end)
+                self.try_copy().unwrap_or_else($end)
             }
         }
 

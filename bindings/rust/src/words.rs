@@ -177,7 +177,7 @@ macro_rules! word_array {
                 let (handle, at) = (&mut self.handle, key.borrow().word());
                 // SAFETY: the handles are two arrays', lent for this call alone.
                 let made = Self::made_by(|made| unsafe { sellumaq_sys::$split_off(made, handle, at) });
-                made.map_err(|_| crate::NoMemory)
+                made.map_err(crate::NoMemory::of)
             }
         }
 

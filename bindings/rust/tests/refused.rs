@@ -146,6 +146,66 @@ fn ranges_and_parts_without_memory() {
     assert!(kept.keys().eq(plain.range(..1 << 20).copied()));
 }
 
+/// Arrays made of two: each refusal is told and leaves both, and what is made in the end is what the sign makes.
+macro_rules! made_of_two_without_memory {
+    ($refuser:ident, $error:expr; $($one:expr, $other:expr;)*) => { $(
+        let mut two = ($one.clone(), $other.clone());
+        made_of_two_without_memory!(
+            $refuser, $error, two, $one, $other;
+            try_union |, try_intersection &, try_difference -, try_symmetric_difference ^
+        );
+    )* };
+    ($refuser:ident, $error:expr, $two:ident, $one:expr, $other:expr; $($call:ident $sign:tt),*) => { $(
+        let (made, failed) = $refuser.in_turn(
+            &mut $two,
+            $error,
+            |two| two.0.$call(&two.1),
+            |two| two.0 == $one && two.1 == $other,
+        );
+        assert!(made == &$one $sign &$other && failed > 0, "{failed}");
+        let of_itself = $refuser.in_turn(&mut $two, $error, |two| two.0.$call(&two.0), |two| two.0 == $one);
+        assert!(of_itself.0 == &$one $sign &$one);
+    )* };
+}
+
+#[test]
+fn arrays_of_two_without_memory() {
+    let refuser = match Refuser::find() {
+        Some(refuser) => refuser,
+        None => return,
+    };
+    let sets: [Judy1; 3] = [
+        words().collect(),
+        words().skip(20).map(|key| key ^ (key & 1)).collect(),
+        words().step_by(15).chain([5, 9]).collect(),
+    ];
+    made_of_two_without_memory!(
+        refuser, NoMemory; sets[0], sets[1]; sets[0], sets[2]; sets[2], sets[0];
+    );
+    let map = |set: &Judy1, n| set.iter().map(|key| (key, key ^ n)).collect::<JudyL>();
+    let maps: Vec<JudyL> = (0..3).map(|n| map(&sets[n], n as u64)).collect();
+    made_of_two_without_memory!(
+        refuser, NoMemory; maps[0], maps[1]; maps[0], maps[2]; maps[2], maps[0];
+    );
+    let strings: [JudySl; 3] = [
+        strings().zip(1..).collect(),
+        strings()
+            .skip(20)
+            .chain([b"own".to_vec()])
+            .zip(7..)
+            .collect(),
+        strings()
+            .step_by(15)
+            .chain([b"own".to_vec()])
+            .zip(9..)
+            .collect(),
+    ];
+    made_of_two_without_memory!(
+        refuser, InsertError::NoMemory;
+        strings[0], strings[1]; strings[0], strings[2]; strings[2], strings[0];
+    );
+}
+
 #[test]
 fn keys_go_without_memory() {
     let refuser = match Refuser::find() {
