@@ -30,7 +30,7 @@
  * search each, and `count` two, is read off the code.
  *
  * Memory. A map from strings or byte strings that lost most of its keys keeps each page of their bytes in which one
- * is left. `sellumaq_judysl_shrink` and `sellumaq_judyhs_shrink` move the keys together and give such pages back. How
+ * is left. `sellumaq_judysl_shrink` and `sellumaq_judyhs_shrink` give such pages back. How
  * many bytes an array takes is told by `sellumaq_judy1_bytes` and its fellows.
  *
  * Machine: a processor of x86-64-v2, which has SSE4.2 and popcnt, and Linux with glibc.
@@ -171,7 +171,7 @@ bool sellumaq_judy1_by_count(const sellumaq_judy1 *set, uint64_t n, uint64_t *ke
 uint64_t sellumaq_judy1_count_empty(const sellumaq_judy1 *set, uint64_t from, uint64_t to);
 
 /* Takes the keys from one word to another out, both included, and answers how many they were. It can't fail. Where
- * more keys go than stay, the others are put into new nodes, if there is memory. */
+ * all keys of a node go, it is freed whole; where memory for a smaller node is refused, the larger one stays. */
 uint64_t sellumaq_judy1_remove_range(sellumaq_judy1 *set, uint64_t from, uint64_t to);
 
 /* Takes all keys out but those from one word to another, both included, and answers how many went: all where the
@@ -205,8 +205,8 @@ uint32_t sellumaq_judy1_flip(sellumaq_judy1 *set, uint64_t from, uint64_t to);
 uint32_t sellumaq_judy1_copy(sellumaq_judy1 *made, const sellumaq_judy1 *set);
 
 /* How many keys both have; the one or the other; the one and not the other; exactly one of them. All 2^64 words,
- * which no memory holds, would be answered as 2^64 - 1. Neither set changes. It takes a walk over both, and no
- * memory. */
+ * which no memory holds, would be answered as 2^64 - 1. Neither set changes. It goes through both node by node, and
+ * asks for no memory. */
 uint64_t sellumaq_judy1_intersection_count(const sellumaq_judy1 *one, const sellumaq_judy1 *other);
 uint64_t sellumaq_judy1_union_count(const sellumaq_judy1 *one, const sellumaq_judy1 *other);
 uint64_t sellumaq_judy1_difference_count(const sellumaq_judy1 *one, const sellumaq_judy1 *other);
@@ -222,8 +222,8 @@ uint32_t sellumaq_judy1_difference(sellumaq_judy1 *made, const sellumaq_judy1 *o
 uint32_t sellumaq_judy1_symmetric_difference(sellumaq_judy1 *made, const sellumaq_judy1 *one,
     const sellumaq_judy1 *other);
 
-/* Whether each key of the one is a key of the other; whether none is; whether both have the same keys. The walk ends
- * where that is known. */
+/* Whether each key of the one is a key of the other; whether none is; whether both have the same keys. It ends in the
+ * node where that is known. */
 bool sellumaq_judy1_is_subset(const sellumaq_judy1 *one, const sellumaq_judy1 *other);
 bool sellumaq_judy1_is_disjoint(const sellumaq_judy1 *one, const sellumaq_judy1 *other);
 bool sellumaq_judy1_has_same_keys(const sellumaq_judy1 *one, const sellumaq_judy1 *other);
@@ -334,7 +334,7 @@ bool sellumaq_judyl_by_count_slot(const sellumaq_judyl *map, uint64_t n, uint64_
 uint64_t sellumaq_judyl_count_empty(const sellumaq_judyl *map, uint64_t from, uint64_t to);
 
 /* Takes the keys from one word to another out, both included, and answers how many they were. It can't fail. Where
- * more keys go than stay, the others are put into new nodes, if there is memory. */
+ * all keys of a node go, it is freed whole; where memory for a smaller node is refused, the larger one stays. */
 uint64_t sellumaq_judyl_remove_range(sellumaq_judyl *map, uint64_t from, uint64_t to);
 
 /* Takes all keys out but those from one word to another, both included, and answers how many went: all where the
@@ -361,8 +361,8 @@ uint32_t sellumaq_judyl_append(sellumaq_judyl *map, sellumaq_judyl *other);
 uint32_t sellumaq_judyl_copy(sellumaq_judyl *made, const sellumaq_judyl *map);
 
 /* How many keys both have; the one or the other; the one and not the other; exactly one of them. All 2^64 words,
- * which no memory holds, would be answered as 2^64 - 1. Neither map changes. It takes a walk over both, and no
- * memory. */
+ * which no memory holds, would be answered as 2^64 - 1. Neither map changes. It goes through both node by node, and
+ * asks for no memory. */
 uint64_t sellumaq_judyl_intersection_count(const sellumaq_judyl *one, const sellumaq_judyl *other);
 uint64_t sellumaq_judyl_union_count(const sellumaq_judyl *one, const sellumaq_judyl *other);
 uint64_t sellumaq_judyl_difference_count(const sellumaq_judyl *one, const sellumaq_judyl *other);
@@ -380,7 +380,7 @@ uint32_t sellumaq_judyl_symmetric_difference(sellumaq_judyl *made, const selluma
     const sellumaq_judyl *other);
 
 /* Whether each key of the one is a key of the other; whether none is; whether both have the same keys, whatever
- * their values are. The walk ends where that is known. */
+ * their values are. It ends in the node where that is known. */
 bool sellumaq_judyl_is_subset(const sellumaq_judyl *one, const sellumaq_judyl *other);
 bool sellumaq_judyl_is_disjoint(const sellumaq_judyl *one, const sellumaq_judyl *other);
 bool sellumaq_judyl_has_same_keys(const sellumaq_judyl *one, const sellumaq_judyl *other);
@@ -448,7 +448,8 @@ uint32_t sellumaq_judysl_prev(const sellumaq_judysl *map, uint8_t *buffer, size_
     uint64_t *value);
 
 /* The same four keys with the slots of their values: where the four above answer SELLUMAQ_FOUND and write the value to
- * `*value`, the slot of the key found is handed out through `slot`. SELLUMAQ_TOO_SMALL tells nothing here. */
+ * `*value`, the slot of the key found is handed out through `slot`. SELLUMAQ_TOO_SMALL doesn't tell here how many bytes
+ * the key has, and `*slot` stays: those above tell it, and as many as `sellumaq_judysl_longest` tells are enough. */
 uint32_t sellumaq_judysl_first_slot(const sellumaq_judysl *map, uint8_t *buffer, size_t capacity, size_t *length,
     uint64_t **slot);
 uint32_t sellumaq_judysl_next_slot(const sellumaq_judysl *map, uint8_t *buffer, size_t capacity, size_t *length,
@@ -492,15 +493,18 @@ uint64_t sellumaq_judysl_bytes(const sellumaq_judysl *map);
 size_t sellumaq_judysl_longest(const sellumaq_judysl *map);
 
 /* How many keys there are from one string to another, both included; 0 where the first is above the second, or where
- * one has a zero byte. It takes at most two ways down the map, however many keys it counts. No entries
- * of a wide level are read, unless memory for its list was refused. */
+ * one has a zero byte. It takes at most two ways down the map, however many keys it counts. Of a level of at most 64
+ * entries these are read; a wider one has a list of sums, which are added up by groups, and no entry is read. Where
+ * memory for its list was refused its entries are read too, until a later insert makes the list: at the latest when a
+ * key has come for each eight entries. */
 uint64_t sellumaq_judysl_count(const sellumaq_judysl *map, const uint8_t *from, size_t from_length, const uint8_t *to,
     size_t to_length);
 
 /* The n-th key, counted from 1, told as those of the scans are: SELLUMAQ_FOUND, and the key is in the first
  * `*length` bytes of the buffer, whatever was there before. Else both stay: SELLUMAQ_NONE for 0 and above the number
  * of keys; SELLUMAQ_TOO_SMALL where it doesn't fit, and `*value` tells how many bytes it has. It takes one way down
- * the map, and reads no entries of a wide level, unless memory for its list was refused. */
+ * the map, or two where the buffer is smaller than `sellumaq_judysl_longest` tells, and reads of a level what
+ * `sellumaq_judysl_count` does. */
 uint32_t sellumaq_judysl_by_count(const sellumaq_judysl *map, uint64_t n, uint8_t *buffer, size_t capacity,
     size_t *length, uint64_t *value);
 
@@ -521,10 +525,11 @@ uint64_t sellumaq_judysl_remove_range(sellumaq_judysl *map, const uint8_t *from,
  * where it is empty; or UINT64_MAX, as `sellumaq_judysl_remove_range` does. */
 uint64_t sellumaq_judysl_remove_prefix(sellumaq_judysl *map, const uint8_t *prefix, size_t length);
 
-/* Moves keys together, so that memory which deletes left free within the map's pages goes back: one walk over the map,
- * of use after many deletes. It asks for no more memory and can't fail; no key and no value changes, but slots that
- * were handed out are no longer theirs. An insert that is refused memory after many deletes does the same itself, and
- * is tried once more before it answers. */
+/* Gives back memory that deletes left free, of use after many of them. Where a quarter as many keys went as are left, a
+ * copy takes the map's place, if there is memory for it; else keys move together within the map's pages, which asks for
+ * no more memory. It can't fail; no key and no value changes, but slots that were handed out are no longer theirs. An
+ * insert that is refused memory after many deletes moves keys together itself, and is tried once more before it
+ * answers. */
 void sellumaq_judysl_shrink(sellumaq_judysl *map);
 
 /* Makes `made` a copy, in place of what it held: SELLUMAQ_ADDED. Else it is as it was: SELLUMAQ_NO_MEMORY. The two
@@ -605,8 +610,8 @@ uint64_t sellumaq_judyhs_len(const sellumaq_judyhs *map);
  * as if they were full, so where there were such keys the map may take a little more than the number. */
 uint64_t sellumaq_judyhs_bytes(const sellumaq_judyhs *map);
 
-/* Moves keys together, as sellumaq_judysl_shrink does. A key of at most 8 bytes or of more than 1,024, and one that
- * shares its hash with another, stays where it is. */
+/* Gives back memory that deletes left free. A key that shares its hash with another stays where it is, and where memory
+ * is refused so does one of more than 1,024 bytes. */
 void sellumaq_judyhs_shrink(sellumaq_judyhs *map);
 
 /* Gives all memory back, and answers how many keys there were. The handle is the empty array then. */
@@ -685,9 +690,10 @@ uint32_t sellumaq_judyhs_dump_size(const sellumaq_judyhs *map, uint32_t format, 
  * the process gives a new one; its owner is who saves.
  *
  * Else it is SELLUMAQ_NO_MEMORY, SELLUMAQ_TOO_MANY or SELLUMAQ_BAD_KEY, as of `dump`, or SELLUMAQ_SYSTEM: a call of
- * the system failed, and errno says why, EINVAL where something stands at the path that is no file. The old file is
- * as it was, and the one beside is gone. Only where the disk tells a failure when asked to keep the new name the
- * file may be the new one, whole. */
+ * the system failed, and errno says why, EINVAL where something stands at the path that is no file. A call that was
+ * interrupted is made again; the 1,000th time in a row is a failure, EINTR. The old file is as it was, and the one
+ * beside is gone. Only where the disk tells a failure when asked to keep the new name the file may be the new one,
+ * whole. */
 uint32_t sellumaq_judy1_save(const sellumaq_judy1 *set, const char *path);
 uint32_t sellumaq_judyl_save(const sellumaq_judyl *map, const char *path);
 uint32_t sellumaq_judysl_save(const sellumaq_judysl *map, const char *path);

@@ -101,8 +101,8 @@ static void strings(void) {
 }
 
 /* Strings of any length: of each but the first two keys, which share all but the last byte. */
-enum { LENGTHS = 7 };
-static const size_t string_lengths[LENGTHS] = {0, 5, 1023, 1024, 1025, 3001, 20000};
+enum { LENGTHS = 9 };
+static const size_t string_lengths[LENGTHS] = {0, 5, 1023, 1024, 1025, 3001, 20000, 65537, 4 << 20};
 
 static uint8_t *string_of(size_t length, char last) {
     uint8_t *string = malloc(length + 1);
@@ -203,21 +203,21 @@ static void byte_strings(void) {
 /* Byte strings of any length: each key's bytes are the array's. What a delete leaves free is the next key's of that
  * length; the last key of a length gives all of it back, and so does the end of the array. */
 static void long_byte_strings(void) {
-    enum { LONGEST = 100000 };
-    static const Word_t lengths[] = {1024, 1025, 3542, LONGEST};
+    enum { COUNT = 5, LONGEST = 4 << 20 };
+    static const Word_t lengths[COUNT] = {1024, 1025, 3542, 65537, LONGEST};
     static uint8_t bytes[LONGEST];
     Pvoid_t map = NULL;
     Word_t count, *slot;
     int found;
     memset(bytes, 'k', LONGEST);
-    for (int n = 0; n < 4; n++) {
+    for (int n = 0; n < COUNT; n++) {
         JHSG(slot, map, bytes, lengths[n]); CHECK(slot == NULL);
         JHSI(slot, map, bytes, lengths[n]); CHECK(*slot == 0); *slot = lengths[n];
         bytes[lengths[n] - 1] = 'j';
         JHSI(slot, map, bytes, lengths[n]); CHECK(*slot == 0); *slot = 1;
         bytes[lengths[n] - 1] = 'k';
     }
-    for (int n = 0; n < 4; n++) {
+    for (int n = 0; n < COUNT; n++) {
         JHSG(slot, map, bytes, lengths[n]); CHECK(*slot == lengths[n]);
         JHSD(found, map, bytes, lengths[n]); CHECK(found == 1);
         JHSG(slot, map, bytes, lengths[n]); CHECK(slot == NULL);
@@ -225,7 +225,7 @@ static void long_byte_strings(void) {
         JHSI(slot, map, bytes, lengths[n]); CHECK(*slot == 0);
         bytes[0] = 'k';
     }
-    JHSFA(count, map); CHECK(count > 2 * (1024 + 1025 + 3542 + LONGEST) && count < 5 * LONGEST / 2 && map == NULL);
+    JHSFA(count, map); CHECK(count > 2 * (1024 + 1025 + 3542 + 65537 + LONGEST) && count < 5 * LONGEST / 2 && map == NULL);
     JHSI(slot, map, bytes, 1024);
     JHSI(slot, map, bytes, LONGEST);
     JHSD(found, map, bytes, LONGEST); CHECK(found == 1);

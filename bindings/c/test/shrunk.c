@@ -1,7 +1,8 @@
 /* What shrink leaves of maps of strings from which most keys went: the same keys, and no pages but full ones and one of
  * each length. Beside these the trees of words by which keys are found keep room, some bytes for each key that there
- * was. No call for memory is answered meanwhile. And what an insert does itself that is refused memory: it shrinks the
- * map, where enough keys went since that was last done, and is tried once more. */
+ * was. No call for memory is answered meanwhile; where it is, a map of byte strings has little more than a new one. And
+ * what an insert does itself that is refused memory: it shrinks the map, where enough keys went since that was last
+ * done, and is tried once more. */
 #include <string.h>
 #include <time.h>
 
@@ -11,7 +12,7 @@
 
 /* ROOM is for how many bytes a key, CAP how many bytes a map may take that is filled. So many inserts are REFUSED, in
  * less time than each key takes to be looked up LOOKS times. */
-enum { MOST = 40000, LONGEST = 1100, ROOM = 8, CAP = 4 << 20, REFUSED = 1000, LOOKS = 10 };
+enum { MOST = 40000, LONGEST = 1200, ROOM = 8, CAP = 4 << 20, REFUSED = 1000, LOOKS = 10 };
 
 typedef struct {
     const char *name;
@@ -47,6 +48,13 @@ typedef size_t Spell(unsigned n, uint8_t *key);
 
 static size_t digits(unsigned n, uint8_t *key) {
     return (size_t)sprintf((char *)key, "%016llu", 0x9E3779B97F4A7C15ull * n >> 12);
+}
+
+/* Keys that are longer than what is copied to the stack. */
+static size_t longs(unsigned n, uint8_t *key) {
+    size_t length = digits(n, key);
+    memset(key + length, 'l', 1108 - length);
+    return 1108;
 }
 
 /* Keys of 64 lengths. */
@@ -118,6 +126,25 @@ static bool shrunk(const Kind *kind, Spell *spell, unsigned one_of) {
     kind->free(fresh);
     CHECK(held == blocks);
     return left * 10 <= copy * 13 + 10 * ROOM * MOST;
+}
+
+/* One of 50 byte strings stays, and memory is there. Then the shrunk map has no more than 1.3 of the memory of a new
+ * one of these keys. */
+static void shrunk_to_new(Spell *spell) {
+    sellumaq_judyhs map = {0}, fresh = {0};
+    uint8_t key[LONGEST];
+    fill(&judyhs, spell, &map, 50, true);
+    for (unsigned n = 0; n < MOST; n++)
+        if (!stays(n, 50)) {
+            size_t length = spell(n, key);
+            CHECK(sellumaq_judyhs_del(&map, key, length));
+        }
+    sellumaq_judyhs_shrink(&map);
+    check(&judyhs, spell, &map, 50);
+    fill(&judyhs, spell, &fresh, 50, false);
+    CHECK(sellumaq_judyhs_bytes(&map) * 10 <= sellumaq_judyhs_bytes(&fresh) * 13);
+    sellumaq_judyhs_free(&map);
+    sellumaq_judyhs_free(&fresh);
 }
 
 /* The key of a number below a million that has so many bytes, from 9 to 32: keys of two lengths begin differently. */
@@ -223,6 +250,8 @@ int main(void) {
                 /* Levels of strings that went keep their places in the list of levels. */
                 CHECK(is_small || (kinds[kind] == &judysl && spells[spell] == pairs));
             }
+    shrunk_to_new(digits);
+    shrunk_to_new(longs);
     filled_again(&judyhs, 16, 15);
     filled_again(&judysl, 24, 16);
     refused_between_deletes(&judyhs, 16, 15);

@@ -1,12 +1,12 @@
-/* Steps through the arrays of all kinds by HP's names, so many as it is told, each told in a line: linked against HP's
- * libJudy, it tells the same over Sellumaq's. */
+/* Steps through the arrays of all kinds by HP's names, a million or three times as many as it is told, each told in a
+ * line: linked against HP's libJudy, it tells the same over Sellumaq's. */
 #include <Judy.h>
 
 #include <string.h>
 
 #include "check.h"
 
-enum { STEPS = 20000, LONGEST = 20000 };
+enum { STEPS = 333334, LONGEST = 20000 };
 
 static Pvoid_t set, map, strings, bytes;
 
@@ -17,11 +17,15 @@ static Word_t word(void) {
     return kind < 2 ? low : kind < 4 ? -low : kind < 6 ? low << 40 : low * 0x9E3779B97F4A7C15;
 }
 
-/* A string of at most 11 letters, of few that come again; or now and then of many, most of them the same, so that two
- * part late. */
+/* One string in so many is long. */
+static Word_t long_in = 32;
+
+/* A string of at most 11 letters, of few that come again; one in eight of up to 40, of which most come once; or now and
+ * then of many, most of them the same, so that two part late. */
 static Word_t letters(uint8_t *string) {
-    Word_t is_long = any() % 32 == 0, length = is_long ? 1000 + any() % 20 * 1000 - any() % 10 : any() % 12;
-    Word_t shared = is_long ? length - any() % 20 : 7;
+    Word_t is_long = any() % long_in == 0, is_other = any() % 8 == 0;
+    Word_t length = is_long ? 1000 + any() % 20 * 1000 - any() % 10 : any() % (is_other ? 41 : 12);
+    Word_t shared = is_long ? length - any() % 20 : is_other ? any() % 4 * 8 : 7;
     for (Word_t at = 0; at < length; at++) string[at] = at < shared ? 'a' : (uint8_t)('a' + any() % 3);
     string[length] = 0;
     if (length) string[length - 1] = (uint8_t)('a' + any() % 5);
@@ -102,7 +106,7 @@ static void empty(void) {
 
 int main(int count, char **words) {
     Word_t steps = count > 1 ? (Word_t)atol(words[1]) : STEPS;
-    for (int turn = 0; turn < 3; turn++) {
+    for (int turn = 0; turn < 3; turn++, long_in /= 2) {
         for (Word_t at = 0; at < steps; at++) {
             step_words(at);
             step_strings(at);
