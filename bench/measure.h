@@ -57,9 +57,9 @@ static void *room(size_t count, size_t bytes) {
 
 /* ---- what is told ---- */
 
-enum { INSERT, HIT, MISS, WALK, NEXT, RANK, SELECT, DELETE, BULK, BYTES, OPERATIONS };
+enum { INSERT, HIT, MISS, WALK, NEXT, RANK, SELECT, DELETE, BULK, COPY, BYTES, OPERATIONS };
 
-static const char *const NAMES[] = {"insert", "hit", "miss", "walk", "next", "rank", "select", "delete", "bulk", "bytes"};
+static const char *const NAMES[] = {"insert", "hit", "miss", "walk", "next", "rank", "select", "delete", "bulk", "copy", "bytes"};
 
 static void none_yet(double *told) {
     for (size_t operation = 0; operation < OPERATIONS; operation++) told[operation] = -1;

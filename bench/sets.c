@@ -1,12 +1,13 @@
-/* Measures what two sets of words have together, sets made of them, a range that goes, copies, and lists in any order: Sellumaq's sets and, where they are
- * linked, CRoaring's Roaring64Map and Rust's BTreeSet. Half of the keys of each set are the other's too. measure.h says what it prints, by the key of a
- * set:
+/* Measures what two sets of words have together, sets made of them, a range that goes, parts, copies, and lists in any order: Sellumaq's sets and, where
+ * they are linked, CRoaring's Roaring64Map and Rust's BTreeSet; and copies of Sellumaq's maps and Rust's. Half of the keys of each set are the other's
+ * too. measure.h says what it prints, by the key of a set:
  *
  *     rank    how many keys both have
  *     insert  the union        hit   the intersection
  *     miss    the difference   next  the symmetric difference
  *     delete  half of the keys taken out, by a range
- *     walk    a copy
+ *     select  the upper half of the keys split off
+ *     walk    a copy           copy  a copy of a map of the keys
  *     bulk    a set made of a list in no order
  *
  *     sets [KEYS ..]        how many keys a set has, 10000 and 1000000 where none is told
@@ -35,11 +36,11 @@ static const struct {
     word (*key)(size_t);
 } PATTERNS[] = {{"dense", dense}, {"runs-of-500", runs}, {"random-26", random26}, {"random-32", random32}, {"random-64", random64}};
 
-/* Two sets, each as a list that ascends; the one also in no order; and a range of the one, from the key that a quarter is below to the one that a
- * quarter is above. */
+/* Two sets, each as a list that ascends; the one also in no order; a range of the one, from the key that a quarter is below to the one that a quarter is
+ * above; and the key that half is below. */
 struct keys {
     size_t n, counts[2];
-    word *sorted[2], *turned, from, to;
+    word *sorted[2], *turned, from, middle, to;
 };
 
 static const char *name(size_t pattern) { return PATTERNS[pattern].name; }
@@ -79,6 +80,7 @@ static struct keys *make(size_t n, size_t pattern) {
     }
     for (int at = 0; at < 2; at++) keys->counts[at] = sort(keys->sorted[at], n);
     keys->from = keys->sorted[0][keys->counts[0] / 4];
+    keys->middle = keys->sorted[0][keys->counts[0] / 2];
     keys->to = keys->sorted[0][keys->counts[0] * 3 / 4];
     return keys;
 }
@@ -98,8 +100,17 @@ static void drop(struct keys *keys) {
         END; \
     } while (0)
 
-/* One library's sets: how one is made of a list that ascends, how two make a third, and how each goes. */
-#define MEASURE(NAME, TYPE, OF, FREE, LEN, COMMON, UNION, INTERSECTION, DIFFERENCE, SYMMETRIC, COPY, RANGE, UNSORTED) \
+/* A library's maps: how one is made of a list of keys that ascends, copied, and how it goes. */
+#define MEASURE_MAP(NAME, TYPE, OF, FREE, COPIED) \
+    static void NAME(const struct keys *keys, double *told) { \
+        TYPE map = OF(keys->sorted[0], keys->counts[0]); \
+        TYPE made; \
+        TIMED(COPY, made = COPIED(map), FREE(made)); \
+        FREE(map); \
+    }
+
+/* One library's sets: how one is made of a list that ascends, how two make a third, and how each goes; and what measures its maps. */
+#define MEASURE(NAME, TYPE, OF, FREE, LEN, COMMON, UNION, INTERSECTION, DIFFERENCE, SYMMETRIC, COPIED, RANGE, SPLIT, UNSORTED, MAP) \
     static void NAME(const struct keys *keys, double *told) { \
         TYPE a = OF(keys->sorted[0], keys->counts[0]); \
         TYPE b = OF(keys->sorted[1], keys->counts[1]); \
@@ -111,11 +122,17 @@ static void drop(struct keys *keys) {
         TIMED(MISS, made = DIFFERENCE(a, b), (found += LEN(made), FREE(made))); \
         TIMED(NEXT, made = SYMMETRIC(a, b), (found += LEN(made), FREE(made))); \
         TIMED(BULK, made = UNSORTED(keys->turned, keys->n), (found += LEN(made), FREE(made))); \
-        TIMED(WALK, made = COPY(a), ); \
+        TIMED(WALK, made = COPIED(a), ); \
+        if (SPLIT) { \
+            TYPE upper; \
+            TIMED(SELECT, upper = (SPLIT)(made, keys->middle), (found += LEN(upper), FREE(upper), FREE(made))); \
+            made = COPIED(a); \
+        } \
         if (RANGE) TIMED(DELETE, (RANGE)(made, keys->from, keys->to), found += LEN(made)); \
         FREE(made); \
         FREE(a); \
         FREE(b); \
+        MAP(keys, told); \
         sink += found; \
     }
 
@@ -158,8 +175,36 @@ OF_TWO(symmetric_difference)
 
 static void judy1_remove_range(sellumaq_judy1 *set, word from, word to) { sellumaq_judy1_remove_range(set, from, to); }
 
+static sellumaq_judy1 *judy1_split_off(sellumaq_judy1 *set, word at) {
+    sellumaq_judy1 *made = room(1, sizeof *made);
+    sellumaq_judy1_split_off(made, set, at);
+    return made;
+}
+
+static sellumaq_judyl *judyl_of(const word *keys, size_t n) {
+    sellumaq_judyl *made = room(1, sizeof *made);
+    sellumaq_pair *pairs = room(n, sizeof *pairs);
+    size_t place;
+    for (size_t i = 0; i < n; i++) pairs[i] = (sellumaq_pair){keys[i], i};
+    sellumaq_judyl_from_sorted(made, pairs, n, &place);
+    free(pairs);
+    return made;
+}
+
+static sellumaq_judyl *judyl_copy(const sellumaq_judyl *map) {
+    sellumaq_judyl *made = room(1, sizeof *made);
+    sellumaq_judyl_copy(made, map);
+    return made;
+}
+
+static void judyl_free(sellumaq_judyl *map) {
+    sellumaq_judyl_free(map);
+    free(map);
+}
+
+MEASURE_MAP(sellumaq_map, sellumaq_judyl *, judyl_of, judyl_free, judyl_copy)
 MEASURE(sellumaq, sellumaq_judy1 *, judy1_of, judy1_free, sellumaq_judy1_len, sellumaq_judy1_intersection_count, judy1_union, judy1_intersection,
-        judy1_difference, judy1_symmetric_difference, judy1_copy, judy1_remove_range, judy1_of_list)
+        judy1_difference, judy1_symmetric_difference, judy1_copy, judy1_remove_range, judy1_split_off, judy1_of_list, sellumaq_map)
 
 /* ---- others' sets, by calls of one form ---- */
 
@@ -175,18 +220,29 @@ MEASURE(sellumaq, sellumaq_judy1 *, judy1_of, judy1_free, sellumaq_judy1_len, se
     void PREFIX##_remove_range(void *set, word from, word to); \
     word PREFIX##_len(const void *set)
 
-#define MEASURE_OTHERS(NAME, PREFIX, RANGE) \
+#define MEASURE_OTHERS(NAME, PREFIX, RANGE, SPLIT, MAP) \
     MEASURE(NAME, void *, PREFIX##_of, PREFIX##_free, PREFIX##_len, PREFIX##_common, PREFIX##_union, PREFIX##_intersection, PREFIX##_difference, \
-            PREFIX##_symmetric_difference, PREFIX##_copy, RANGE, PREFIX##_of)
+            PREFIX##_symmetric_difference, PREFIX##_copy, RANGE, SPLIT, PREFIX##_of, MAP)
 
 #ifdef WITH_ROARING
 OTHERS(roaring_set);
-MEASURE_OTHERS(croaring, roaring_set, keys->to - keys->from < MOST_WORDS ? roaring_set_remove_range : NULL)
+
+/* CRoaring has no call that splits a set, and no maps. */
+static void *(*const no_split)(void *set, word at) = NULL;
+static void no_map(const struct keys *keys, double *told) { (void)keys, (void)told; }
+
+MEASURE_OTHERS(croaring, roaring_set, keys->to - keys->from < MOST_WORDS ? roaring_set_remove_range : NULL, no_split, no_map)
 #endif
 
 #ifdef WITH_STD
 OTHERS(btree_set);
-MEASURE_OTHERS(btreemap, btree_set, btree_set_remove_range)
+void *btree_set_split_off(void *set, word at);
+void *btree_map_of(const word *keys, size_t count);
+void *btree_map_copy(const void *map);
+void btree_map_free(void *map);
+
+MEASURE_MAP(btreemap_map, void *, btree_map_of, btree_map_free, btree_map_copy)
+MEASURE_OTHERS(btreemap, btree_set, btree_set_remove_range, btree_set_split_off, btreemap_map)
 #endif
 
 static const struct array ARRAYS[] = {

@@ -37,7 +37,7 @@ pub unsafe extern "C" fn btree_set_remove(set: *mut Set, key: u64) {
     (*set).remove(&key);
 }
 
-// Sets of two sets, a range that goes, and copies.
+// Sets of two sets, a range that goes, parts, and copies.
 
 fn boxed(set: Set) -> *mut Set {
     Box::into_raw(Box::new(set))
@@ -89,6 +89,22 @@ pub unsafe extern "C" fn btree_set_remove_range(set: *mut Set, from: u64, to: u6
     if let Some(behind) = to.checked_add(1) {
         (*set).append(&mut inside.split_off(&behind));
     }
+}
+
+#[no_mangle]
+pub unsafe extern "C" fn btree_set_split_off(set: *mut Set, at: u64) -> *mut Set {
+    boxed((*set).split_off(&at))
+}
+
+#[no_mangle]
+pub unsafe extern "C" fn btree_map_of(keys: *const u64, count: usize) -> *mut Map {
+    let pairs = from_raw_parts(keys, count).iter().copied().zip(0..);
+    Box::into_raw(Box::new(pairs.collect()))
+}
+
+#[no_mangle]
+pub unsafe extern "C" fn btree_map_copy(map: *const Map) -> *mut Map {
+    Box::into_raw(Box::new((*map).clone()))
 }
 
 #[no_mangle]

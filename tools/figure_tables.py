@@ -25,7 +25,9 @@ SETS = {
     "miss": "difference",
     "next": "symmetric",
     "delete": "range out",
+    "select": "split off",
     "walk": "copy",
+    "copy": "map's copy",
     "bulk": "of a list",
 }
 KEPT = {"put-in": "all put in", "few-left": "1 in 100 left", "copied": "those copied"}
